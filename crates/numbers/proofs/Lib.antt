@@ -1,0 +1,7 @@
+-- The laws that other crates cite.
+pub mod Tests
+pub mod Tabs
+pub mod Everys
+pub mod Overs
+pub mod Windows
+pub mod Sums

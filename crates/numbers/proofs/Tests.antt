@@ -1,0 +1,118 @@
+-- Tests, and the refusals that are chosen by them.
+use mathlib.Core.Path.{_≡_, refl, sym, ap, _∙_}
+use mathlib.Core.Logic.{_⊎_, inl, inr}
+use mathlib.Core.Bool.{Bool, true, false, _&&_}
+use Prim.Native.Nat.{ℕ, zero, suc, _≤_, _<_}
+use native.Mathlib.Omega.{arith}
+use lib.Dec.{ltb}
+use borrow.Author.Tests.{ltb-true, ltb-false}
+use Rattle.numbers.specs.Rounded.{pick}
+use Rattle.numbers.specs.Refusals.{unless, lowest, unlessRefused}
+
+-- a test is true or false
+pub which : (b : Bool) → (b ≡ true) ⊎ (b ≡ false)
+which true = inl refl
+which false = inr refl
+
+pub lt-or-le : (m n : ℕ) → (m < n) ⊎ (n ≤ m)
+lt-or-le m n = go (ltb m n) refl
+  where
+    go : (b : Bool) → ltb m n ≡ b → (m < n) ⊎ (n ≤ m)
+    go true e = inl (ltb-true m n e)
+    go false e = inr (ltb-false m n e)
+
+pub true-not-false : {A : Type 0} (b : Bool) → b ≡ true → b ≡ false → A
+true-not-false b e h = let z : _≡_ {A = ℕ} 0 1 = cc in absurd (omega arith)
+
+-- ---- both
+
+pub and-left : (a b : Bool) → a && b ≡ true → a ≡ true
+and-left true b e = refl
+and-left false b e = e
+
+pub and-right : (a b : Bool) → a && b ≡ true → b ≡ true
+and-right true b e = e
+and-right false b e = true-not-false false e refl
+
+pub and-both : (a b : Bool) → a ≡ true → b ≡ true → a && b ≡ true
+and-both true b e h = h
+and-both false b e h = e
+
+-- what `a && b` answers where a was found to hold, and where not
+pub and-held : (a b : Bool) → a ≡ true → b ≡ (a && b)
+and-held true b e = refl
+and-held false b e = true-not-false false e refl
+
+pub and-failed : (a b : Bool) → a ≡ false → a ≡ (a && b)
+and-failed true b e = true-not-false true refl e
+and-failed false b e = refl
+
+-- a test carried along a list: what is left, and what was found so far
+pub and-carry : (all rest here fine now : Bool) → all ≡ ((here && rest) && fine) → now ≡ pick here fine false → all ≡ (rest && now)
+and-carry all rest true fine now e h = e ∙ ap (λ (b : Bool). rest && b) (sym h)
+and-carry all true false fine now e h = e ∙ sym h
+and-carry all false false fine now e h = e
+
+pub and-true : (b : Bool) → b ≡ (b && true)
+and-true true = refl
+and-true false = refl
+
+-- ---- a choice
+
+pub pick-true : {A : Type 0} (b : Bool) (x y : A) → b ≡ true → pick b x y ≡ x
+pick-true b x y e = rw e
+
+pub pick-false : {A : Type 0} (b : Bool) (x y : A) → b ≡ false → pick b x y ≡ y
+pick-false b x y e = rw e
+
+-- ---- refusals
+
+pub unless-passed : (b : Bool) (k r : ℕ) → b ≡ true → unless b k r ≡ r
+unless-passed b k r e = rw e
+
+pub unless-failed : (b : Bool) (k r : ℕ) → b ≡ false → unless b k r ≡ k
+unless-failed b k r e = rw e
+
+pub unless-zero : (b : Bool) (k r : ℕ) → unless b (suc k) r ≡ 0 → (b ≡ true) × (r ≡ 0)
+unless-zero true k r e = (refl, e)
+unless-zero false k r e = absurd (omega arith)
+
+-- number 0: each row of the table passed
+pub record Passed (b l r v : Bool) : Type 0 where
+  pub bounds : b ≡ true
+  pub lengths : l ≡ true
+  pub room : r ≡ true
+  pub values : v ≡ true
+
+pub lowest-zero : (b l r v : Bool) → lowest b l r v ≡ 0 → Passed b l r v
+lowest-zero true true true true e = record { bounds = refl; lengths = refl; room = refl; values = refl }
+lowest-zero true true true false e = absurd (omega arith)
+lowest-zero true true false v e = absurd (omega arith)
+lowest-zero true false r v e = absurd (omega arith)
+lowest-zero false l r v e = absurd (omega arith)
+
+-- each number is given exactly where its row fails and those before it pass
+module _ (b l r v : Bool) where
+  pub lowest-1 : b ≡ false → lowest b l r v ≡ 1
+  lowest-1 e = rw e
+
+  pub lowest-2 : b ≡ true → l ≡ false → lowest b l r v ≡ 2
+  lowest-2 e f = rw (e, f)
+
+  pub lowest-3 : b ≡ true → l ≡ true → r ≡ false → lowest b l r v ≡ 3
+  lowest-3 e f g = rw (e, f, g)
+
+  pub lowest-4 : b ≡ true → l ≡ true → r ≡ true → v ≡ false → lowest b l r v ≡ 4
+  lowest-4 e f g h = rw (e, f, g, h)
+
+  pub lowest-0 : b ≡ true → l ≡ true → r ≡ true → v ≡ true → lowest b l r v ≡ 0
+  lowest-0 e f g h = rw (e, f, g, h)
+
+-- a refusal leaves what was there
+pub refused-keeps : {A : Type 0} (k : ℕ) (done was : A) → (k ≡ 0 → ⊥) → unlessRefused k done was ≡ was
+refused-keeps zero done was h = absurd (h refl)
+refused-keeps (suc k) done was h = refl
+
+-- number 0 leaves what is done
+pub passed-does : {A : Type 0} (k : ℕ) (done was : A) → k ≡ 0 → unlessRefused k done was ≡ done
+passed-does k done was e = rw e

@@ -1,0 +1,4 @@
+pub mod Rounded
+pub mod Limits
+pub mod Refusals
+pub mod Lists

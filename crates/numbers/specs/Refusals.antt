@@ -1,0 +1,39 @@
+-- Document 01, the table of refusals: "The lowest number that applies is given. A refusal changes nothing lent."
+use Prim.Native.Nat.{ℕ, zero, suc}
+use mathlib.Core.Bool.{Bool, true, false}
+
+-- a number is outside its bounds, or a lent peak list isn't strictly ascending or points past its curve
+abbrev pub outOfBounds : ℕ
+outOfBounds = 1
+
+-- a lent input's length isn't rows times width, or a patch isn't whole rows or runs past the end
+abbrev pub wrongLength : ℕ
+wrongLength = 2
+
+-- a lent output or work slice has fewer slots than its formula
+abbrev pub tooLittleRoom : ℕ
+tooLittleRoom = 3
+
+-- a lent value isn't finite, or is too large
+abbrev pub wrongValue : ℕ
+wrongValue = 4
+
+-- program only: the file header is malformed
+abbrev pub malformed : ℕ
+malformed = 5
+
+-- the number k unless the test holds, and then the rest
+abbrev pub unless : Bool → ℕ → ℕ → ℕ
+unless true k rest = rest
+unless false k rest = k
+
+-- the lowest number that applies: 1 unless each number is in bounds, 2 unless the lengths are whole, 3 unless the room
+-- suffices, 4 unless the values are fine, 0 where none applies
+abbrev pub lowest : (bounds lengths room values : Bool) → ℕ
+lowest bounds lengths room values =
+    unless bounds outOfBounds (unless lengths wrongLength (unless room tooLittleRoom (unless values wrongValue 0)))
+
+-- what is done where the number is 0, and what was there where it is another
+abbrev pub unlessRefused : {A : Type 0} → ℕ → A → A → A
+unlessRefused zero done was = done
+unlessRefused (suc k) done was = was

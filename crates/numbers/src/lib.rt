@@ -1,0 +1,133 @@
+// The limits of document 01, the numbers of its refusals, and the tests of lent values that every call makes.
+//
+// Inner calls: the crates above share them, and no caller of the library needs them. None refuses anything.
+ghost use mathlib.Core.Path.{_≡_};
+ghost use Prim.Native.Nat.{_-_, min, max};
+ghost use Rattle.numbers.specs.Limits.{magnitudeFine, valueFine, similarityFine, rateFine};
+ghost use Rattle.numbers.specs.Lists.{every};
+
+// samples a second
+pub const MOST_RATE: u32 = 192_000;
+// magnitude rows, or slots of a lent envelope
+pub const MOST_ROWS: usize = 1_048_576;
+// bins of a magnitude row
+pub const MOST_BINS: usize = 4_096;
+// a beat period, in frames
+pub const MOST_PERIOD: usize = 45_000;
+// feature rows
+pub const MOST_FEATURES: usize = 50_000;
+// values of a feature row
+pub const FEATURE_WIDTH: usize = 16;
+// samples of a feature row
+pub const MOST_LENGTH: u64 = 2_147_483_648;
+// a listed frame
+pub const MOST_FRAME: u32 = 1_048_575;
+
+// The numbers of refusal.
+pub const OUT_OF_BOUNDS: u32 = 1;
+
+pub const WRONG_LENGTH: u32 = 2;
+
+pub const TOO_LITTLE_ROOM: u32 = 3;
+
+pub const WRONG_VALUE: u32 = 4;
+
+pub const MALFORMED: u32 = 5;
+
+// What a call that lists frames or rows answers: its number, and how many entries it listed (0 where it refuses).
+pub struct Listing {
+    pub number: u32,
+    pub count: usize,
+}
+
+// Inner: the smaller of two.
+pub fn least(a: usize, b: usize) -> usize
+    ensures { λ r. ⌜ r ≡ min a b ⌝ }
+{
+    if a < b { a } else { b }
+}
+
+// Inner: the larger of two.
+pub fn greatest(a: usize, b: usize) -> usize
+    ensures { λ r. ⌜ r ≡ max a b ⌝ }
+{
+    if a < b { b } else { a }
+}
+
+// Inner: a - b, or 0 where b is larger.
+pub fn less(a: usize, b: usize) -> usize
+    ensures { λ r. ⌜ r ≡ a - b ⌝ }
+{
+    if a < b { 0 } else { a - b }
+}
+
+// Inner: whether a sample rate is 1 to 192,000.
+pub fn rate_fine(rate: u32) -> bool
+    ensures { λ r. ⌜ r ≡ rateFine rate ⌝ }
+{
+    1 <= rate && rate <= MOST_RATE
+}
+
+// Inner: whether a magnitude is finite and of size at most 2 ^ 126.
+pub fn magnitude_fine(x: f32) -> bool
+    ensures { λ r. ⌜ r ≡ magnitudeFine x ⌝ }
+{
+    x >= -85070591730234615865843651857942052864.0 && x <= 85070591730234615865843651857942052864.0
+}
+
+// Inner: whether a value of an envelope, curve, median or feature row is finite and of size at most 2 ^ 150.
+pub fn value_fine(x: f64) -> bool
+    ensures { λ r. ⌜ r ≡ valueFine x ⌝ }
+{
+    x >= -1427247692705959881058285969449495136382746624.0
+        && x <= 1427247692705959881058285969449495136382746624.0
+}
+
+// Inner: whether a similarity is within -1 to 1.
+pub fn similarity_fine(x: f64) -> bool
+    ensures { λ r. ⌜ r ≡ similarityFine x ⌝ }
+{
+    x >= -1.0 && x <= 1.0
+}
+
+// Inner: whether every magnitude is fine. One flat pass with no early exit: the compiler runs it on several lanes.
+pub fn magnitudes_fine(s: &[f32]) -> bool
+    ensures { λ r. ⌜ r ≡ every magnitudeFine (now (s .entry)) ⌝ }
+{
+    let mut fine = true;
+    let mut i = 0;
+    while i < s.len() {
+        let x = s[i];
+        fine = if magnitude_fine(x) { fine } else { false };
+        i += 1;
+    }
+    fine
+}
+
+// Inner: whether every value is fine.
+pub fn values_fine(s: &[f64]) -> bool
+    ensures { λ r. ⌜ r ≡ every valueFine (now (s .entry)) ⌝ }
+{
+    let mut fine = true;
+    let mut i = 0;
+    while i < s.len() {
+        let x = s[i];
+        fine = if value_fine(x) { fine } else { false };
+        i += 1;
+    }
+    fine
+}
+
+// Inner: whether every similarity is fine.
+pub fn similarities_fine(s: &[f64]) -> bool
+    ensures { λ r. ⌜ r ≡ every similarityFine (now (s .entry)) ⌝ }
+{
+    let mut fine = true;
+    let mut i = 0;
+    while i < s.len() {
+        let x = s[i];
+        fine = if similarity_fine(x) { fine } else { false };
+        i += 1;
+    }
+    fine
+}
