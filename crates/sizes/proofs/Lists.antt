@@ -1,7 +1,7 @@
 -- A property of each entry of a list: of its parts, of a list made by a rule, and from a test of every entry. Assumes nothing.
 use mathlib.Core.Path.{_≡_, refl}
-use mathlib.Core.Bool.{Bool, true, _&&_}
-use mathlib.Core.List.{List, [], _∷_, _++_}
+use mathlib.Core.Bool.{Bool, true}
+use mathlib.Core.List.{List, [], _∷_, _++_, map}
 use Prim.Native.Nat.{ℕ, zero, suc, _+_, _-_, _*_, _≤_, _<_, min}
 use native.Mathlib.Nat.{not-suc-le-zero, le-of-suc-le-suc}
 use native.Mathlib.Omega.{arith}
@@ -58,6 +58,10 @@ module _ {A : Type 0} {P : A → Type 0} where
 pub each-map : {A : Type 0} {P Q : A → Type 0} {xs : List A} → ((x : A) → P x → Q x) → Each P xs → Each Q xs
 each-map f none = none
 each-map f (more {x = x} h k) = more (f x h) (each-map f k)
+
+pub each-image : {A B : Type 0} {P : A → Type 0} {Q : B → Type 0} {xs : List A} (g : A → B) → ((x : A) → P x → Q (g x)) → Each P xs → Each Q (map g xs)
+each-image g f none = none
+each-image g f (more {x = x} h k) = more (f x h) (each-image g f k)
 
 -- ---- a test of every entry
 

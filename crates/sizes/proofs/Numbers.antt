@@ -1,12 +1,12 @@
 -- Which whole numbers and fractions a format holds, and so rounds to themselves. Assumes nothing.
 use mathlib.Core.Path.{_≡_, refl, sym, ap, _∙_, subst}
-use mathlib.Core.Bool.{Bool, true, false}
-use Prim.Native.Nat.{ℕ, zero, suc, _+_, _-_, _*_, _^_, _≤_, _<_}
-use native.Mathlib.Nat.{le-trans, le-of-eq, lt-of-lt-of-le, lt-of-le-of-lt, mul-comm, mul-assoc, mul-one, one-mul, mul-le-mul-right, mul-lt-mul-of-pos-right, zero-lt-suc}
+use mathlib.Core.Bool.{Bool}
+use Prim.Native.Nat.{ℕ, suc, _+_, _-_, _*_, _^_, _≤_, _<_}
+use native.Mathlib.Nat.{le-of-eq, lt-of-lt-of-le, lt-of-le-of-lt, mul-comm, mul-assoc, mul-one, one-mul, mul-le-mul-right, mul-lt-mul-of-pos-right, zero-lt-suc}
 use native.Mathlib.Omega.{arith}
-use lib.Dec.{T, lit<, lit≤}
-use lib.Pow.{pow-add, pow-pos, pow-mono, pow-lt}
-use lib.Ieee.{Float, Format, binary32, binary64, prec, emax, low, round}
+use lib.Dec.{lit<, lit≤}
+use lib.Pow.{pow-add, pow-pos, pow-lt}
+use lib.Ieee.{Format, binary32, binary64, prec, emax, low, round}
 use lib.Ieee.Exact.{HasValue, round-exact}
 use Rattle.sizes.specs.Sizes.{Held, HeldAt}
 
@@ -43,6 +43,12 @@ held-multiple d k i D K h =
     held-scaled i k (lt-of-le-of-lt h (pow-lt a))
     (lt-of-le-of-lt (mul-le-mul-right (2 ^ k) h) (lt-of-le-of-lt (le-of-eq (sym (pow-add 2 d k))) (pow-lt b)))
 
+-- in binary64: i * (c * 2 ^ k) for an i up to most
+pub held-terms : (most c k i : ℕ) → most * c < 2 ^ 53 → most * c * 2 ^ k < 2 ^ 1024 → i ≤ most → Held binary64 (i * (c * 2 ^ k))
+held-terms most c k i D K h =
+    subst (λ (n : ℕ). Held binary64 n) (mul-assoc i c (2 ^ k))
+    (held-scaled (i * c) k (lt-of-le-of-lt (mul-le-mul-right c h) D) (lt-of-le-of-lt (mul-le-mul-right (2 ^ k) (mul-le-mul-right c h)) K))
+
 -- ---- fractions
 
 pub held-whole : {f : Format} {N : ℕ} → Held f N → HeldAt f N 1
@@ -56,6 +62,25 @@ held-whole {f} {N} h =
       under = lt-of-le-of-lt (le-of-eq (sym e)) (lt-of-lt-of-le (mul-lt-mul-of-pos-right (h .under) (pow-pos l)) (le-of-eq (mul-comm (2 ^ suc (emax f)) (2 ^ l) ∙ sym (pow-add 2 l (suc (emax f))))));
       is = e ∙ sym (mul-one (h .q * 2 ^ (h .j + l)));
     }
+
+-- 1 / 2 ^ k
+pub held-part : {f : Format} (k : ℕ) → k ≤ low f → HeldAt f 1 (2 ^ k)
+held-part {f} k h =
+    let l = low f in
+    let u : l - k < l + suc (emax f) = room l k (emax f) in
+    record {
+      q = 1;
+      j = l - k;
+      few = one-few f;
+      under = lt-of-le-of-lt (le-of-eq (one-mul (2 ^ (l - k)))) (pow-lt u);
+      is = ap (λ (z : ℕ). 1 * 2 ^ z) (sym (back l k h)) ∙ ap (λ (z : ℕ). 1 * z) (pow-add 2 (l - k) k) ∙ sym (mul-assoc 1 (2 ^ (l - k)) (2 ^ k));
+    }
+  where
+    room : (l k e : ℕ) → l - k < l + suc e
+    room l k e = omega arith
+
+    back : (l k : ℕ) → k ≤ l → l - k + k ≡ l
+    back l k h = omega arith
 
 -- what is held is its own rounding
 pub held-at-value : {f : Format} {a c : ℕ} (s : Bool) → 0 < c → HeldAt f a c → HasValue (round f s a c) s a c

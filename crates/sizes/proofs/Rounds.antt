@@ -1,17 +1,18 @@
 -- `round` with a sign: a negative fraction rounds to the negation of what the positive one rounds to, a plus sign stays,
 -- and what is at most, or at least, a number that the format holds rounds to no more, or no less. Assumes nothing.
 use mathlib.Core.Path.{_≡_, refl, sym, ap, _∙_, subst}
-use mathlib.Core.Bool.{Bool, true, false, not, _&&_, _||_, cond, true≢false}
-use Prim.Native.Nat.{ℕ, zero, suc, _+_, _-_, _*_, _^_, _≤_, _<_}
-use native.Mathlib.Nat.{le-trans, le-of-eq, le-of-lt, mul-comm, mul-one, mul-right-comm, mul-le-mul-right, le-of-mul-le-mul-right, zero-lt-suc}
-use lib.Dec.{T, ltb, eqb, ltb→lt, eqb→eq}
+use mathlib.Core.Bool.{Bool, true, false, cond, true≢false}
+use Prim.Native.Nat.{ℕ, zero, suc, _+_, _*_, _^_, _≤_, _<_}
+use native.Mathlib.Nat.{le-trans, le-of-eq, mul-comm, mul-one, zero-lt-suc}
+use lib.Dec.{T, ltb}
 use lib.Ieee.{Float, nan, inf, fin, Format, prec, emax, low, up, down, units, odd, round, neg, le}
 use lib.Ieee.Fits.{down-pos, round-is}
 use lib.Ieee.Exact.{HasValue}
 use lib.Ieee.Order.{round-mono, kept, drop}
 use lib.Ieee.Positive.{through}
 use Rattle.sizes.specs.Sizes.{sizeUpTo, sizeFrom, AtMost, AtLeast, isPlus, Plus, Held, HeldAt}
-use Rattle.sizes.proofs.Numbers.{held-whole, held-at-value, held-value}
+use Rattle.sizes.proofs.Numbers.{held-at-value, held-value}
+use Rattle.sizes.proofs.Signed.{test→signed}
 
 -- ---- the sign
 
@@ -41,14 +42,6 @@ round-plus f a c = record { sign = subst (λ (x : Float). T (isPlus x)) (sym (ro
 
 -- ---- the size, from above
 
-lt-or-eq : (a b : ℕ) → T (ltb a b || (eqb a b && true)) → a ≤ b
-lt-or-eq a b t = go (ltb a b) (eqb a b) (ltb→lt a b) (eqb→eq a b) t
-  where
-    go : (p q : Bool) → (T p → a < b) → (T q → a ≡ b) → T (p || (q && true)) → a ≤ b
-    go true q h k t = le-of-lt (h tt)
-    go false true h k t = le-of-eq (k tt)
-    go false false h k t = absurd t
-
 upTo-of-le : (x y : Float) (N : ℕ) → T (isPlus x) → HasValue y false N 1 → T (le x y) → sizeUpTo N x
 unfolding le isPlus
 upTo-of-le nan y N p v h = absurd p
@@ -61,7 +54,7 @@ upTo-of-le (fin false m e) nan N p v h = absurd v
 upTo-of-le (fin false m e) (inf t) N p v h = absurd v
 upTo-of-le (fin false m e) (fin true n d) N p v h = absurd (true≢false (v .0))
 upTo-of-le (fin false m e) (fin false n d) N p v h =
-    le-trans (le-of-eq (sym (mul-one (m * up e)))) (through (m * up e) (n * up d) N (down e) (down d) 1 (down-pos d) (lt-or-eq (m * up e * down d) (n * up d * down e) h) (le-of-eq (v .1)))
+    le-trans (le-of-eq (sym (mul-one (m * up e)))) (through (m * up e) (n * up d) N (down e) (down d) 1 (down-pos d) (test→signed false (m * up e * down d) false (n * up d * down e) h) (le-of-eq (v .1)))
 
 upTo-neg : (N : ℕ) (x : Float) → sizeUpTo N x → sizeUpTo N (neg x)
 unfolding neg
@@ -93,7 +86,7 @@ from-of-le (fin false m e) nan a c C p v h = absurd v
 from-of-le (fin false m e) (inf t) a c C p v h = absurd v
 from-of-le (fin false m e) (fin true n d) a c C p v h = absurd (true≢false (v .0))
 from-of-le (fin false m e) (fin false n d) a c C p v h =
-    le-trans (through a (n * up d) (m * up e) c (down d) (down e) (down-pos d) (le-of-eq (sym (v .1))) (lt-or-eq (n * up d * down e) (m * up e * down d) h)) (le-of-eq (mul-comm (m * up e) c))
+    le-trans (through a (n * up d) (m * up e) c (down d) (down e) (down-pos d) (le-of-eq (sym (v .1))) (test→signed false (n * up d * down e) false (m * up e * down d) h)) (le-of-eq (mul-comm (m * up e) c))
 
 from-neg : (p q : ℕ) (x : Float) → sizeFrom p q x → sizeFrom p q (neg x)
 unfolding neg

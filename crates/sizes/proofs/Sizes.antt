@@ -1,14 +1,14 @@
 -- Sizes go through the operations: where the two terms of a rounded operation are of size at most N and M, and the format holds
 -- the bound that follows, the result is finite and of size at most that bound. `Held` asks for no room: rounding never passes
 -- a number that the format holds. Assumes nothing.
-use mathlib.Core.Path.{_≡_, refl, sym, ap, _∙_, subst}
+use mathlib.Core.Path.{_≡_, sym, ap, _∙_, subst}
 use mathlib.Core.Bool.{Bool, true, false, not, _&&_, cond, Bool·beq}
 use Prim.Native.Nat.{ℕ, zero, suc, _+_, _-_, _*_, _^_, _≤_, _<_}
 use native.Mathlib.Nat.{le-trans, le-of-eq, mul-comm, mul-assoc, mul-left-comm, mul-right-comm, mul-le-mul, mul-le-mul-right, mul-mul-mul-comm, mul-pos, mul-one, add-mul, le-of-mul-le-mul-right, two-pow-succ, zero-lt-suc}
 use native.Mathlib.Omega.{arith}
 use lib.Dec.{T, ltb, eqb, eqb→eq}
 use lib.Pow.{pow-add, pow-mono}
-use lib.Ieee.{Float, nan, inf, fin, Format, binary64, emax, up, down, unlike, round, neg, sum, add, sub, mul, div, lt, isNan, ofBits, ofInt}
+use lib.Ieee.{Float, nan, inf, fin, Format, binary64, emax, up, down, unlike, round, sum, add, sub, mul, div, lt, isNan, ofBits, ofInt}
 use lib.Ieee.Fits.{down-pos}
 use lib.Ieee.Exact.{HasValue}
 use lib.Ieee.Back.{round-whole}
@@ -112,12 +112,12 @@ quotient x e y d N p q R P h k l =
     regroup : (N e q y : ℕ) → N * e * (q * y) ≡ N * q * (y * e)
     regroup N e q y = simp (mul-assoc, mul-comm, mul-left-comm)
 
-above : (q y a : ℕ) → 0 < a → a ≤ q * y → 0 < y
-above q zero a h k = absurd (none q a h k)
+pub right-above : (q y a : ℕ) → 0 < a → a ≤ q * y → 0 < y
+right-above q zero a h k = absurd (none q a h k)
   where
     none : (q a : ℕ) → 0 < a → a ≤ q * 0 → ⊥
     none q a h k = omega arith
-above q (suc y) a h k = zero-lt-suc y
+right-above q (suc y) a h k = zero-lt-suc y
 
 div-of : (f : Format) (N p q R : ℕ) (x y : Float) → 0 < p → Held f R → N * q ≤ R * p → sizeUpTo N x → sizeFrom p q y → AtMost R (div f x y)
 unfolding div
@@ -131,7 +131,7 @@ div-of f N p q R (fin s m e) (inf t) P r l h k = record { size = nothing R }
 div-of f N p q R (fin s m e) (fin t n d) P r l h k = go (eqb n 0) (eqb→eq n 0)
   where
     y+ : 0 < n * up d
-    y+ = above q (n * up d) (p * down d) (mul-pos P (down-pos d)) k
+    y+ = right-above q (n * up d) (p * down d) (mul-pos P (down-pos d)) k
 
     gone : (n u : ℕ) → 0 < n * u → n ≡ 0 → ⊥
     gone zero u h z = omega arith
@@ -182,7 +182,8 @@ unfolding held
 held-most {N} {lo} {hi} {x} l u h = pick-most (lt hi (pick (lt x lo) lo x)) u (pick-most (lt x lo) l h)
 
 -- ---- a value that is known as a fraction, a whole number as a float
--- A literal is asked under `unfolding ofBits`: `record { size = lit≤ tt }` is an `AtMost N (bits b)` and an `AtLeast p q (bits b)`.
+-- A literal's size is computed: under `unfolding ofBits`, `record { size = lit≤ tt }` is an `AtMost N (bits b)` and an `AtLeast p q (bits b)`;
+-- under `unfolding ofBits isPlus`, `record { sign = tt }` is a `Plus (bits b)`.
 
 upTo-of-value : (N a c : ℕ) (s : Bool) (x : Float) → 0 < c → HasValue x s a c → a ≤ N * c → sizeUpTo N x
 upTo-of-value N a c s nan C v h = absurd v

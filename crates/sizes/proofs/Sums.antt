@@ -1,15 +1,15 @@
 -- Sums in ascending order: the size of a sum of terms that are each at most N, where every partial bound i * N is held. Assumes nothing.
-use mathlib.Core.Path.{_≡_, refl, sym, ap, _∙_, subst}
-use mathlib.Core.List.{List, [], _∷_}
-use Prim.Native.Nat.{ℕ, zero, suc, _+_, _*_, _^_, _≤_, _<_}
+use mathlib.Core.Path.{_≡_, sym, subst}
+use mathlib.Core.List.{List, _∷_}
+use Prim.Native.Nat.{ℕ, suc, _+_, _*_, _^_, _≤_, _<_}
 use native.Mathlib.Nat.{le-trans, le-of-eq, mul-le-mul-right, suc-mul, add-zero, zero-add}
 use native.Mathlib.Omega.{arith}
 use lib.ListN.{length}
 use lib.Pow.{pow-add}
 use lib.Ieee.{Float, binary64}
-use Rattle.numbers.specs.Rounded.{_⊕_, sumFrom, sumOf, nought}
+use Rattle.numbers.specs.Rounded.{_⊕_, sumFrom, sumOf}
 use Rattle.sizes.specs.Sizes.{AtMost, Within, Held, Each, none, more}
-use Rattle.sizes.proofs.Numbers.{held-multiple}
+use Rattle.sizes.proofs.Numbers.{held-multiple, held-terms}
 use Rattle.sizes.proofs.Sizes.{most-weaken, nought-most, add-most}
 
 -- an accumulator of at most n terms of size N, and k terms more
@@ -32,3 +32,7 @@ pub sum-within : {xs : List Float} (d k : ℕ) → d ≤ 52 → d + k ≤ 1023 �
 sum-within {xs} d k D K l h =
     most-weaken (le-trans (mul-le-mul-right (2 ^ k) l) (le-of-eq (sym (pow-add 2 d k))))
     (sum-most (λ i j. held-multiple d k i D K (le-trans j l)) h)
+
+-- up to most terms of size c * 2 ^ k
+pub sum-scaled : {xs : List Float} (most c k : ℕ) → most * c < 2 ^ 53 → most * c * 2 ^ k < 2 ^ 1024 → length xs ≤ most → Each (AtMost (c * 2 ^ k)) xs → AtMost (most * (c * 2 ^ k)) (sumOf xs)
+sum-scaled {xs} most c k D K l h = most-weaken (mul-le-mul-right (c * 2 ^ k) l) (sum-most (λ i j. held-terms most c k i D K (le-trans j l)) h)

@@ -1,102 +1,51 @@
 -- The tests of document 01's bounds decide sizes: `sized top x`, two comparisons, holds exactly where x is finite and of size at most
 -- the number that top is. Assumes nothing.
-use mathlib.Core.Path.{_≡_, refl, sym, ap, _∙_, subst}
-use mathlib.Core.Logic.{inl, inr}
-use mathlib.Core.Bool.{Bool, true, false, not, _&&_, _||_, true≢false}
-use Prim.Native.Nat.{ℕ, zero, suc, _+_, _*_, _^_, _≤_, _<_}
-use native.Mathlib.Nat.{le-trans, le-of-eq, le-of-lt, mul-one, zero-lt-suc, eq-or-lt-of-le}
-use native.Mathlib.Omega.{arith}
-use lib.IntN.{ℤ}
-use lib.Dec.{T, ltb, eqb, ltb→lt, lt→ltb, eqb→eq}
+use mathlib.Core.Path.{_≡_, refl, sym, subst}
+use mathlib.Core.Bool.{true, false, not, true≢false}
+use Prim.Native.Nat.{ℕ, _*_, _^_}
+use native.Mathlib.Nat.{le-trans, le-of-eq, mul-one, zero-lt-suc}
+use lib.Dec.{T}
 use lib.Ieee.{Float, nan, inf, fin, up, down, neg, le, isNan, ofBits}
 use lib.Ieee.Bits.{is-true}
-use lib.Ieee.Fits.{down-pos, eq→eqb, and-l, and-r, and-i}
 use lib.Ieee.Exact.{HasValue}
 use lib.Ieee.Positive.{through}
 use lib.Ieee.Scale.{finite}
 use Rattle.numbers.specs.Limits.{sized, magnitudeFine, valueFine, similarityFine, magnitudeTop, valueTop, similarityTop}
+use Rattle.numbers.proofs.Tests.{and-left, and-right, and-both}
 use Rattle.sizes.specs.Sizes.{sizeUpTo, AtMost, Within}
-use Rattle.sizes.proofs.Sizes.{most-not-nan, most-finite}
+use Rattle.sizes.proofs.Signed.{signed→test}
+use Rattle.sizes.proofs.Rounds.{neg-most}
+use Rattle.sizes.proofs.Sizes.{most-not-nan, most-finite, value-most}
+use Rattle.sizes.proofs.Order.{neg-anti, neg-neg}
+use Rattle.sizes.proofs.Ranges.{between-most}
 
--- a ≤ b, and b ≤ a of the negations, as `le` computes them
-or-l : (a b : Bool) → T a → T (a || b)
-or-l true b t = tt
-or-l false b t = absurd t
+upTo-le : (N : ℕ) (L x : Float) → HasValue L false N 1 → sizeUpTo N x → T (le x L)
+unfolding le
+upTo-le N nan x v h = absurd v
+upTo-le N (inf s) x v h = absurd v
+upTo-le N (fin true n d) x v h = absurd (true≢false (v .0))
+upTo-le N (fin false n d) nan v h = absurd h
+upTo-le N (fin false n d) (inf s) v h = absurd h
+upTo-le N (fin false n d) (fin true m e) v h = signed→test true (m * up e * down d) false (n * up d * down e) tt
+upTo-le N (fin false n d) (fin false m e) v h =
+    signed→test false (m * up e * down d) false (n * up d * down e)
+    (through (m * up e) N (n * up d) (down e) 1 (down d) (zero-lt-suc 0) (le-trans (le-of-eq (mul-one (m * up e))) h) (le-of-eq (sym (v .1))))
 
-or-r : (a b : Bool) → T b → T (a || b)
-or-r true b t = tt
-or-r false b t = t
+-- ---- the order, where top is the whole number N
 
-le-of : (a b : ℕ) → T (ltb a b || (eqb a b && true)) → a ≤ b
-le-of a b t = go (ltb a b) (eqb a b) (ltb→lt a b) (eqb→eq a b) t
-  where
-    go : (p q : Bool) → (T p → a < b) → (T q → a ≡ b) → T (p || (q && true)) → a ≤ b
-    go true q h k t = le-of-lt (h tt)
-    go false true h k t = le-of-eq (k tt)
-    go false false h k t = absurd t
+pub most-le : {N : ℕ} {x : Float} (top : Float) → HasValue top false N 1 → AtMost N x → le x top ≡ true
+most-le {N} {x} top v h = is-true (le x top) (upTo-le N top x v (h .size))
 
-ge-of : (a b : ℕ) → T (ltb b a || (eqb a b && true)) → b ≤ a
-ge-of a b t = go (ltb b a) (eqb a b) (ltb→lt b a) (eqb→eq a b) t
-  where
-    go : (p q : Bool) → (T p → b < a) → (T q → a ≡ b) → T (p || (q && true)) → b ≤ a
-    go true q h k t = le-of-lt (h tt)
-    go false true h k t = le-of-eq (sym (k tt))
-    go false false h k t = absurd t
+pub most-ge : {N : ℕ} {x : Float} (top : Float) → HasValue top false N 1 → AtMost N x → le (neg top) x ≡ true
+most-ge {N} {x} top v h = subst (λ (z : Float). le (neg top) z ≡ true) (neg-neg x) (neg-anti (neg x) top (most-le top v (neg-most h)))
 
-of-le : (a b : ℕ) → a ≤ b → T (ltb a b || (eqb a b && true))
-of-le a b h = elim (eq-or-lt-of-le h) [ inl p ↦ or-r (ltb a b) (eqb a b && true) (and-i (eqb a b) true (eq→eqb p) tt) | inr q ↦ or-l (ltb a b) (eqb a b && true) (lt→ltb a b q) ]
-
-of-ge : (a b : ℕ) → b ≤ a → T (ltb b a || (eqb a b && true))
-of-ge a b h = elim (eq-or-lt-of-le h) [ inl p ↦ or-r (ltb b a) (eqb a b && true) (and-i (eqb a b) true (eq→eqb (sym p)) tt) | inr q ↦ or-l (ltb b a) (eqb a b && true) (lt→ltb b a q) ]
-
--- a negative number is at most one that is not
-opposite : (a b : ℕ) → T (ltb 0 (a + b) || (eqb a b && (false || eqb a 0)))
-opposite zero zero = tt
-opposite zero (suc b) = or-l (ltb 0 (0 + suc b)) (eqb 0 (suc b) && (false || eqb 0 0)) (lt→ltb 0 (0 + suc b) (omega arith))
-opposite (suc a) b = or-l (ltb 0 (suc a + b)) (eqb (suc a) b && (false || eqb (suc a) 0)) (lt→ltb 0 (suc a + b) (omega arith))
-
--- m / e ≤ n / d = N
-under : (x y N e d : ℕ) → 0 < d → x * d ≤ y * e → y * 1 ≡ N * d → x ≤ N * e
-under x y N e d D h v = le-trans (le-of-eq (sym (mul-one x))) (through x y N e d 1 D h (le-of-eq v))
-
-sized-upTo : (N : ℕ) (L x : Float) → HasValue L false N 1 → T (sized L x) → sizeUpTo N x
-unfolding le neg
-sized-upTo N nan x v t = absurd v
-sized-upTo N (inf s) x v t = absurd v
-sized-upTo N (fin true n d) x v t = absurd (true≢false (v .0))
-sized-upTo N (fin false n d) nan v t = absurd t
-sized-upTo N (fin false n d) (inf true) v t = absurd t
-sized-upTo N (fin false n d) (inf false) v t = absurd (and-r (le (fin true n d) (inf false)) false t)
-sized-upTo N (fin false n d) (fin false m e) v t =
-    under (m * up e) (n * up d) N (down e) (down d) (down-pos d) (le-of (m * up e * down d) (n * up d * down e) (and-r (le (fin true n d) (fin false m e)) (le (fin false m e) (fin false n d)) t)) (v .1)
-sized-upTo N (fin false n d) (fin true m e) v t =
-    under (m * up e) (n * up d) N (down e) (down d) (down-pos d) (ge-of (n * up d * down e) (m * up e * down d) (and-l (le (fin true n d) (fin true m e)) (le (fin true m e) (fin false n d)) t)) (v .1)
-
-cross : (N n : ℕ) (d : ℤ) (m : ℕ) (e : ℤ) → HasValue (fin false n d) false N 1 → m * up e ≤ N * down e → m * up e * down d ≤ n * up d * down e
-cross N n d m e v h = through (m * up e) N (n * up d) (down e) 1 (down d) (zero-lt-suc 0) (le-trans (le-of-eq (mul-one (m * up e))) h) (le-of-eq (sym (v .1)))
-
-upTo-sized : (N : ℕ) (L x : Float) → HasValue L false N 1 → sizeUpTo N x → T (sized L x)
-unfolding le neg
-upTo-sized N nan x v h = absurd v
-upTo-sized N (inf s) x v h = absurd v
-upTo-sized N (fin true n d) x v h = absurd (true≢false (v .0))
-upTo-sized N (fin false n d) nan v h = absurd h
-upTo-sized N (fin false n d) (inf s) v h = absurd h
-upTo-sized N (fin false n d) (fin false m e) v h =
-    and-i (le (fin true n d) (fin false m e)) (le (fin false m e) (fin false n d))
-    (opposite (n * up d * down e) (m * up e * down d))
-    (of-le (m * up e * down d) (n * up d * down e) (cross N n d m e v h))
-upTo-sized N (fin false n d) (fin true m e) v h =
-    and-i (le (fin true n d) (fin true m e)) (le (fin true m e) (fin false n d))
-    (of-ge (n * up d * down e) (m * up e * down d) (cross N n d m e v h))
-    (opposite (m * up e * down d) (n * up d * down e))
-
--- top is the whole number N
 pub sized-most : {N : ℕ} (top x : Float) → HasValue top false N 1 → sized top x ≡ true → AtMost N x
-sized-most {N} top x v e = record { size = sized-upTo N top x v (subst T (sym e) tt) }
+sized-most {N} top x v e =
+    let h : AtMost N top = value-most false N 1 (zero-lt-suc 0) v (le-of-eq (sym (mul-one N))) in
+    between-most x (neg-most h) h (and-left (le (neg top) x) (le x top) e) (and-right (le (neg top) x) (le x top) e)
 
-pub most-sized : {N : ℕ} (top : Float) {x : Float} → HasValue top false N 1 → AtMost N x → sized top x ≡ true
-most-sized {N} top {x} v h = is-true (sized top x) (upTo-sized N top x v (h .size))
+pub most-sized : {N : ℕ} {x : Float} (top : Float) → HasValue top false N 1 → AtMost N x → sized top x ≡ true
+most-sized {N} {x} top v h = and-both (le (neg top) x) (le x top) (most-ge top v h) (most-le top v h)
 
 -- ---- the three tests of the table
 

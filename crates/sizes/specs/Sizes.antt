@@ -1,7 +1,7 @@
 -- Document 01, "Bounds and numbers of refusal": what "finite, of size at most" means, in whole numbers.
 -- No promise of a call is written in these words: proofs use them, between a promise's test of a value and the operations on it.
 use mathlib.Core.Path.{_≡_}
-use mathlib.Core.Bool.{Bool, false, not}
+use mathlib.Core.Bool.{Bool, true, false, not}
 use mathlib.Core.List.{List, [], _∷_}
 use Prim.Native.Nat.{ℕ, suc, _+_, _*_, _^_, _≤_, _<_}
 use lib.Dec.{T}
@@ -60,3 +60,10 @@ pub record HeldAt (f : Format) (a c : ℕ) : Type 0 where
 pub data Each {A : Type 0} (P : A → Type 0) : List A → Type 0 where
   none : Each P []
   more : {x : A} {xs : List A} → P x → Each P xs → Each P (x ∷ xs)
+
+-- ±a ≤ ±b, negative where the sign is true: the order of signed whole numbers, in which -0 is +0
+abbrev pub signedLe : Bool → ℕ → Bool → ℕ → Type 0
+signedLe false a false b = a ≤ b
+signedLe false a true b = a + b ≡ 0
+signedLe true a false b = Unit
+signedLe true a true b = b ≤ a

@@ -1,0 +1,4 @@
+pub mod TotalOrder
+pub mod Wholes
+pub mod Logs
+pub mod Exps

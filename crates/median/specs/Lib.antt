@@ -1,0 +1,4 @@
+pub mod Median
+pub mod Ranks
+pub mod Heaps
+pub mod Answers

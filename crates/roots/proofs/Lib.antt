@@ -1,0 +1,5 @@
+mod Parts
+mod Whole
+mod Nearest
+mod Unique
+mod Floats
