@@ -1,15 +1,12 @@
 -- Document 01, Leaves: "log(1) and log2(1) are +0 and exp of either zero is 1, proved", by computing; and what each leaf gives at the
 -- zeros, the infinities, the NaN and -1. Assumes nothing.
 use mathlib.Core.Path.{_≡_, refl}
-use mathlib.Core.Bool.{true, false}
 use mathlib.Core.List.{List, [], _∷_, map}
 use Prim.Native.Nat.{ℕ}
-use lib.IntN.{pos}
-use lib.Ieee.{Float, fin, binary64, add, sub, mul, div, neg, lt, ne, ofBits, toBits, ofInt, toUnsigned}
+use lib.Ieee.{Float, binary64, add, sub, mul, div, neg, lt, ne, ofBits, toBits, ofInt, toUnsigned}
 use Rattle.numbers.specs.Rounded.{bits, nought}
 use Rattle.floats.specs.Logs.{one, logOf, log2Of}
 use Rattle.floats.specs.Exps.{expOf}
-use Rattle.floats.specs.Wholes.{roundOf, ceilOf}
 
 -- -0
 abbrev minusNought : Float

@@ -47,7 +47,7 @@ key-inj x y fx fy e =
 
 -- ---- the bits of a magnitude of n units: they grow with n
 
-abbrev mag : ℕ → ℕ
+abbrev pub mag : ℕ → ℕ
 mag n = (size n - 53) * 4503599627370496 + n / 2 ^ (size n - 53)
 
 mag-lt : (n : ℕ) → mag n < (size n - 53) * 4503599627370496 + 9007199254740992
@@ -73,19 +73,19 @@ mag-mono a b h =
 
 -- ---- a finite value's bits
 
-abbrev units : ℕ → ℤ → ℕ
+abbrev pub units : ℕ → ℤ → ℕ
 units m e = m * up e * 2 ^ 1074 / down e
 
-bits-fin : (s : Bool) (m : ℕ) (e : ℤ) → toBits binary64 (fin s m e) ≡ cond s 9223372036854775808 0 + mag (units m e)
+pub bits-fin : (s : Bool) (m : ℕ) (e : ℤ) → toBits binary64 (fin s m e) ≡ cond s 9223372036854775808 0 + mag (units m e)
 unfolding toBits
 bits-fin s m e = add-assoc (cond s 9223372036854775808 0) ((size (units m e) - 53) * 4503599627370496) (units m e / 2 ^ (size (units m e) - 53))
 
-fits-sign : (s t : Bool) (m : ℕ) (e : ℤ) → T (fits binary64 (fin s m e)) → T (fits binary64 (fin t m e))
+pub fits-sign : (s t : Bool) (m : ℕ) (e : ℤ) → T (fits binary64 (fin s m e)) → T (fits binary64 (fin t m e))
 unfolding fits
 fits-sign s t zero e h = h
 fits-sign s t (suc m) e h = h
 
-mag-small : (s : Bool) (m : ℕ) (e : ℤ) → T (fits binary64 (fin s m e)) → mag (units m e) < 9223372036854775808
+pub mag-small : (s : Bool) (m : ℕ) (e : ℤ) → T (fits binary64 (fin s m e)) → mag (units m e) < 9223372036854775808
 mag-small s m e h = omega (arith, bits-fin true m e, toBits-lt binary64 (fin true m e) (fits-sign s true m e h))
 
 units-lt : (s : Bool) (m : ℕ) (e : ℤ) → T (fits binary64 (fin s m e)) → units m e < 2 ^ 2098
@@ -101,7 +101,7 @@ units-lt s (suc m) e h =
     (subst (λ (z : ℕ). suc m * up e * 2 ^ 1074 < z) (mul-right-comm (2 ^ 1024) (down e) (2 ^ 1074) ∙ ap (λ (z : ℕ). z * down e) (sym (pow-add 2 1024 1074)))
     (mul-lt-mul-of-pos-right l (pow-pos 1074)))
 
-mag-inf : (s : Bool) (m : ℕ) (e : ℤ) → T (fits binary64 (fin s m e)) → mag (units m e) ≤ 9218868437227405312
+pub mag-inf : (s : Bool) (m : ℕ) (e : ℤ) → T (fits binary64 (fin s m e)) → mag (units m e) < 9218868437227405312
 mag-inf s m e h = omega (arith, mag-lt (units m e), size-le (units m e) 2098 (units-lt s m e h))
 
 key-plus : (m : ℕ) (e : ℤ) → T (fits binary64 (fin false m e)) → key (fin false m e) ≡ 9223372036854775808 + mag (units m e)
@@ -126,10 +126,10 @@ key-bottom : key (inf true) ≡ 4503599627370495
 unfolding key turned toBits
 key-bottom = refl
 
-units-mono : (m : ℕ) (e : ℤ) (n : ℕ) (d : ℤ) → m * up e * down d < n * up d * down e → units m e ≤ units n d
+pub units-mono : (m : ℕ) (e : ℤ) (n : ℕ) (d : ℤ) → m * up e * down d ≤ n * up d * down e → units m e ≤ units n d
 units-mono m e n d h =
     div-mono (m * up e * 2 ^ 1074) (down e) (n * up d * 2 ^ 1074) (down d) (down-pos e) (down-pos d)
-    (le-trans (le-of-eq (mul-right-comm (m * up e) (2 ^ 1074) (down d))) (le-trans (mul-le-mul-right (2 ^ 1074) (le-of-lt h)) (le-of-eq (mul-right-comm (n * up d) (down e) (2 ^ 1074)))))
+    (le-trans (le-of-eq (mul-right-comm (m * up e) (2 ^ 1074) (down d))) (le-trans (mul-le-mul-right (2 ^ 1074) h) (le-of-eq (mul-right-comm (n * up d) (down e) (2 ^ 1074)))))
 
 key-le : (x y : Float) → T (fits binary64 x) → T (fits binary64 y) → T (lt x y) → key x ≤ key y
 unfolding lt
@@ -147,10 +147,10 @@ key-le (fin true m e) (inf false) f g h = omega (arith, key-top, key-minus m e)
 key-le (fin false m e) (inf false) f g h = omega (arith, key-top, key-plus m e f, mag-inf false m e f)
 key-le (fin false m e) (fin true n d) f g h = absurd h
 key-le (fin false m e) (fin false n d) f g h =
-    omega (arith, key-plus m e f, key-plus n d g, mag-mono (units m e) (units n d) (units-mono m e n d (ltb→lt (m * up e * down d) (n * up d * down e) h)))
+    omega (arith, key-plus m e f, key-plus n d g, mag-mono (units m e) (units n d) (units-mono m e n d (le-of-lt (ltb→lt (m * up e * down d) (n * up d * down e) h))))
 key-le (fin true m e) (fin false n d) f g h = omega (arith, key-minus m e, key-plus n d g)
 key-le (fin true m e) (fin true n d) f g h =
-    omega (arith, key-minus m e, key-minus n d, mag-mono (units n d) (units m e) (units-mono n d m e (ltb→lt (n * up d * down e) (m * up e * down d) h)))
+    omega (arith, key-minus m e, key-minus n d, mag-mono (units n d) (units m e) (units-mono n d m e (le-of-lt (ltb→lt (n * up d * down e) (m * up e * down d) h))))
 
 never-below-itself : (x : Float) → T (lt x x) → ⊥
 unfolding lt

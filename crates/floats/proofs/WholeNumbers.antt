@@ -1,9 +1,8 @@
 -- What the code of `round_of` and `ceil_of` computes is the definition, and how large it is. Below 2 ^ 52 the double of x is exact, so
 -- that halving its whole part upwards rounds half up; from 2 ^ 52 on a value of the format is whole. Assumes nothing.
 use mathlib.Core.Path.{_≡_, refl, sym, ap, subst, _∙_}
-use mathlib.Core.Logic.{_⊎_, inl, inr, ⊎-elim}
 use Prim.Native.Nat.{ℕ, zero, suc, _+_, _-_, _*_, _/_, _%_, _^_, _≤_, _<_, min, compare, zero-le}
-use native.Mathlib.Nat.{add-mul, mul-assoc, mul-comm, mul-left-comm, mul-right-comm, le-of-eq, le-of-suc-le-suc, le-trans, zero-lt-suc, suc-mul, mul-one, one-mul, mul-pos, mul-le-mul-left, mul-le-mul-right, div-mul-le-self, div-add-mod', mod-lt, add-div-right, div-div-eq-div-mul, div-lt-iff-lt-mul, le-div-iff-mul-le, lt-of-lt-of-le, lt-irrefl, lt-of-mul-lt-mul-right, mul-lt-mul-of-pos-right}
+use native.Mathlib.Nat.{add-mul, mul-assoc, mul-comm, mul-left-comm, mul-right-comm, le-of-eq, le-of-suc-le-suc, le-trans, suc-mul, mul-one, one-mul, mul-pos, mul-le-mul-left, mul-le-mul-right, div-mul-le-self, div-add-mod', mod-lt, add-div-right, div-div-eq-div-mul, div-lt-iff-lt-mul, le-div-iff-mul-le, lt-of-lt-of-le, lt-irrefl, lt-of-mul-lt-mul-right, mul-lt-mul-of-pos-right}
 use native.Mathlib.Decide.{decLt, decLe}
 use native.Mathlib.Omega.{arith}
 use mathlib.Core.Bool.{Bool, true, false, _&&_, cond}
@@ -17,7 +16,7 @@ use lib.Ieee.Nearest.{div-same}
 use lib.Ieee.Back.{round-whole}
 use borrow.Author.Tests.{lt-ltb, le-ltb, ltb-true, ltb-false}
 use Rattle.numbers.specs.Rounded.{pick, bits, real}
-use Rattle.numbers.proofs.Tests.{lt-or-le, true-not-false}
+use Rattle.numbers.proofs.Tests.{true-not-false}
 use Rattle.floats.specs.Wholes.{most, nearestOver, ceilingOver, roundOf, ceilOf}
 
 -- what has the value a / c is cut to a / c
@@ -248,32 +247,43 @@ ceil-above (fin false m e) f h =
 
 -- ---- how large they are: at most N where x is, and at least N where x is
 
+nearest-le : (N a d : ℕ) → 0 < d → a ≤ N * d → nearestOver a d ≤ N
+nearest-le N a d p h = le-of-suc-le-suc (div-lt-iff-lt-mul (mul-pos (lit< {m = 0} {n = 2} tt) p) .1 (omega (arith, suc-mul N (2 * d), mul-left-comm N 2 d)))
+
+ceiling-le : (N a d : ℕ) → 0 < d → a ≤ N * d → ceilingOver a d ≤ N
+ceiling-le N a d p h = le-of-suc-le-suc (div-lt-iff-lt-mul p .1 (omega (arith, suc-mul N d)))
+
 pub round-most : (N : ℕ) (s : Bool) (m : ℕ) (e : ℤ) → m * up e ≤ N * down e → roundOf (fin s m e) ≤ N
 unfolding roundOf
 round-most N true m e h = zero-le
-round-most N false m e h =
-    let d = down-pos e in
-    let l : nearestOver (m * up e) (down e) < suc N = div-lt-iff-lt-mul (mul-pos (lit< {m = 0} {n = 2} tt) d) .1 (omega (arith, suc-mul N (2 * down e), mul-left-comm N 2 (down e), d)) in
-    omega arith
-
-pub round-least : (N m : ℕ) (e : ℤ) → N < 2 ^ 64 → N * down e ≤ m * up e → N ≤ roundOf (fin false m e)
-unfolding roundOf
-round-least N m e k h =
-    let d = down-pos e in
-    let l : N ≤ nearestOver (m * up e) (down e) = le-div-iff-mul-le (mul-pos (lit< {m = 0} {n = 2} tt) d) .1 (omega (arith, mul-left-comm N 2 (down e))) in
-    omega arith
+round-most N false m e h = omega (arith, nearest-le N (m * up e) (down e) (down-pos e) h)
 
 pub ceil-most : (N : ℕ) (s : Bool) (m : ℕ) (e : ℤ) → m * up e ≤ N * down e → ceilOf (fin s m e) ≤ N
 unfolding ceilOf
 ceil-most N true m e h = zero-le
-ceil-most N false m e h =
-    let d = down-pos e in
-    let l : ceilingOver (m * up e) (down e) < suc N = div-lt-iff-lt-mul d .1 (omega (arith, suc-mul N (down e), d)) in
-    omega arith
+ceil-most N false m e h = omega (arith, ceiling-le N (m * up e) (down e) (down-pos e) h)
 
-pub ceil-least : (N m : ℕ) (e : ℤ) → N < 2 ^ 64 → N * down e ≤ m * up e → N ≤ ceilOf (fin false m e)
+-- where x is not negative
+nearest-ge : (N a d : ℕ) → 0 < d → N * d ≤ 1 * a → N ≤ nearestOver a d
+nearest-ge N a d p h = le-div-iff-mul-le (mul-pos (lit< {m = 0} {n = 2} tt) p) .1 (omega (arith, mul-left-comm N 2 d))
+
+ceiling-ge : (N a d : ℕ) → 0 < d → N * d ≤ 1 * a → N ≤ ceilingOver a d
+ceiling-ge N a d p h = le-div-iff-mul-le p .1 (omega arith)
+
+pub round-least : (N m : ℕ) (e : ℤ) → N < 2 ^ 64 → N * down e ≤ 1 * (m * up e) → N ≤ roundOf (fin false m e)
+unfolding roundOf
+round-least N m e l h = omega (arith, nearest-ge N (m * up e) (down e) (down-pos e) h)
+
+pub ceil-least : (N m : ℕ) (e : ℤ) → N < 2 ^ 64 → N * down e ≤ 1 * (m * up e) → N ≤ ceilOf (fin false m e)
 unfolding ceilOf
-ceil-least N m e k h =
-    let d = down-pos e in
-    let l : N ≤ ceilingOver (m * up e) (down e) = le-div-iff-mul-le d .1 (omega (arith, d)) in
-    omega arith
+ceil-least N m e l h = omega (arith, ceiling-ge N (m * up e) (down e) (down-pos e) h)
+
+-- ---- in whole numbers, where the result fits 64 bits: the whole part of x + 1/2, and the ceiling
+
+pub round-is : (m : ℕ) (e : ℤ) → m * up e < 2 ^ 63 * down e → roundOf (fin false m e) ≡ (2 * (m * up e) + down e) / (2 * down e)
+unfolding roundOf
+round-is m e h = omega (arith, nearest-le (2 ^ 63) (m * up e) (down e) (down-pos e) (omega arith))
+
+pub ceil-is : (m : ℕ) (e : ℤ) → m * up e < 2 ^ 63 * down e → ceilOf (fin false m e) ≡ (m * up e + down e - 1) / down e
+unfolding ceilOf
+ceil-is m e h = omega (arith, ceiling-le (2 ^ 63) (m * up e) (down e) (down-pos e) (omega arith))

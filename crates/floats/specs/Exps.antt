@@ -4,7 +4,7 @@
 -- musl's scalbn.c. Each operation below is one rounded operation there, in the same order, and each constant has its name there.
 -- x is written as k * ln 2 + r with |r| <= 0.5 * ln 2, and exp x is 2 ^ k * exp r. k is a whole number m with a sign.
 use Prim.Native.Nat.{ℕ, _+_, _-_, _*_, _/_, _%_}
-use mathlib.Core.Bool.{Bool, true, false}
+use mathlib.Core.Bool.{Bool}
 use lib.Dec.{leb, ltb}
 use lib.Ieee.{Float, binary64, neg, lt, ne, toBits, toUnsigned}
 use Rattle.numbers.specs.Rounded.{_⊕_, _⊖_, _⊗_, _⊘_, bits, real, nought, pick}

@@ -4,7 +4,7 @@
 -- msun. Each operation below is one rounded operation there, in the same order, and each constant has its name there.
 -- Both logarithms write x as 2 ^ k * (1 + f) with sqrt(2)/2 <= 1 + f < sqrt(2), and share all that follows up to s * (hfsq + R).
 use Prim.Native.Nat.{ℕ, _+_, _-_, _*_, _/_, _%_}
-use mathlib.Core.Bool.{Bool, true, false, not, _&&_}
+use mathlib.Core.Bool.{Bool, not, _&&_}
 use lib.Dec.{eqb, leb, ltb}
 use lib.Ieee.{Float, binary64, neg, toBits}
 use Rattle.numbers.specs.Rounded.{_⊕_, _⊖_, _⊗_, _⊘_, bits, real, nought, pick}

@@ -1,9 +1,9 @@
--- What other crates cite: a rank and its entry, where a median lies, the marked number, the coincidence of answers.
+-- What other crates cite: the entry of a rank and counting, exchanges, where a median lies, the marked number, the coincidence of outcomes.
 pub mod Ranks
+pub mod Swaps
 pub mod Medians
 pub mod Marked
 pub mod Outcomes
-mod Swaps
 mod Heaps
 mod Absolutes
 mod Lent

@@ -12,7 +12,7 @@ use lib.ListN.{length, getD}
 use lib.Seq.{ext-getD}
 use lib.Dec.{T, ltb, leb, eqb}
 use lib.Ieee.{Float, nan, binary64, fits}
-use borrow.Author.Tests.{ltb-true, ltb-false, leb-true, leb-false, eqb-true, eqb-false, lt-ltb, le-ltb}
+use borrow.Author.Tests.{leb-true, leb-false, eqb-true, eqb-false, lt-ltb, le-ltb}
 use Rattle.numbers.proofs.Tests.{which, lt-or-le}
 use Rattle.sizes.specs.Sizes.{Each, none, more}
 use Rattle.sizes.proofs.Lists.{each-at, each-by, each-map}
@@ -79,7 +79,7 @@ same-trans a b = record { len = a .len ∙ b .len; counts = λ k. a .counts k �
 
 -- ---- the sort: the same entries, in order
 
-below-insert : (k : ℕ) (x : Float) (ys : List Float) → below k (insert x ys) ≡ one (ltb (key x) k) + below k ys
+pub below-insert : (k : ℕ) (x : Float) (ys : List Float) → below k (insert x ys) ≡ one (ltb (key x) k) + below k ys
 unfolding below insert
 below-insert k x [] = refl
 below-insert k x (y ∷ ys) = ⊎-elim
@@ -87,7 +87,7 @@ below-insert k x (y ∷ ys) = ⊎-elim
     (λ e. rw e (omega (arith, below-insert k x ys)))
     (which (leb (key x) (key y)))
 
-length-insert : (x : Float) (ys : List Float) → length (insert x ys) ≡ suc (length ys)
+pub length-insert : (x : Float) (ys : List Float) → length (insert x ys) ≡ suc (length ys)
 unfolding insert
 length-insert x [] = refl
 length-insert x (y ∷ ys) = ⊎-elim

@@ -10,7 +10,7 @@ ghost use Rattle.numbers.specs.Lists.{listed};
 ghost use Rattle.median.specs.Median.{sort, medianOf, madOf, absolute, distance};
 ghost use Rattle.median.specs.Ranks.{Same};
 ghost use Rattle.median.specs.Heaps.{swapped, Heap, Sifted, Greater, Arranged};
-ghost use Rattle.median.specs.Answers.{refusalOf, medianRefusal, madRefusal, Answered, Chosen};
+ghost use Rattle.median.specs.Answers.{refusalOf, MedianPromise, MadPromise, Chosen};
 
 // A median, or the number of a refusal.
 pub enum Answer {
@@ -19,10 +19,10 @@ pub enum Answer {
 }
 
 // The median of values, the entry at length div 2 once they are sorted. Lend as many slots of work as there are values.
-// Refuses with 1 an empty list, with 3 too short a work slice, with 4 a value that isn't finite or is larger than 2^150.
+// Refuses with 1 an empty list, with 3 too short a work slice, with 4 a value that isn't finite or has size above 2^150.
 // Work's first slots, one for each value, then hold anything; the others, and all of them at a refusal, are unchanged.
 pub fn median_of(values: &[f64], work: &mut [f64]) -> Answer
-    ensures { λ r. ⌜ Answered (medianRefusal (now (values .entry)) (length (now (work .entry)))) (medianOf (now (values .entry))) (now (values .entry)) (now (work .entry)) r (now (work .exit)) ⌝ }
+    ensures { λ r. ⌜ MedianPromise (now (values .entry)) (now (work .entry)) r (now (work .exit)) ⌝ }
 {
     let no = refusal(values, true, work.len());
     if no != 0 {
@@ -32,10 +32,10 @@ pub fn median_of(values: &[f64], work: &mut [f64]) -> Answer
 }
 
 // The median of the distances |value - median| from a given median. Lend as many slots of work as there are values.
-// Refuses with 1 an empty list, with 3 too short a work slice, with 4 a value or a median that isn't finite or is larger than 2^150.
+// Refuses with 1 an empty list, with 3 too short a work slice, with 4 a value or a median that isn't finite or has size above 2^150.
 // Work's first slots, one for each value, then hold anything; the others, and all of them at a refusal, are unchanged.
 pub fn mad_of(values: &[f64], median: f64, work: &mut [f64]) -> Answer
-    ensures { λ r. ⌜ Answered (madRefusal (now (values .entry)) median (length (now (work .entry)))) (madOf (now (values .entry)) median) (now (values .entry)) (now (work .entry)) r (now (work .exit)) ⌝ }
+    ensures { λ r. ⌜ MadPromise (now (values .entry)) median (now (work .entry)) r (now (work .exit)) ⌝ }
 {
     let no = refusal(values, numbers::value_fine(median), work.len());
     if no != 0 {

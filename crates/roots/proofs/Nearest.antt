@@ -2,15 +2,15 @@
 -- pattern n whose square is a * 2 ^ 54 * (2 ^ p * 2 ^ p) / 4, and each n has such a and p. So `rootBits n` is nearest. Assumes nothing.
 use mathlib.Core.Path.{_≡_, refl, sym, ap, _∙_}
 use Prim.Native.Nat.{ℕ, zero, suc, _+_, _-_, _*_, _/_, _%_, _^_, _≤_, _<_}
-use native.Mathlib.Nat.{add-mul, mul-assoc, mul-comm, mul-left-comm, one-mul, lt-of-lt-of-le, mul-pos, mul-le-mul, mul-le-mul-left, mul-le-mul-right, le-trans, le-refl, mul-lt-mul-of-pos-right, pow-suc, le-div-iff-mul-le, div-lt-iff-lt-mul, le-antisymm}
+use native.Mathlib.Nat.{add-mul, mul-assoc, mul-comm, mul-left-comm, mul-pos, mul-le-mul-right, mul-lt-mul-of-pos-right, pow-suc, le-div-iff-mul-le, div-lt-iff-lt-mul}
 use native.Mathlib.Decide.{decLt}
 use native.Mathlib.Omega.{arith}
 use mathlib.Core.Bool.{Bool, true, false, _&&_}
-use lib.Dec.{leb, ltb, lit<, lit≤}
+use lib.Dec.{leb, ltb, lit≤}
 use lib.Pow.{pow-add, pow-pos, pow-mono}
 use borrow.Author.Tests.{ltb-true, leb-true, lt-ltb, le-ltb, le-leb}
 use lib.Ieee.{size}
-use lib.Ieee.Digits.{size-le, size-reaches, size-lt}
+use lib.Ieee.Digits.{size-le, size-lt}
 use Rattle.roots.specs.Roots.{sizeOf, squareOf, NearestRoot, nearestWhole, wholeRoot, rootBits}
 use Rattle.roots.proofs.Whole.{Root, whole-root, root-cut, sq-mono, sq-mul, twice-sq, twice-one-sq, succ-sq}
 
@@ -157,7 +157,7 @@ regroup m k c d = simp (mul-assoc, mul-comm, mul-left-comm)
 
 -- powers of more digits than omega takes go by hand
 four : (x c d : ℕ) → 4 * c ≡ d → 4 * (x * c) ≡ d * x
-four x c d e = rw (← e) (simp (mul-assoc, mul-comm, mul-left-comm))
+four x c d e = rw (← e) (simp (mul-assoc, mul-comm))
 
 even-square : (m j : ℕ) → 4 * (m * 2 ^ (j + j) * 2 ^ 1074) ≡ m * 2 ^ 54 * (2 ^ (j + 511) * 2 ^ (j + 511))
 even-square m j =
@@ -267,14 +267,6 @@ long s p h k = go (decLt (53 + p) (size s))
     go (no l) = let m : size s ≤ 53 + p = omega arith in let u : 2 ^ size s ≤ 2 ^ (53 + p) = pow-mono m in absurd (omega (arith, least, size-lt s))
 
 module _ (n a p : ℕ) (lo : 2 ^ 52 ≤ a) (s : Split n a p) where
-  in-reach : 4 * squareOf n < 4 ^ 1587
-  in-reach =
-      let x : a * 2 ^ 54 < 2 ^ 108 = omega arith in
-      let u : 2 ^ p ≤ 2 ^ 1533 = pow-mono (s .few) in
-      let y : a * 2 ^ 54 * (2 ^ p * 2 ^ p) < 2 ^ 108 * (2 ^ p * 2 ^ p) = mul-lt-mul-of-pos-right x (mul-pos (pow-pos p) (pow-pos p)) in
-      let z : 2 ^ 108 * (2 ^ p * 2 ^ p) ≤ 2 ^ 108 * (2 ^ 1533 * 2 ^ 1533) = mul-le-mul-left (2 ^ 108) (mul-le-mul u u) in
-      rw (s .is) (lt-of-lt-of-le y z)
-
   halved : (w : ℕ) → Root (4 * squareOf n) w → NearestRoot n ((w / 2 ^ (size w - 54) + 1) / 2 + (size w - 54) * 2 ^ 52)
   halved w h =
       let r = w / 2 ^ p in
@@ -285,4 +277,4 @@ module _ (n a p : ℕ) (lo : 2 ^ 52 ≤ a) (s : Split n a p) where
 
   pub split-nearest : NearestRoot n (rootBits n)
   unfolding rootBits
-  split-nearest = halved (wholeRoot 1587 (4 * squareOf n)) (whole-root 1587 (4 * squareOf n) in-reach)
+  split-nearest = halved (wholeRoot (4 * squareOf n)) (whole-root (4 * squareOf n))

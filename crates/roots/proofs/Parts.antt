@@ -3,7 +3,7 @@ use mathlib.Core.Path.{_≡_, refl, sym, ap, _∙_}
 use Prim.Native.Nat.{ℕ, _+_, _-_, _*_, _/_, _%_, _^_, _≤_, _<_}
 use native.Mathlib.Nat.{add-mul, mul-add, mul-assoc, mul-comm, mul-left-comm, mul-le-mul}
 use native.Mathlib.Omega.{arith}
-use mathlib.Core.Bool.{Bool, true, false, _&&_}
+use mathlib.Core.Bool.{Bool, true, false}
 use lib.Dec.{leb, ltb}
 use borrow.Author.Tests.{lt-ltb, le-ltb, lt-leb, leb-true, leb-false}
 use Rattle.roots.specs.Roots.{nearestWhole}
@@ -36,9 +36,9 @@ product a b m n h k = mul-le-mul h k
 
 sum-square : (p q : ℕ) → (p * 2 ^ 26 + q) * (p * 2 ^ 26 + q) ≡ p * p * 2 ^ 52 + p * q * 2 ^ 27 + q * q
 sum-square p q =
-    let a : p * 2 ^ 26 * (p * 2 ^ 26) ≡ p * p * 2 ^ 52 = simp (mul-assoc, mul-comm, mul-left-comm) (omega arith) in
-    let b : p * 2 ^ 26 * q ≡ p * q * 2 ^ 26 = simp (mul-assoc, mul-comm, mul-left-comm) in
-    let d : q * (p * 2 ^ 26) ≡ p * q * 2 ^ 26 = simp (mul-assoc, mul-comm, mul-left-comm) in
+    let a : p * 2 ^ 26 * (p * 2 ^ 26) ≡ p * p * 2 ^ 52 = simp (mul-assoc, mul-left-comm) (omega arith) in
+    let b : p * 2 ^ 26 * q ≡ p * q * 2 ^ 26 = simp (mul-assoc, mul-comm) in
+    let d : q * (p * 2 ^ 26) ≡ p * q * 2 ^ 26 = simp (mul-assoc, mul-left-comm) in
     simp (add-mul, mul-add) (omega (arith, a, b, d))
 
 pub parts : (y : ℕ) → y < 2 ^ 53 → Parts y

@@ -1,12 +1,12 @@
 -- Sizes grow with the pattern, so roots do, and the nearest root is one pattern. `rootBits` is it. Assumes nothing.
-use mathlib.Core.Path.{_≡_, refl, sym, ap, _∙_}
+use mathlib.Core.Path.{_≡_, refl, sym}
 use Prim.Native.Nat.{ℕ, zero, suc, _+_, _-_, _*_, _/_, _%_, _^_, _≤_, _<_}
-use native.Mathlib.Nat.{mul-le-mul-left, mul-le-mul-right, mul-lt-mul-of-pos-right, le-trans, le-of-lt, le-refl, le-antisymm}
+use native.Mathlib.Nat.{mul-le-mul-left, mul-le-mul-right, mul-lt-mul-of-pos-right, le-trans, le-of-lt, le-of-eq, le-refl, le-antisymm}
 use native.Mathlib.Decide.{decLt}
 use native.Mathlib.Omega.{arith}
 use lib.Pow.{pow-add, pow-pos}
 use Rattle.roots.specs.Roots.{sizeOf, squareOf, NearestRoot, rootBits}
-use Rattle.roots.proofs.Whole.{sq-mono}
+use Rattle.roots.proofs.Whole.{sq-mono, twice-sq}
 use Rattle.roots.proofs.Nearest.{size-at, size-small, Lift, lift-start, lift-some, lift-step, split-even, split-odd, split-nearest}
 
 -- ---- sizes
@@ -52,6 +52,31 @@ nearest-mono n m r s p q h = go (decLt s r)
 
 pub nearest-unique : (n r s : ℕ) → NearestRoot n r → NearestRoot n s → r ≡ s
 nearest-unique n r s p q = le-antisymm (nearest-mono n n r s p q (le-refl _)) (nearest-mono n n s r q p (le-refl _))
+
+-- ---- a root against any float: told by its square
+double : (a b c : ℕ) → a ≤ c → b ≤ c → (a + b) * (a + b) ≤ 4 * (c * c)
+double a b c h k = let e : a + b ≤ c * 2 = omega arith in le-trans (sq-mono e) (le-of-eq (twice-sq c))
+
+double-up : (a b c : ℕ) → c ≤ a → c ≤ b → 4 * (c * c) ≤ (a + b) * (a + b)
+double-up a b c h k = let e : c * 2 ≤ a + b = omega arith in le-trans (le-of-eq (sym (twice-sq c))) (sq-mono e)
+
+round-trip : (x y z : ℕ) → x < y → y ≤ z → z ≤ x → ⊥
+round-trip x y z a b c = omega arith
+
+module _ (n r q : ℕ) (p : NearestRoot n r) where
+  pub root-most : squareOf n ≤ sizeOf q * sizeOf q → r ≤ q
+  root-most h = go (decLt q r)
+    where
+      go : Dec (q < r) → r ≤ q
+      go (yes l) = absurd (round-trip _ _ _ (p .above) (mul-le-mul-left 4 h) (double-up (sizeOf (r - 1)) (sizeOf r) (sizeOf q) (size-mono q (r - 1) (omega arith)) (size-mono q r (omega arith))))
+      go (no l) = omega arith
+
+  pub root-least : sizeOf q * sizeOf q ≤ squareOf n → q ≤ r
+  root-least h = go (decLt r q)
+    where
+      go : Dec (r < q) → q ≤ r
+      go (yes l) = absurd (round-trip _ _ _ (p .below) (double (sizeOf r) (sizeOf (r + 1)) (sizeOf q) (size-mono r q (omega arith)) (size-mono (r + 1) q (omega arith))) (mul-le-mul-left 4 h))
+      go (no l) = omega arith
 
 -- ---- the root of every finite float above zero
 lift-nearest : (k n a p : ℕ) → p ≡ k + 485 → Lift n a p → NearestRoot n (rootBits n)

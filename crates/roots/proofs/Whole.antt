@@ -1,22 +1,23 @@
--- The whole root of a number: there is one, `wholeRoot` is it, and the digits of `root_by_digits` are its. Assumes nothing.
-use mathlib.Core.Path.{_≡_, refl, sym, ap, _∙_}
+-- The whole part of a root: `wholeRoot` is it, it may be cut with its number, and `root_by_digits` finds it. Assumes nothing.
+use mathlib.Core.Path.{_≡_, refl, _∙_}
 use Prim.Native.Nat.{ℕ, zero, suc, _+_, _-_, _*_, _/_, _%_, _^_, _≤_, _<_}
 use native.Mathlib.Nat.{add-mul, mul-add, mul-assoc, mul-comm, mul-left-comm, mul-one, one-mul, le-trans, lt-of-lt-of-le, mul-pos, mul-le-mul, div-mul-le-self, div-lt-iff-lt-mul, le-of-mul-le-mul-right, lt-of-mul-lt-mul-right, pow-suc}
-use native.Mathlib.Decide.{decLt}
 use native.Mathlib.Omega.{arith}
 use mathlib.Core.Bool.{Bool, true, false}
 use lib.Dec.{leb}
 use lib.Pow.{pow-mono, pow-add, pow-pos}
+use lib.Ieee.{size}
+use lib.Ieee.Digits.{size-lt}
 use borrow.Author.Tests.{leb-true, leb-false}
 use Rattle.numbers.specs.Rounded.{pick}
-use Rattle.roots.specs.Roots.{wholeRoot}
+use Rattle.roots.specs.Roots.{rootDigits, wholeRoot}
 
 -- ---- squares
 pub sq-mono : {a b : ℕ} → a ≤ b → a * a ≤ b * b
 sq-mono h = mul-le-mul h h
 
 pub sq-mul : (x u : ℕ) → x * u * (x * u) ≡ x * x * (u * u)
-sq-mul x u = simp (mul-assoc, mul-comm, mul-left-comm)
+sq-mul x u = simp (mul-assoc, mul-left-comm)
 
 pub twice-sq : (r : ℕ) → r * 2 * (r * 2) ≡ 4 * (r * r)
 twice-sq r = sq-mul r 2 ∙ mul-comm (r * r) 4
@@ -36,18 +37,29 @@ next-root : (n s : ℕ) (b : Bool) → leb ((s + 1) * (s + 1)) n ≡ b → s * s
 next-root n s true e h k = record { most = leb-true _ _ e; next = let q : s + 1 + 1 ≡ s + 2 = omega arith in rw q k }
 next-root n s false e h k = record { most = h; next = leb-false _ _ e }
 
-pub whole-root : (k n : ℕ) → n < 4 ^ k → Root n (wholeRoot k n)
-unfolding wholeRoot
-whole-root zero n h = let e : n ≡ 0 = omega arith in rw e (record { most = omega arith; next = omega arith })
-whole-root (suc k) n h =
-    let r = wholeRoot k (n / 4) in
+root-digits : (k n : ℕ) → n < 4 ^ k → Root n (rootDigits k n)
+unfolding rootDigits
+root-digits zero n h = let e : n ≡ 0 = omega arith in rw e (record { most = omega arith; next = omega arith })
+root-digits (suc k) n h =
+    let r = rootDigits k (n / 4) in
     let q : n / 4 < 4 ^ k = omega (arith, pow-suc 4 k) in
-    let p = whole-root k (n / 4) q in
+    let p = root-digits k (n / 4) q in
     let e : 2 * r ≡ r * 2 = omega arith in
     let f : 2 * r + 2 ≡ (r + 1) * 2 = omega arith in
     let lo : 2 * r * (2 * r) ≤ n = rw e (omega (arith, twice-sq r, p .most)) in
     let hi : n < (2 * r + 2) * (2 * r + 2) = rw f (omega (arith, twice-sq (r + 1), p .next)) in
     next-root n (2 * r) (leb ((2 * r + 1) * (2 * r + 1)) n) refl lo hi
+
+four-power : (k : ℕ) → 4 ^ k ≡ 2 ^ (k + k)
+four-power zero = refl
+four-power (suc k) = let e : suc k + suc k ≡ k + k + 2 = omega arith in pow-suc 4 k ∙ rw (four-power k, e, pow-add 2 (k + k) 2)
+
+pub whole-root : (n : ℕ) → Root n (wholeRoot n)
+unfolding wholeRoot
+whole-root n =
+    let k = size n / 2 + 1 in
+    let l : size n ≤ k + k = omega arith in
+    root-digits k n (rw (four-power k) (lt-of-lt-of-le (size-lt n) (pow-mono l)))
 
 -- a whole root less its last p binary digits is the whole root of the number less 2 * p of them
 pub root-cut : (m p s : ℕ) → Root (m * (2 ^ p * 2 ^ p)) s → Root m (s / 2 ^ p)

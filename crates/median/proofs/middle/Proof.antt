@@ -1,6 +1,6 @@
 -- `median::middle` meets its contract: arranged from the middle on, the list is split there, and a list with the same entries that is split at the
 -- middle has the median there. Assumes nothing.
-use Prim.Native.Nat.{_/_, _<_}
+use Prim.Native.Nat.{_/_}
 use native.Mathlib.Omega.{arith}
 use borrow.Author.Needs.{needs}
 use lib.ListN.{length}

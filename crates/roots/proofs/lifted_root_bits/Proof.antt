@@ -1,13 +1,10 @@
-use mathlib.Core.Path.{_≡_}
-use Prim.Native.Nat.{_+_, _*_, _^_}
+-- `roots::lifted_root_bits` meets its contract. The invariant: a and the power are n's square split (`Lift`), with room for the fours to come. The
+-- measure is the power. At the end the pattern is nearest, and so is the definition's, and there is one nearest (`root-is`). Assumes nothing.
 use native.Mathlib.Omega.{arith}
-use Rattle.roots.proofs.Nearest.{Lift, lift-start, lift-some, lift-step, near-of, near-high, near-nearest}
+use Rattle.roots.proofs.Nearest.{Lift, lift-start, lift-step, near-of, near-high, near-nearest}
 use Rattle.roots.proofs.Unique.{root-is}
 use Rattle.roots.proofs.lifted_root_bits.Statement.{statement}
 use Rattle.roots.proofs.lifted_root_bits.Tie as tie
-use Rattle.roots.proofs.lifted_root_bits.Reads as reads
-use Rattle.roots.proofs.lifted_root_bits.Lts as lts
-use Rattle.roots.proofs.nearest_whole.Reads as nearest-whole-reads
 
 abbrev Inv-loop : tie.InvT-loop
 Inv-loop n a₀ power₀ a power = Lift n a power
@@ -15,42 +12,33 @@ Inv-loop n a₀ power₀ a power = Lift n a power
 abbrev μ-loop : tie.MeasureT-loop
 μ-loop n a₀ power₀ a power = power
 
--- src/lib.rt:102:5
 loop-holds : tie.Need-loop-holds Inv-loop μ-loop
 loop-holds c = lift-start _ (c .pre .0) (c .pre .1)
 
--- src/lib.rt:103:13
 mul-a : tie.Need-mul-a Inv-loop μ-loop
 mul-a c = omega arith
 
--- src/lib.rt:104:17
 sub-power : tie.Need-sub-power Inv-loop μ-loop
 sub-power c = omega arith
 
--- src/lib.rt:102:5
 loop-less : tie.Need-loop-less Inv-loop μ-loop
 loop-less c = omega arith
 
--- src/lib.rt:102:5
 loop-again : tie.Need-loop-again Inv-loop μ-loop
 loop-again c = lift-step _ _ _ (c .before .loop .inv) (c .loop-test .taken)
 
--- src/lib.rt:106:5
 nearest-whole-requires : tie.Need-nearest-whole-requires Inv-loop μ-loop
 nearest-whole-requires c κs = omega arith
 
--- src/lib.rt:106:24
 mul-result : tie.Need-mul-result Inv-loop μ-loop
 mul-result c = omega arith
 
--- src/lib.rt:106:5
 add-result : tie.Need-add-result Inv-loop μ-loop
 add-result c =
     let l = c .before .before in
     let s = l .loop .inv .split in
     omega (arith, near-high _ _ (c .before .loop-test .left) (s .high) (near-of _ _ (c .nearest-whole .ensures)))
 
--- src/lib.rt:96:1
 returns : tie.Need-returns Inv-loop μ-loop
 returns c =
     let l = c .before .before in

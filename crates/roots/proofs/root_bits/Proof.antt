@@ -1,38 +1,29 @@
-use mathlib.Core.Path.{_≡_}
+-- `roots::root_bits` meets its contract. The digits, doubled where the power is odd, split n's square (`split-even`, `split-odd`), so the pattern is
+-- nearest, and there is one nearest (`root-is`). Assumes nothing.
 use mathlib.Core.Logic.{⊎-elim}
-use Prim.Native.Nat.{_+_, _-_, _*_, _/_, _^_, _≤_}
+use Prim.Native.Nat.{_+_, _-_, _/_, _^_, _≤_}
 use native.Mathlib.Omega.{arith}
 use borrow.Author.Needs.{needs}
 use Rattle.roots.proofs.Nearest.{Split, split-even, split-odd, near-of, near-high, near-nearest}
 use Rattle.roots.proofs.Unique.{root-is}
 use Rattle.roots.proofs.root_bits.Statement.{statement}
 use Rattle.roots.proofs.root_bits.Tie as tie
-use Rattle.roots.proofs.root_bits.Reads as reads
-use Rattle.roots.proofs.root_bits.Lts as lts
-use Rattle.roots.proofs.lifted_root_bits.Reads as lifted-root-bits-reads
-use Rattle.roots.proofs.nearest_whole.Reads as nearest-whole-reads
 
--- src/lib.rt:115:9
 lifted-root-bits-requires : tie.Need-lifted-root-bits-requires
 lifted-root-bits-requires c κs = search needs
 
--- src/lib.rt:115:9
 returns : tie.Need-returns
 returns c = search needs
 
--- src/lib.rt:117:17
 sub-power : tie.Need-sub-power
 sub-power c = search needs
 
--- src/lib.rt:118:18
 add-digits : tie.Need-add-digits
 add-digits c = search needs
 
--- src/lib.rt:119:49
 mul-a : tie.Need-mul-a
 mul-a c = search needs
 
--- src/lib.rt:120:5
 -- the digits, doubled where the power is odd
 split : (c : tie.Joined2) → (2 ^ 52 ≤ c .if2 .a) × Split (c .before .before .args .n) (c .if2 .a) ((c .before .before .args .n / 2 ^ 52 - 1) / 2 + 511)
 split c =
@@ -45,19 +36,15 @@ split c =
 nearest-whole-requires : tie.Need-nearest-whole-requires
 nearest-whole-requires c κs = let s = split c in (s .0, s .1 .high)
 
--- src/lib.rt:120:25
 add-result : tie.Need-add-result
 add-result c = search needs
 
--- src/lib.rt:120:24
 mul-result : tie.Need-mul-result
 mul-result c = search needs
 
--- src/lib.rt:120:5
 add-result-2 : tie.Need-add-result-2
 add-result-2 c = let s = split (c .before) in omega (arith, near-high _ _ (s .0) (s .1 .high) (near-of _ _ (c .nearest-whole .ensures)))
 
--- src/lib.rt:110:1
 returns-2 : tie.Need-returns-2
 returns-2 c =
     let s = split (c .before) in

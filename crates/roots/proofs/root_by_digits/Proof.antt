@@ -1,7 +1,7 @@
 -- `roots::root_by_digits` meets its contract. The invariant is the schoolbook's: the square of the root so far, with the rest, is a's leading digits
 -- (`Digits`). The measure is the turns left. Assumes nothing.
-use mathlib.Core.Path.{_≡_, refl, sym, ap, subst, _∙_}
-use Prim.Native.Nat.{_-_, _^_, _<_}
+use mathlib.Core.Path.{_≡_}
+use Prim.Native.Nat.{_-_, _<_}
 use native.Mathlib.Omega.{arith}
 use Rattle.roots.proofs.Whole.{Digits, digit-one, digit-zero, digits-end}
 use mathlib.Core.Logic.{⊎-elim}

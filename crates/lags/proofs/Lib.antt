@@ -1,0 +1,8 @@
+-- The laws that other crates cite.
+pub mod Products
+pub mod Weights
+pub mod Searches
+pub mod Ranges
+pub mod Tenth
+pub mod Marks
+mod FiniteTest

@@ -1,0 +1,30 @@
+-- `lags::curves::clarity_of` meets its contract: each step is the definition's. Assumes nothing.
+use mathlib.Core.Path.{_≡_, _∙_}
+use Rattle.lags.specs.Curves.{clarityOf}
+use borrow.Author.Needs.{needs}
+use Rattle.lags.proofs.curves.clarity_of.Statement.{statement}
+use Rattle.lags.proofs.curves.clarity_of.Tie as tie
+use Rattle.lags.proofs.curves.clarity_of.Reads as reads
+use Rattle.lags.proofs.curves.clarity_of.Lts as lts
+use Rattle.lags.proofs.curves.unit_of.Reads as unit-of-reads
+
+float-of-requires : tie.Need-float-of-requires
+float-of-requires c κs = search needs
+
+sub-float-of : tie.Need-sub-float-of
+sub-float-of c = search needs
+
+float-of-requires-2 : tie.Need-float-of-requires-2
+float-of-requires-2 c κs = search needs
+
+unit-of-requires : tie.Need-unit-of-requires
+unit-of-requires c κs = search needs
+
+returns : tie.Need-returns
+unfolding clarityOf
+returns c = c .unit-of .ensures ∙ rw (c .before .float-of2 .ensures, c .before .before .float-of .ensures)
+
+pub clarity-of-spec : {M : Type 1} → statement M
+clarity-of-spec =
+    tie.close
+    (tie.spec float-of-requires sub-float-of float-of-requires-2 unit-of-requires returns)

@@ -1,0 +1,112 @@
+-- Document 01, Tempo and candidates: the two lag curves, clarity and weight. Slot i of a curve is the lag min_lag + i.
+use Prim.Native.Nat.{ℕ, _+_, _-_}
+use mathlib.Core.List.{List}
+use lib.ListN.{length, getD}
+use lib.Ieee.{Float, nan, neg}
+use Rattle.numbers.specs.Rounded.{_⊕_, _⊖_, _⊗_, _⊘_, bits, real, nought, sumOf, held}
+use Rattle.numbers.specs.Lists.{curve}
+use Rattle.floats.specs.Logs.{log2Of}
+use Rattle.floats.specs.Exps.{expOf}
+use Rattle.lags.specs.declared.curves.Eight.{Eight}
+use Rattle.lags.specs.Lags.{one, bpmAt}
+
+-- the mean of an envelope
+unfoldable pub meanOf : List Float → Float
+meanOf env = sumOf env ⊘ real (length env)
+
+-- the slot at t less the mean
+abbrev pub centred : List Float → Float → ℕ → Float
+centred env mean t = getD env t nan ⊖ mean
+
+-- "centred products a lag apart"
+unfoldable pub productAt : List Float → Float → ℕ → ℕ → Float
+productAt env mean lag t = centred env mean t ⊗ centred env mean (t + lag)
+
+-- their sum, over every t with both slots in the envelope
+unfoldable pub lagSum : List Float → Float → ℕ → Float
+unfolding productAt
+lagSum env mean lag = sumOf (curve (productAt env mean lag) (length env - lag))
+
+-- "the sum of squares about the mean ac0": the sum at lag 0
+unfoldable pub energyOf : List Float → Float → Float
+unfolding lagSum
+energyOf env mean = lagSum env mean 0
+
+-- "Clarity at a lag: (sum·n)/(ac0·(n-lag)) .. held to 0..1", where the envelope has n slots
+unfoldable pub clarityOf : Float → Float → ℕ → ℕ → Float
+unfolding held
+clarityOf sum ac0 n lag = held nought one (sum ⊗ real n ⊘ (ac0 ⊗ real (n - lag)))
+
+unfoldable pub clarityAt : List Float → (mean ac0 : Float) → ℕ → Float
+unfolding lagSum clarityOf
+clarityAt env mean ac0 lag = clarityOf (lagSum env mean lag) ac0 (length env) lag
+
+-- 120, the tempo that is preferred
+abbrev pub centre : Float
+centre = bits 0x405E_0000_0000_0000
+
+-- 1.3, the width of the preference, in octaves
+abbrev pub width : Float
+width = bits 0x3FF4_CCCC_CCCC_CCCD
+
+-- 0.5
+abbrev pub half : Float
+half = bits 0x3FE0_0000_0000_0000
+
+-- "exp(-0.5·z·z), z = log2(bpm/120)/1.3"
+unfoldable pub priorOf : Float → Float
+priorOf bpm = let z = log2Of (bpm ⊘ centre) ⊘ width in expOf (neg half ⊗ z ⊗ z)
+
+-- "with bpm = f·60/lag"
+unfoldable pub priorAt : ℕ → ℕ → Float
+unfolding priorOf
+priorAt rate lag = priorOf (bpmAt rate lag)
+
+-- the clarity "weighted by" the prior
+unfoldable pub weightAt : List Float → (mean ac0 : Float) → (rate lag : ℕ) → Float
+unfolding clarityAt priorAt
+weightAt env mean ac0 rate lag = clarityAt env mean ac0 lag ⊗ priorAt rate lag
+
+-- the rules of the curves, from the lag minLag on
+abbrev pub clarityFrom : List Float → (mean ac0 : Float) → (minLag : ℕ) → ℕ → Float
+clarityFrom env mean ac0 minLag i = clarityAt env mean ac0 (minLag + i)
+
+abbrev pub weightFrom : List Float → (mean ac0 : Float) → (rate minLag : ℕ) → ℕ → Float
+weightFrom env mean ac0 rate minLag i = weightAt env mean ac0 rate (minLag + i)
+
+abbrev pub priorFrom : (rate minLag : ℕ) → ℕ → Float
+priorFrom rate minLag i = priorAt rate (minLag + i)
+
+-- the rules of the weights of a clarity curve: by the rate, and by a curve of priors
+abbrev pub weighted : List Float → (rate minLag : ℕ) → ℕ → Float
+weighted clarity rate minLag i = getD clarity i nan ⊗ priorAt rate (minLag + i)
+
+abbrev pub weightedBy : (clarity priors : List Float) → ℕ → Float
+weightedBy clarity priors i = getD clarity i nan ⊗ getD priors i nan
+
+-- ---- eight lags side by side
+
+-- eight entries of a rule, from entry i on
+abbrev pub eightBy : (ℕ → Float) → ℕ → Eight
+eightBy r i =
+    record { a = r i; b = r (i + 1); c = r (i + 2); d = r (i + 3); e = r (i + 4); f = r (i + 5); g = r (i + 6); h = r (i + 7) }
+
+-- the sums at eight lags from `lag` on, over the times below t
+unfoldable pub eightSums : List Float → Float → ℕ → ℕ → Eight
+unfolding productAt
+eightSums env mean lag t = eightBy (λ l. sumOf (curve (productAt env mean l) t)) lag
+
+-- the sums s with one product more each: that of v with the centred slots from `at` on
+abbrev pub eightMore : Eight → Float → List Float → Float → ℕ → Eight
+eightMore s v env mean at =
+    let y = eightBy (centred env mean) at in
+    record {
+      a = s .a ⊕ v ⊗ y .a;
+      b = s .b ⊕ v ⊗ y .b;
+      c = s .c ⊕ v ⊗ y .c;
+      d = s .d ⊕ v ⊗ y .d;
+      e = s .e ⊕ v ⊗ y .e;
+      f = s .f ⊕ v ⊗ y .f;
+      g = s .g ⊕ v ⊗ y .g;
+      h = s .h ⊕ v ⊗ y .h;
+    }

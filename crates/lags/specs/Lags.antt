@@ -1,0 +1,84 @@
+-- Document 01, Tempo and candidates: the lags, in frames, that two bounds in beats a minute stand for.
+use Prim.Native.Nat.{ℕ, _+_, _-_, max}
+use mathlib.Core.Bool.{Bool, _&&_}
+use lib.Ieee.{Float, lt, le}
+use lib.Ieee.Scale.{finite}
+use Rattle.numbers.specs.Rounded.{_⊕_, _⊗_, _⊘_, bits, real, pick}
+use Rattle.numbers.specs.Limits.{rateFine}
+use Rattle.numbers.specs.Refusals.{outOfBounds}
+use Rattle.floats.specs.Wholes.{roundOf}
+use Rattle.lags.specs.declared.TempoOpts.{TempoOpts}
+use Rattle.lags.specs.declared.LagRange.{LagRange}
+
+-- 1
+abbrev pub one : Float
+one = bits 0x3FF0_0000_0000_0000
+
+-- 60, seconds of a minute
+abbrev pub sixty : Float
+sixty = bits 0x404E_0000_0000_0000
+
+-- 256, samples of a frame
+abbrev pub hop : Float
+hop = bits 0x4070_0000_0000_0000
+
+-- "Swap if reversed": the lower and the upper bound. They are compared as IEEE 754 does, so that a NaN would swap them.
+unfoldable pub lowerBound : TempoOpts → Float
+lowerBound o = pick (le (o .«min_bpm») (o .«max_bpm»)) (o .«min_bpm») (o .«max_bpm»)
+
+unfoldable pub upperBound : TempoOpts → Float
+upperBound o = pick (le (o .«min_bpm») (o .«max_bpm»)) (o .«max_bpm») (o .«min_bpm»)
+
+-- max(x, least): x where it is above least, and else least, also where x is a NaN
+unfoldable pub noLess : (least x : Float) → Float
+noLess least x = pick (lt least x) x least
+
+-- "lo = max(lo, 1)"
+unfoldable pub lowBpm : TempoOpts → Float
+unfolding lowerBound noLess
+lowBpm o = noLess one (lowerBound o)
+
+-- "hi = max(hi, lo + 1)"
+unfoldable pub highBpm : TempoOpts → Float
+unfolding upperBound noLess lowBpm
+highBpm o = noLess (lowBpm o ⊕ one) (upperBound o)
+
+-- "With frame rate f = rate/256": f·60, frames a minute
+unfoldable pub framesPerMinute : ℕ → Float
+framesPerMinute rate = real rate ⊘ hop ⊗ sixty
+
+-- f·60/x: the lag of a tempo x in beats a minute, and the tempo of a lag x in frames
+unfoldable pub minuteOver : ℕ → Float → Float
+unfolding framesPerMinute
+minuteOver rate x = framesPerMinute rate ⊘ x
+
+-- "bpm = f·60/lag", the tempo of a lag
+unfoldable pub bpmAt : ℕ → ℕ → Float
+unfolding minuteOver
+bpmAt rate lag = minuteOver rate (real lag)
+
+-- "min_lag = max(1, round(f·60/hi))"
+unfoldable pub minLag : ℕ → TempoOpts → ℕ
+unfolding highBpm minuteOver roundOf
+minLag rate o = max 1 (roundOf (minuteOver rate (highBpm o)))
+
+-- "max_lag = max(min_lag + 1, round(f·60/lo))"
+unfoldable pub maxLag : ℕ → TempoOpts → ℕ
+unfolding lowBpm minuteOver roundOf minLag
+maxLag rate o = max (minLag rate o + 1) (roundOf (minuteOver rate (lowBpm o)))
+
+-- "L = max_lag - min_lag + 1", the slots of a lag curve
+abbrev pub lagRoom : (minLag maxLag : ℕ) → ℕ
+lagRoom minLag maxLag = maxLag - minLag + 1
+
+-- what number 1 looks at: "Sample rate 1 to 192,000", "BPM bounds finite"
+unfoldable pub boundsFine : ℕ → TempoOpts → Bool
+boundsFine rate o = rateFine rate && (finite (o .«min_bpm») && finite (o .«max_bpm»))
+
+-- the answer of `lag_range`: number 0 and both lags, or number 1 and zeros
+unfoldable pub lagRange : ℕ → TempoOpts → LagRange
+unfolding boundsFine minLag maxLag
+lagRange rate o =
+    pick (boundsFine rate o)
+    (record { number = 0; «min_lag» = minLag rate o; «max_lag» = maxLag rate o })
+    (record { number = outOfBounds; «min_lag» = 0; «max_lag» = 0 })

@@ -1,0 +1,4 @@
+pub mod Options
+pub mod Lags
+pub mod Pairs
+pub mod Curves

@@ -1,0 +1,289 @@
+// The lag curves: how much an envelope resembles itself a lag later, and that weighted by how likely the tempo is.
+//
+// Document 01, Tempo and candidates. The Rust: tempo.rs `pick_tempo_peaks` and `tempo_prior_weight`. A centred value has no room of
+// its own: it is computed again where it is used.
+use crate::bpm_at;
+use crate::float_of;
+use floats::exps::exp;
+use floats::logs::log2;
+ghost use mathlib.Core.Path.{_≡_};
+ghost use mathlib.Core.List.{List};
+ghost use Prim.Native.Nat.{ℕ, _+_, _-_, _≤_, _<_, _%_};
+ghost use lib.ListN.{length, getD};
+ghost use lib.Ieee.{nan};
+ghost use Rattle.numbers.specs.Rounded.{_⊗_, real, nought, sumOf, held};
+ghost use Rattle.numbers.specs.Limits.{mostPeriod};
+ghost use Rattle.numbers.specs.Lists.{curve, filled};
+ghost use Rattle.lags.specs.Lags.{one, lagRoom};
+ghost use Rattle.lags.specs.Curves.{
+  meanOf,
+  centred,
+  productAt,
+  lagSum,
+  energyOf,
+  clarityOf,
+  clarityAt,
+  clarityFrom,
+  priorOf,
+  priorAt,
+  priorFrom,
+  weightFrom,
+  weighted, weightedBy,
+  eightSums,
+  eightMore,
+};
+
+// Inner: the mean of an envelope.
+pub fn mean_of(envelope: &[f64]) -> f64
+    ensures { λ r. ⌜ r ≡ meanOf (now (envelope .entry)) ⌝ }
+{
+    let mut sum = 0.0;
+    let mut i = 0;
+    while i < envelope.len() {
+        sum = sum + envelope[i];
+        i += 1;
+    }
+    sum / float_of(envelope.len())
+}
+
+// The sum of centred products a lag apart from time `from` on, where `sum` has those before it.
+fn lag_rest(envelope: &[f64], mean: f64, lag: usize, from: usize, sum: f64) -> f64
+    requires { ⌜ (lag + from ≤ length (now envelope)) × (sum ≡ sumOf (curve (productAt (now envelope) mean lag) from)) ⌝ }
+    ensures { λ r. ⌜ r ≡ lagSum (now (envelope .entry)) mean lag ⌝ }
+{
+    let n = envelope.len() - lag;
+    let mut z = sum;
+    let mut t = from;
+    while t < n {
+        z = z + (envelope[t] - mean) * (envelope[t + lag] - mean);
+        t += 1;
+    }
+    z
+}
+
+// Inner: the sum of centred products a lag apart.
+pub fn lag_sum(envelope: &[f64], mean: f64, lag: usize) -> f64
+    requires { ⌜ lag ≤ length (now envelope) ⌝ }
+    ensures { λ r. ⌜ r ≡ lagSum (now (envelope .entry)) mean lag ⌝ }
+{
+    lag_rest(envelope, mean, lag, 0, 0.0)
+}
+
+// Inner: the sum of squares about the mean.
+pub fn energy_of(envelope: &[f64], mean: f64) -> f64
+    ensures { λ r. ⌜ r ≡ energyOf (now (envelope .entry)) mean ⌝ }
+{
+    lag_sum(envelope, mean, 0)
+}
+
+// Eight sums, at as many lags side by side.
+struct Eight {
+    a: f64,
+    b: f64,
+    c: f64,
+    d: f64,
+    e: f64,
+    f: f64,
+    g: f64,
+    h: f64,
+}
+
+// Each sum with one product more: that of the centred value v with eight centred values in a row, from slot `at` on.
+fn eight_more(s: Eight, v: f64, envelope: &[f64], mean: f64, at: usize) -> Eight
+    requires { ⌜ at + 8 ≤ length (now envelope) ⌝ }
+    ensures { λ r. ⌜ r ≡ eightMore s v (now (envelope .entry)) mean at ⌝ }
+{
+    Eight {
+        a: s.a + v * (envelope[at] - mean),
+        b: s.b + v * (envelope[at + 1] - mean),
+        c: s.c + v * (envelope[at + 2] - mean),
+        d: s.d + v * (envelope[at + 3] - mean),
+        e: s.e + v * (envelope[at + 4] - mean),
+        f: s.f + v * (envelope[at + 5] - mean),
+        g: s.g + v * (envelope[at + 6] - mean),
+        h: s.h + v * (envelope[at + 7] - mean),
+    }
+}
+
+// The sums at eight lags from `lag` on, over the times below `past`. Two times a turn: so the compiler keeps the lags side by side.
+fn eight_sums(envelope: &[f64], mean: f64, lag: usize, past: usize) -> Eight
+    requires { ⌜ (past % 2 ≡ 0) × (past + lag + 7 ≤ length (now envelope)) ⌝ }
+    ensures { λ r. ⌜ r ≡ eightSums (now (envelope .entry)) mean lag past ⌝ }
+{
+    let mut s = Eight {
+        a: 0.0,
+        b: 0.0,
+        c: 0.0,
+        d: 0.0,
+        e: 0.0,
+        f: 0.0,
+        g: 0.0,
+        h: 0.0,
+    };
+    let mut t = 0;
+    while t < past {
+        s = eight_more(s, envelope[t] - mean, envelope, mean, t + lag);
+        s = eight_more(s, envelope[t + 1] - mean, envelope, mean, t + 1 + lag);
+        t += 2;
+    }
+    s
+}
+
+// x held to 0..1
+fn unit_of(x: f64) -> f64
+    ensures { λ r. ⌜ r ≡ held nought one x ⌝ }
+{
+    if x < 0.0 {
+        return 0.0;
+    }
+    if x > 1.0 { 1.0 } else { x }
+}
+
+// the clarity of a lag from its sum
+fn clarity_of(sum: f64, ac0: f64, n: usize, lag: usize) -> f64
+    requires { ⌜ lag ≤ n ⌝ }
+    ensures { λ r. ⌜ r ≡ clarityOf sum ac0 n lag ⌝ }
+{
+    unit_of(sum * float_of(n) / (ac0 * float_of(n - lag)))
+}
+
+// Slots `from` to `from + 7` of a clarity curve whose slot 0 is the lag min_lag: the eight sums together as far as all of them reach,
+// in pairs of times, and then each to its own end.
+fn fill_eight(
+    envelope: &[f64],
+    mean: f64,
+    ac0: f64,
+    min_lag: usize,
+    from: usize,
+    clarity: &mut [f64],
+)
+    requires { ⌜ («min_lag» + from + 7 < length (now envelope)) × (from + 8 ≤ length (now clarity)) ⌝ }
+    ensures { λ _. ⌜ now (clarity .exit) ≡ filled (clarityFrom (now (envelope .entry)) mean ac0 «min_lag») (now (clarity .entry)) from (from + 8) ⌝ }
+{
+    let n = envelope.len();
+    let lag = min_lag + from;
+    let past = (n - lag - 7) / 2 * 2;
+    let s = eight_sums(envelope, mean, lag, past);
+    let sums = [s.a, s.b, s.c, s.d, s.e, s.f, s.g, s.h];
+    let mut j = 0;
+    while j < 8 {
+        let sum = lag_rest(envelope, mean, lag + j, past, sums[j]);
+        clarity[from + j] = clarity_of(sum, ac0, n, lag + j);
+        j += 1;
+    }
+}
+
+// Slots `from` up to `past` of a clarity curve, one lag at a time.
+fn fill_singly(
+    envelope: &[f64],
+    mean: f64,
+    ac0: f64,
+    min_lag: usize,
+    from: usize,
+    past: usize,
+    clarity: &mut [f64],
+)
+    requires { ⌜ (from ≤ past) × («min_lag» + past ≤ length (now envelope)) × (past ≤ length (now clarity)) ⌝ }
+    ensures { λ _. ⌜ now (clarity .exit) ≡ filled (clarityFrom (now (envelope .entry)) mean ac0 «min_lag») (now (clarity .entry)) from past ⌝ }
+{
+    let mut i = from;
+    while i < past {
+        let lag = min_lag + i;
+        clarity[i] = clarity_of(lag_sum(envelope, mean, lag), ac0, envelope.len(), lag);
+        i += 1;
+    }
+}
+
+// Inner: the clarity curve, one slot a lag from min_lag to max_lag, of an envelope with this mean and this energy about it.
+pub fn fill_clarity(
+    envelope: &[f64],
+    mean: f64,
+    ac0: f64,
+    min_lag: usize,
+    max_lag: usize,
+    clarity: &mut [f64],
+)
+    requires { ⌜ («min_lag» ≤ «max_lag») × («max_lag» < length (now envelope)) × (lagRoom «min_lag» «max_lag» ≤ length (now clarity)) ⌝ }
+    ensures { λ _. ⌜ now (clarity .exit) ≡ filled (clarityFrom (now (envelope .entry)) mean ac0 «min_lag») (now (clarity .entry)) 0 (lagRoom «min_lag» «max_lag») ⌝ }
+{
+    let count = max_lag - min_lag + 1;
+    let mut i = 0;
+    while count - i >= 8 {
+        fill_eight(envelope, mean, ac0, min_lag, i, clarity);
+        i += 8;
+    }
+    fill_singly(envelope, mean, ac0, min_lag, i, count, clarity);
+}
+
+// how likely a tempo is: 1 at 120 beats a minute, less each octave away
+fn prior_of(bpm: f64) -> f64
+    ensures { λ r. ⌜ r ≡ priorOf bpm ⌝ }
+{
+    let z = log2(bpm / 120.0) / 1.3;
+    exp(-0.5 * z * z)
+}
+
+// Inner: how likely the tempo of a lag is.
+pub fn prior_at(rate: u32, lag: usize) -> f64
+    ensures { λ r. ⌜ r ≡ priorAt rate lag ⌝ }
+{
+    prior_of(bpm_at(rate, lag))
+}
+
+// Inner: the weight curve of a clarity curve, one slot a lag from min_lag to max_lag.
+pub fn fill_weight(clarity: &[f64], rate: u32, min_lag: usize, max_lag: usize, weight: &mut [f64])
+    requires { ⌜ («min_lag» ≤ «max_lag») × («max_lag» ≤ mostPeriod) × (lagRoom «min_lag» «max_lag» ≤ length (now clarity)) × (lagRoom «min_lag» «max_lag» ≤ length (now weight)) ⌝ }
+    ensures { λ _. ⌜ now (weight .exit) ≡ filled (weighted (now (clarity .entry)) rate «min_lag») (now (weight .entry)) 0 (lagRoom «min_lag» «max_lag») ⌝ }
+{
+    let count = max_lag - min_lag + 1;
+    let mut i = 0;
+    while i < count {
+        weight[i] = clarity[i] * prior_at(rate, min_lag + i);
+        i += 1;
+    }
+}
+
+// Inner: the prior of each lag from min_lag to max_lag, for a call that weighs several clarity curves of one range.
+pub fn fill_priors(rate: u32, min_lag: usize, max_lag: usize, priors: &mut [f64])
+    requires { ⌜ («min_lag» ≤ «max_lag») × («max_lag» ≤ mostPeriod) × (lagRoom «min_lag» «max_lag» ≤ length (now priors)) ⌝ }
+    ensures { λ _. ⌜ now (priors .exit) ≡ filled (priorFrom rate «min_lag») (now (priors .entry)) 0 (lagRoom «min_lag» «max_lag») ⌝ }
+{
+    let count = max_lag - min_lag + 1;
+    let mut i = 0;
+    while i < count {
+        priors[i] = prior_at(rate, min_lag + i);
+        i += 1;
+    }
+}
+
+// Inner: the weight curve of a clarity curve, from the priors of its lags.
+pub fn weigh(clarity: &[f64], priors: &[f64], count: usize, weight: &mut [f64])
+    requires { ⌜ (count ≤ length (now clarity)) × (count ≤ length (now priors)) × (count ≤ length (now weight)) ⌝ }
+    ensures { λ _. ⌜ now (weight .exit) ≡ filled (weightedBy (now (clarity .entry)) (now (priors .entry))) (now (weight .entry)) 0 count ⌝ }
+{
+    let mut i = 0;
+    while i < count {
+        weight[i] = clarity[i] * priors[i];
+        i += 1;
+    }
+}
+
+// Inner: both lag curves.
+pub fn fill_lag_curves(
+    envelope: &[f64],
+    mean: f64,
+    ac0: f64,
+    rate: u32,
+    min_lag: usize,
+    max_lag: usize,
+    clarity: &mut [f64],
+    weight: &mut [f64],
+)
+    requires { ⌜ («min_lag» ≤ «max_lag») × («max_lag» ≤ mostPeriod) × («max_lag» < length (now envelope)) ⌝ }
+    requires { ⌜ (lagRoom «min_lag» «max_lag» ≤ length (now clarity)) × (lagRoom «min_lag» «max_lag» ≤ length (now weight)) ⌝ }
+    ensures { λ _. ⌜ now (clarity .exit) ≡ filled (clarityFrom (now (envelope .entry)) mean ac0 «min_lag») (now (clarity .entry)) 0 (lagRoom «min_lag» «max_lag») ⌝ }
+    ensures { λ _. ⌜ now (weight .exit) ≡ filled (weightFrom (now (envelope .entry)) mean ac0 rate «min_lag») (now (weight .entry)) 0 (lagRoom «min_lag» «max_lag») ⌝ }
+{
+    fill_clarity(envelope, mean, ac0, min_lag, max_lag, clarity);
+    fill_weight(clarity, rate, min_lag, max_lag, weight);
+}

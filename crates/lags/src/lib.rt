@@ -1,0 +1,176 @@
+// Tempo, the lower half: the options, the lags that their bounds stand for, which lags are distinct or agree, and the lag curves.
+//
+// Document 01, Tempo and candidates. The Rust: tempo.rs `TempoOpts`, and what `pick_tempo_peaks` and `stability_of` are made of.
+use floats::wholes::round_of;
+use numbers::OUT_OF_BOUNDS;
+use numbers::greatest;
+use numbers::rate_fine;
+ghost use mathlib.Core.Path.{_≡_};
+ghost use Prim.Native.Nat.{ℕ, max, _≤_, _<_};
+ghost use lib.Ieee.Scale.{finite};
+ghost use Rattle.numbers.specs.Rounded.{real};
+ghost use Rattle.numbers.specs.Limits.{mostPeriod};
+ghost use Rattle.floats.specs.Wholes.{roundOf};
+ghost use Rattle.lags.specs.Options.{defaultOptions, optionsOf, withMinBpm, withMaxBpm};
+ghost use Rattle.lags.specs.Lags.{
+  noLess,
+  lowBpm,
+  highBpm,
+  minuteOver,
+  bpmAt,
+  boundsFine,
+  lagRange,
+  lagRoom,
+};
+
+pub mod curves;
+pub mod pairs;
+
+// The bounds of the tempo search, in beats a minute.
+pub struct TempoOpts {
+    pub min_bpm: f64,
+    pub max_bpm: f64,
+}
+
+impl TempoOpts {
+    // a slow ballad heard in half time
+    pub const DEFAULT_MIN_BPM: f64 = 30.0;
+    // a dance track heard in double time
+    pub const DEFAULT_MAX_BPM: f64 = 300.0;
+
+    // The defaults, 30 to 300. Setters may follow: `TempoOpts::new().with_max_bpm(200.0)`.
+    pub fn new() -> TempoOpts
+        ensures { λ r. ⌜ r ≡ defaultOptions ⌝ }
+    {
+        TempoOpts::between(TempoOpts::DEFAULT_MIN_BPM, TempoOpts::DEFAULT_MAX_BPM)
+    }
+
+    // The options with both bounds given, in either order. Refuses nothing: the calls that are lent the options do.
+    pub fn between(min_bpm: f64, max_bpm: f64) -> TempoOpts
+        ensures { λ r. ⌜ r ≡ optionsOf «min_bpm» «max_bpm» ⌝ }
+    {
+        TempoOpts { min_bpm, max_bpm }
+    }
+
+    // The same options with another lower bound.
+    pub fn with_min_bpm(mut self, bpm: f64) -> TempoOpts
+        ensures { λ r. ⌜ r ≡ withMinBpm bpm self ⌝ }
+    {
+        self.min_bpm = bpm;
+        self
+    }
+
+    // The same options with another upper bound.
+    pub fn with_max_bpm(mut self, bpm: f64) -> TempoOpts
+        ensures { λ r. ⌜ r ≡ withMaxBpm bpm self ⌝ }
+    {
+        self.max_bpm = bpm;
+        self
+    }
+}
+
+// The answer of `lag_range`: its number, and the least and the greatest lag, in frames (0 where it refuses).
+pub struct LagRange {
+    pub number: u32,
+    pub min_lag: usize,
+    pub max_lag: usize,
+}
+
+// max(x, least), where a NaN counts as less
+fn no_less(least: f64, x: f64) -> f64
+    ensures { λ r. ⌜ r ≡ noLess least x ⌝ }
+{
+    if x > least { x } else { least }
+}
+
+// the lower bound: the bounds swapped if reversed, and at least 1
+fn low_bpm(opts: TempoOpts) -> f64
+    ensures { λ r. ⌜ r ≡ lowBpm opts ⌝ }
+{
+    if opts.min_bpm <= opts.max_bpm {
+        return no_less(1.0, opts.min_bpm);
+    }
+    no_less(1.0, opts.max_bpm)
+}
+
+// the upper bound: at least 1 above the lower one
+fn high_bpm(opts: TempoOpts) -> f64
+    ensures { λ r. ⌜ r ≡ highBpm opts ⌝ }
+{
+    let least = low_bpm(opts) + 1.0;
+    if opts.min_bpm <= opts.max_bpm {
+        return no_less(least, opts.max_bpm);
+    }
+    no_less(least, opts.min_bpm)
+}
+
+// a count as a float
+fn float_of(n: usize) -> f64
+    ensures { λ r. ⌜ r ≡ real n ⌝ }
+{
+    std::num::nearest_u64_to_f64(n as u64)
+}
+
+// f·60/x, the lag of a tempo x or the tempo of a lag x, at the frame rate f of a sample rate
+fn minute_over(rate: u32, x: f64) -> f64
+    ensures { λ r. ⌜ r ≡ minuteOver rate x ⌝ }
+{
+    rate as f64 / 256.0 * 60.0 / x
+}
+
+// Inner: the tempo of a lag, in beats a minute.
+pub fn bpm_at(rate: u32, lag: usize) -> f64
+    ensures { λ r. ⌜ r ≡ bpmAt rate lag ⌝ }
+{
+    minute_over(rate, float_of(lag))
+}
+
+// an infinity and a NaN less themselves are NaN
+fn is_finite(x: f64) -> bool
+    ensures { λ r. ⌜ r ≡ finite x ⌝ }
+{
+    x - x == 0.0
+}
+
+// Inner: whether number 1 does not apply: the rate is 1 to 192,000 and both bounds are finite.
+pub fn bounds_fine(rate: u32, opts: TempoOpts) -> bool
+    ensures { λ r. ⌜ r ≡ boundsFine rate opts ⌝ }
+{
+    rate_fine(rate) && (is_finite(opts.min_bpm) && is_finite(opts.max_bpm))
+}
+
+// Inner: the slots of each lag curve, one for each lag of the range.
+pub fn room_of(min_lag: usize, max_lag: usize) -> usize
+    requires { ⌜ («min_lag» ≤ «max_lag») × («max_lag» ≤ mostPeriod) ⌝ }
+    ensures { λ r. ⌜ r ≡ lagRoom «min_lag» «max_lag» ⌝ }
+{
+    max_lag - min_lag + 1
+}
+
+// the lag of a tempo, to the nearest frame
+fn lag_of(rate: u32, bpm: f64) -> usize
+    ensures { λ r. ⌜ r ≡ roundOf (minuteOver rate bpm) ⌝ }
+{
+    round_of(minute_over(rate, bpm)) as usize
+}
+
+// The lags from the fastest tempo to the slowest that the bounds allow. Refuses 1 for a rate outside 1 to 192,000 or a bound that isn't
+// finite. Else 1 <= min_lag < max_lag <= 45,000, whatever the bounds: reversed ones are swapped, and a narrow range is widened to 1 BPM.
+pub fn lag_range(rate: u32, opts: TempoOpts) -> LagRange
+    ensures { λ r. ⌜ r ≡ lagRange rate opts ⌝ }
+{
+    if !bounds_fine(rate, opts) {
+        return LagRange {
+            number: OUT_OF_BOUNDS,
+            min_lag: 0,
+            max_lag: 0,
+        };
+    }
+    let min_lag = greatest(1, lag_of(rate, high_bpm(opts)));
+    let max_lag = greatest(min_lag + 1, lag_of(rate, low_bpm(opts)));
+    LagRange {
+        number: 0,
+        min_lag,
+        max_lag,
+    }
+}

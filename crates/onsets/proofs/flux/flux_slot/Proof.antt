@@ -1,0 +1,44 @@
+-- `onsets::flux::flux_slot` meets its contract: slot 0 is +0, and any other the rise of its row over the row before it. Assumes nothing.
+use mathlib.Core.Path.{sym, _∙_}
+use native.Mathlib.Omega.{arith}
+use denote.Ref.{now}
+use borrow.Author.Needs.{needs}
+use Rattle.numbers.proofs.Overs.{length-row, every-row}
+use Rattle.numbers.specs.Limits.{magnitudeFine}
+use Rattle.onsets.specs.Flux.{fluxAt}
+use Rattle.onsets.proofs.Fluxes.{flux-from}
+use Rattle.onsets.proofs.flux.flux_slot.Statement.{statement}
+use Rattle.onsets.proofs.flux.flux_slot.Tie as tie
+
+returns : tie.Need-returns
+unfolding fluxAt
+returns c = rw (c .if1 .taken)
+
+sub-row-of : tie.Need-sub-row-of
+sub-row-of c = search needs
+
+row-of-requires : tie.Need-row-of-requires
+row-of-requires c κs = search needs
+
+row-of-requires-2 : tie.Need-row-of-requires-2
+row-of-requires-2 c κs = search needs
+
+rise-requires : tie.Need-rise-requires
+rise-requires c κs =
+    let start = c .before .before .before .before in
+    let s = now (start .args .slab) in
+    let n = start .args .rows in
+    let b = start .args .bins in
+    rw (c .before .row-of .ensures, c .row-of2 .ensures) (
+      length-row s n b _ (start .pre .0) (omega arith) ∙ sym (length-row s n b _ (start .pre .0) (omega arith)),
+      (every-row magnitudeFine s b _ (start .pre .1 .0), every-row magnitudeFine s b _ (start .pre .1 .0)),
+    )
+
+returns-2 : tie.Need-returns-2
+returns-2 c =
+    c .rise .ensures ∙ rw (c .before .before .row-of .ensures, c .before .row-of2 .ensures) (sym (flux-from _ _ _ _ (omega arith)))
+
+pub flux-slot-spec : {M : Type 1} → statement M
+flux-slot-spec =
+    tie.close
+    (tie.spec returns sub-row-of row-of-requires row-of-requires-2 rise-requires returns-2)

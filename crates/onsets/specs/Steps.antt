@@ -1,0 +1,44 @@
+-- Inner: how far the loops that pick and suppress have come. No promise of a public call is written in these words.
+use Prim.Native.Nat.{ℕ, _+_, _≤_}
+use mathlib.Core.Path.{_≡_}
+use mathlib.Core.Bool.{Bool, true, false}
+use mathlib.Core.List.{List, [], _∷_, _++_}
+use lib.ListN.{length}
+use lib.Ieee.{Float}
+use Rattle.numbers.specs.Rounded.{pick}
+use Rattle.numbers.specs.Lists.{listed}
+use Rattle.onsets.specs.Peaks.{bests, suppressed}
+use Rattle.onsets.specs.declared.peaks.Group.{Group}
+
+-- an inner call that lists entries and answers how many they are
+pub record Picked (entries was : List ℕ) (count : ℕ) (after : List ℕ) : Type 0 where
+  pub count-is : count ≡ length entries
+  pub frames-are : after ≡ listed entries was
+
+-- how many groups are open
+abbrev pub one : Bool → ℕ
+one true = 1
+one false = 0
+
+-- what is still to be kept, of the open group, if one is open, and of the peaks that follow
+unfoldable pub following : List Float → (gap : ℕ) → (opened : Bool) → (best : ℕ) → List ℕ → List ℕ
+following curve gap true best peaks = bests curve gap best peaks
+following curve gap false best peaks = suppressed curve gap peaks
+
+-- The bests of the closed groups are listed, and with what follows they are the whole.
+pub record Going (curve : List Float) (gap : ℕ) (whole peaks was : List ℕ) (group : Group) (frames : List ℕ) : Type 0 where
+  pub kept : List ℕ
+  pub all : kept ++ following curve gap (group .opened) (group .best) peaks ≡ whole
+  pub many : group .count ≡ length kept
+  pub slots : frames ≡ listed kept was
+
+-- A step past slot t, which is a peak or is not: where the loop has come to it, it has then come past it.
+pub record Stepped (curve : List Float) (gap t : ℕ) (peak : Bool) (group : Group) (frames : List ℕ) (group′ : Group) (frames′ : List ℕ) : Type 0 where
+  pub best-at : group′ .best ≤ t
+  pub counted : group′ .count + one (group′ .opened) ≤ group .count + one (group .opened) + 1
+  pub goes : (whole peaks was : List ℕ)
+      → Going curve gap whole (pick peak (t ∷ peaks) peaks) was group frames → Going curve gap whole peaks was group′ frames′
+
+-- The end of the loop: the last group's best is listed too.
+pub record Closed (group : Group) (frames : List ℕ) (count : ℕ) (frames′ : List ℕ) : Type 0 where
+  pub ends : (curve : List Float) (gap : ℕ) (whole was : List ℕ) → Going curve gap whole [] was group frames → Picked whole was count frames′

@@ -1,0 +1,30 @@
+-- What a call may rely on once it has refused nothing.
+use mathlib.Core.Path.{_≡_}
+use mathlib.Core.Bool.{true}
+use mathlib.Core.List.{List}
+use Prim.Native.Nat.{ℕ, _*_, _≤_}
+use lib.Dec.{leb, eqb}
+use lib.ListN.{length}
+use lib.Ieee.{Float}
+use borrow.Author.Tests.{leb-true, eqb-true}
+use Rattle.numbers.specs.Limits.{similarityFine}
+use Rattle.numbers.specs.Lists.{every}
+use Rattle.numbers.proofs.Tests.{Passed, lowest-zero}
+use Rattle.structure.specs.Novelty.{noveltyNumber}
+
+pub record NoveltyPassed (similarity : List Float) (rows room : ℕ) : Type 0 where
+  pub few : rows ≤ 50000
+  pub whole : length similarity ≡ rows * 17
+  pub space : rows ≤ room
+  pub fine : every similarityFine similarity ≡ true
+
+pub novelty-passed : (similarity : List Float) (rows room : ℕ) → noveltyNumber similarity rows room ≡ 0 → NoveltyPassed similarity rows room
+unfolding noveltyNumber
+novelty-passed similarity rows room e =
+    let p : Passed (leb rows 50000) (eqb (length similarity) (rows * 17)) (leb rows room) (every similarityFine similarity) = lowest-zero _ _ _ _ e in
+    record {
+      few = leb-true _ _ (p .bounds);
+      whole = eqb-true _ _ (p .lengths);
+      space = leb-true _ _ (p .room);
+      fine = p .values
+    }

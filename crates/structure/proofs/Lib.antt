@@ -1,0 +1,5 @@
+mod Tables
+pub mod Weights
+pub mod Terms
+mod Lanes
+pub mod Calls

@@ -1,0 +1,4 @@
+pub mod Kernel
+pub mod Similarity
+pub mod Novelty
+pub mod Lanes

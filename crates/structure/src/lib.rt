@@ -1,0 +1,48 @@
+// Sections, the first half: how alike the rows of a track's features are, and how new each row is.
+//
+// Document 01, Sections. The Rust: structure.rs.
+use novelties::fill_novelty;
+use numbers::MOST_FEATURES;
+use numbers::OUT_OF_BOUNDS;
+use numbers::TOO_LITTLE_ROOM;
+use numbers::WRONG_LENGTH;
+use numbers::WRONG_VALUE;
+use numbers::similarities_fine;
+ghost use mathlib.Core.Path.{_≡_};
+ghost use Rattle.structure.specs.Novelty.{noveltyNumber, NoveltyDone};
+
+pub mod kernels;
+pub mod novelties;
+
+// the number that novelty gives
+fn novelty_number(similarity: &[f64], rows: usize, room: usize) -> u32
+    ensures { λ r. ⌜ r ≡ noveltyNumber (now (similarity .entry)) rows room ⌝ }
+{
+    if rows > MOST_FEATURES {
+        return OUT_OF_BOUNDS;
+    }
+    if similarity.len() != rows * 17 {
+        return WRONG_LENGTH;
+    }
+    if room < rows {
+        return TOO_LITTLE_ROOM;
+    }
+    if !similarities_fine(similarity) {
+        return WRONG_VALUE;
+    }
+    0
+}
+
+// Writes novelty[0..rows] from a similarity of rows * 17 slots; slots past rows stay.
+// Refuses 1 to 4 and then writes nothing: 1 for more than 50,000 rows, 2 for another length of the similarity, 3 for fewer than rows slots of
+// novelty, 4 for a similarity that isn't within -1 to 1.
+pub fn novelty(similarity: &[f64], rows: usize, novelty: &mut [f64]) -> u32
+    ensures { λ r. ⌜ NoveltyDone (now (similarity .entry)) rows (now (novelty .entry)) r (now (novelty .exit)) ⌝ }
+{
+    let number = novelty_number(similarity, rows, novelty.len());
+    if number != 0 {
+        return number;
+    }
+    fill_novelty(similarity, rows, 0, rows, novelty);
+    0
+}
