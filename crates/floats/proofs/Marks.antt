@@ -1,5 +1,5 @@
 -- Document 01, Leaves: "log(1) and log2(1) are +0 and exp of either zero is 1, proved", by computing; and what each leaf gives at the
--- zeros, the infinities, the NaN and -1. Assumes nothing.
+-- zeros, the infinities, the NaN and -1, and what is rounded near halves. Assumes nothing.
 use mathlib.Core.Path.{_≡_, refl}
 use mathlib.Core.List.{List, [], _∷_, map}
 use Prim.Native.Nat.{ℕ}
@@ -7,6 +7,7 @@ use lib.Ieee.{Float, binary64, add, sub, mul, div, neg, lt, ne, ofBits, toBits, 
 use Rattle.numbers.specs.Rounded.{bits, nought}
 use Rattle.floats.specs.Logs.{one, logOf, log2Of}
 use Rattle.floats.specs.Exps.{expOf}
+use Rattle.floats.specs.Wholes.{roundOf, ceilOf}
 
 -- -0
 abbrev minusNought : Float
@@ -52,3 +53,15 @@ log2-specials = refl
 exp-specials : answers expOf specials ≡ 0x3FF0_0000_0000_0000 ∷ 0x3FF0_0000_0000_0000 ∷ 0x7FF0_0000_0000_0000 ∷ 0 ∷ 0x7FF8_0000_0000_0000 ∷ 0x3FD7_8B56_362C_EF38 ∷ []
 unfolding expOf toBits ofBits ofInt add sub mul div neg lt ne toUnsigned
 exp-specials = refl
+
+-- 0.49999999999999994, 0.5, 0.5000000000000001, 1.5, 2.5, 4503599627370495.5, 2 ^ 53, 2 ^ 64, -2.5, the NaN
+abbrev halves : List ℕ
+halves = 0x3FDF_FFFF_FFFF_FFFF ∷ 0x3FE0_0000_0000_0000 ∷ 0x3FE0_0000_0000_0001 ∷ 0x3FF8_0000_0000_0000 ∷ 0x4004_0000_0000_0000 ∷ 0x432F_FFFF_FFFF_FFFF ∷ 0x4340_0000_0000_0000 ∷ 0x43F0_0000_0000_0000 ∷ 0xC004_0000_0000_0000 ∷ 0x7FF8_0000_0000_0000 ∷ []
+
+round-halves : map (λ (n : ℕ). roundOf (bits n)) halves ≡ 0 ∷ 1 ∷ 1 ∷ 2 ∷ 3 ∷ 4503599627370496 ∷ 9007199254740992 ∷ 18446744073709551615 ∷ 0 ∷ 0 ∷ []
+unfolding roundOf ofBits
+round-halves = refl
+
+ceil-halves : map (λ (n : ℕ). ceilOf (bits n)) halves ≡ 1 ∷ 1 ∷ 1 ∷ 2 ∷ 3 ∷ 4503599627370496 ∷ 9007199254740992 ∷ 18446744073709551615 ∷ 0 ∷ 0 ∷ []
+unfolding ceilOf ofBits
+ceil-halves = refl

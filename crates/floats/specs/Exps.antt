@@ -1,7 +1,8 @@
 -- Document 01, Leaves: "`exp`: the `libm` calls .., as a fixed sequence of rounded operations".
 --
--- The sequence is that of exp.rs with scalbn.rs in the Rust crate libm, version 0.2.1, which are e_exp.c of FreeBSD's msun and
--- musl's scalbn.c. Each operation below is one rounded operation there, in the same order, and each constant has its name there.
+-- The sequence is that of exp.rs with scalbn.rs in the Rust crate libm, which are e_exp.c of FreeBSD's msun and musl's scalbn.c; the
+-- version compared is 0.2.1. Each operation below is one rounded operation there, in the same order, and each constant has its
+-- name there.
 -- x is written as k * ln 2 + r with |r| <= 0.5 * ln 2, and exp x is 2 ^ k * exp r. k is a whole number m with a sign.
 use Prim.Native.Nat.{ℕ, _+_, _-_, _*_, _/_, _%_}
 use mathlib.Core.Bool.{Bool}

@@ -1,7 +1,8 @@
 -- Document 01, Leaves: "`log`, `log2` .. : the `libm` calls .., as a fixed sequence of rounded operations".
 --
--- The sequence is that of log.rs and log2.rs in the Rust crate libm, version 0.2.1, which are e_log.c and e_log2.c of FreeBSD's
--- msun. Each operation below is one rounded operation there, in the same order, and each constant has its name there.
+-- The sequence is that of log.rs and log2.rs in the Rust crate libm, which are e_log.c and e_log2.c of FreeBSD's msun; the version
+-- compared is 0.2.1. Each operation below is one rounded operation there, in the same order, and each constant has its name there,
+-- without underscores.
 -- Both logarithms write x as 2 ^ k * (1 + f) with sqrt(2)/2 <= 1 + f < sqrt(2), and share all that follows up to s * (hfsq + R).
 use Prim.Native.Nat.{ℕ, _+_, _-_, _*_, _/_, _%_}
 use mathlib.Core.Bool.{Bool, not, _&&_}

@@ -4,5 +4,6 @@ pub mod Weights
 pub mod Searches
 pub mod Ranges
 pub mod Tenth
+pub mod CurveSizes
 pub mod Marks
 mod FiniteTest

@@ -9,21 +9,21 @@ use lib.Pow.{pow-add, pow-pos}
 use native.Mathlib.Omega.{arith}
 use lib.Dec.{T, ltb, leb, lit<, lit≤}
 use lib.IntN.{ℤ, pos, negsuc}
-use lib.Ieee.{Float, nan, inf, fin, binary64, up, down, neg, round, sum, add, sub, mul, lt, ne, fits, isNan, toBits, ofBits, toUnsigned}
-use lib.Ieee.Fits.{up-pos, down-pos}
+use lib.Ieee.{Float, nan, inf, fin, binary64, up, down, unlike, neg, round, sum, add, sub, mul, lt, ne, fits, isNan, toBits, ofBits, toUnsigned}
+use lib.Ieee.Fits.{up-pos, down-pos, mul-fits}
 use lib.Ieee.Bits.{ofBits-fits, toBits-lt}
 use lib.Ieee.Exact.{HasValue}
 use lib.Ieee.Scale.{finite, round-same}
 use borrow.Author.Tests.{ltb-true, ltb-false, lt-ltb, leb-false, le-leb}
 use Rattle.numbers.specs.Rounded.{_⊕_, _⊖_, _⊗_, real, nought, pick}
 use Rattle.numbers.proofs.Tests.{lt-or-le, true-not-false}
-use Rattle.sizes.specs.Sizes.{AtMost, AtLeast, sizeFrom, isPlus, Plus, HeldAt}
+use Rattle.sizes.specs.Sizes.{AtMost, AtLeast, sizeUpTo, sizeFrom, isPlus, Plus, HeldAt}
 use Rattle.sizes.proofs.Rounds.{round-neg, round-plus, round-least}
 use Rattle.sizes.proofs.Order.{neg-neg}
 use Rattle.sizes.proofs.Exact.{value-unique}
 use Rattle.sizes.proofs.Signs.{mul-plus}
 use Rattle.sizes.proofs.Numbers.{held-at-value}
-use Rattle.sizes.proofs.Sizes.{most-finite, real-value, real-most}
+use Rattle.sizes.proofs.Sizes.{most-finite, most-not-nan, real-value, real-most}
 use Rattle.floats.specs.Logs.{half, one, two, ln2hi, ln2lo}
 use Rattle.floats.specs.Exps.{invln2, P1, P2, P3, P4, P5, x1p1023, x1pMinus969, overflowAbove, zeroBelowMinus, powerAt, timesDown, scaleDown, expNear, expLess, expBy, foldsOf, expSized, expOf}
 use Rattle.floats.proofs.Marks.{exp-zero}
@@ -43,25 +43,25 @@ pub record Near (y : Float) : Type 0 where
   pub plus : Plus y
   pub under : Under (2 * U) y
 
-p1 : Under 174763 P1
-unfolding ofBits
-p1 = record { size = lit≤ tt }
+pub record Constants : Type 0 where
+  pub p1 : Under 174763 P1
+  pub p2 : Under 2913 P2
+  pub p3 : Under 70 P3
+  pub p4 : Under 2 P4
+  pub p5 : Under 1 P5
+  pub ones : Under U one
 
-p2 : Under 2913 P2
+constants : Constants
 unfolding ofBits
-p2 = record { size = lit≤ tt }
-
-p3 : Under 70 P3
-unfolding ofBits
-p3 = record { size = lit≤ tt }
-
-p4 : Under 2 P4
-unfolding ofBits
-p4 = record { size = lit≤ tt }
-
-p5 : Under 1 P5
-unfolding ofBits
-p5 = record { size = lit≤ tt }
+constants =
+    record {
+      p1 = record { size = lit≤ tt };
+      p2 = record { size = lit≤ tt };
+      p3 = record { size = lit≤ tt };
+      p4 = record { size = lit≤ tt };
+      p5 = record { size = lit≤ tt };
+      ones = record { size = lit≤ tt };
+    }
 
 one-value : HasValue one false 1 1
 unfolding ofBits
@@ -70,10 +70,6 @@ one-value = (refl, refl)
 two-value : HasValue two false 2 1
 unfolding ofBits
 two-value = (refl, refl)
-
-one-under : Under U one
-unfolding ofBits
-one-under = record { size = lit≤ tt }
 
 -- what is left of 2 after c
 two-less : {c : Float} → Under 417850 c → AtLeast 1679302 (2 ^ 20) (two ⊖ c)
@@ -85,14 +81,14 @@ near-series : {r hi lo : Float} → Under 393216 r → Under 393216 hi → Under
 unfolding expNear
 near-series {r} {hi} {lo} rh hih loh =
     let rr = mul-under 147456 (lit< tt) (lit≤ tt) rh rh in
-    let t5 = add-under (lit< tt) p4 (mul-under 1 (lit< tt) (lit≤ tt) rr p5) in
-    let t4 = add-under (lit< tt) p3 (mul-under 1 (lit< tt) (lit≤ tt) rr t5) in
-    let t3 = add-under (lit< tt) p2 (mul-under 10 (lit< tt) (lit≤ tt) rr t4) in
-    let t2 = add-under (lit< tt) p1 (mul-under 412 (lit< tt) (lit≤ tt) rr t3) in
+    let t5 = add-under (lit< tt) (constants .p4) (mul-under 1 (lit< tt) (lit≤ tt) rr (constants .p5)) in
+    let t4 = add-under (lit< tt) (constants .p3) (mul-under 1 (lit< tt) (lit≤ tt) rr t5) in
+    let t3 = add-under (lit< tt) (constants .p2) (mul-under 10 (lit< tt) (lit≤ tt) rr t4) in
+    let t2 = add-under (lit< tt) (constants .p1) (mul-under 412 (lit< tt) (lit≤ tt) rr t3) in
     let c = sub-under (lit< tt) rh (mul-under 24634 (lit< tt) (lit≤ tt) rr t2) in
     let q = div-under 97842 (lit< tt) (lit< tt) (lit≤ tt) (mul-under 156694 (lit< tt) (lit≤ tt) rh c) (two-less c) in
     let s = add-under (lit< tt) (sub-under (lit< tt) q loh) hih in
-    record { plus = left-plus 1 one (lit≤ tt) one-value s; under = under-weaken (2 * U) (lit≤ tt) (add-under (lit< tt) one-under s) }
+    record { plus = left-plus 1 one (lit≤ tt) one-value s; under = under-weaken (2 * U) (lit≤ tt) (add-under (lit< tt) (constants .ones) s) }
 
 -- ---- the power of two: at most 1
 
@@ -405,7 +401,7 @@ by-near m e K h = near-scaled K (less-near m e K h)
 -- ---- by the size of x. b has the bits of x without the sign
 
 one-near : {x : Float} → Under 1 x → Near (one ⊕ x)
-one-near h = record { plus = left-plus 1 one (lit≤ tt) one-value h; under = under-weaken (2 * U) (lit≤ tt) (add-under (lit< tt) one-under h) }
+one-near h = record { plus = left-plus 1 one (lit≤ tt) one-value h; under = under-weaken (2 * U) (lit≤ tt) (add-under (lit< tt) (constants .ones) h) }
 
 nought-under : Under 1100 nought
 unfolding ofBits
@@ -524,3 +520,67 @@ exp-plus x f k h = near-below x f k h .plus
 
 pub exp-most : (x : Float) → T (fits binary64 x) → T (not (isNan x)) → lt nought x ≡ false → AtMost 2 (expOf x)
 exp-most x f k h = under-most 2 (lit≤ tt) (near-below x f k h .under)
+
+-- ---- x = -0.5 z z, as the tempo's prior has it: at most 0, for every z of size at most 4,096
+
+-- less than 0, or a zero
+minus-below : (p : Float) → T (isPlus p) → lt nought (neg p) ≡ false
+unfolding isPlus lt neg ofBits
+minus-below nan s = absurd s
+minus-below (inf true) s = absurd s
+minus-below (inf false) s = refl
+minus-below (fin true m e) s = absurd s
+minus-below (fin false m e) s = refl
+
+rounded-below : (a c : ℕ) → lt nought (round binary64 true a c) ≡ false
+rounded-below a c = rw (round-neg binary64 a c) (minus-below (round binary64 false a c) (round-plus binary64 a c .sign))
+
+half-under : Under U (neg half)
+unfolding ofBits neg
+half-under = record { size = lit≤ tt }
+
+half-times : {z : Float} → AtMost 4096 z → Under (2 ^ 32) (neg half ⊗ z)
+half-times h = mul-under (2 ^ 32) (lit< tt) (lit≤ tt) half-under (most-under h)
+
+by-minus : (p : Float) (m : ℕ) (e : ℤ) → T (isPlus p) → partsUpTo (2 ^ 32) (neg p) → lt nought (neg p ⊗ fin false m e) ≡ false
+unfolding isPlus neg mul
+by-minus nan m e s u = absurd s
+by-minus (inf t) m e s u = absurd u
+by-minus (fin true k g) m e s u = absurd s
+by-minus (fin false k g) m e s u = rounded-below (k * up g * (m * up e)) (down g * down e)
+
+by-plus : (p : Float) (m : ℕ) (e : ℤ) → T (isPlus p) → partsUpTo (2 ^ 32) p → lt nought (p ⊗ fin true m e) ≡ false
+unfolding isPlus mul
+by-plus nan m e s u = absurd s
+by-plus (inf t) m e s u = absurd u
+by-plus (fin true k g) m e s u = absurd s
+by-plus (fin false k g) m e s u = rounded-below (k * up g * (m * up e)) (down g * down e)
+
+half-of : (s : Bool) (m : ℕ) (e : ℤ) → neg half ⊗ fin s m e ≡ round binary64 (unlike true s) (1 * 1 * (m * up e)) (2 * down e)
+unfolding mul neg ofBits
+half-of s m e = refl
+
+square-below : (z : Float) → partsUpTo (2 ^ 32) (neg half ⊗ z) → sizeUpTo 4096 z → lt nought (neg half ⊗ z ⊗ z) ≡ false
+square-below nan h k = absurd k
+square-below (inf s) h k = absurd k
+square-below (fin false m e) h k =
+    let p = round binary64 false (1 * 1 * (m * up e)) (2 * down e) in
+    let i : neg half ⊗ fin false m e ≡ neg p = half-of false m e ∙ round-neg binary64 (1 * 1 * (m * up e)) (2 * down e) in
+    rw i (by-minus p m e (round-plus binary64 (1 * 1 * (m * up e)) (2 * down e) .sign) (subst (λ (y : Float). partsUpTo (2 ^ 32) y) i h))
+square-below (fin true m e) h k =
+    let p = round binary64 false (1 * 1 * (m * up e)) (2 * down e) in
+    let i : neg half ⊗ fin true m e ≡ p = half-of true m e in
+    rw i (by-plus p m e (round-plus binary64 (1 * 1 * (m * up e)) (2 * down e) .sign) (subst (λ (y : Float). partsUpTo (2 ^ 32) y) i h))
+
+module _ {z : Float} (h : AtMost 4096 z) where
+  square-fits : T (fits binary64 (neg half ⊗ z ⊗ z))
+  square-fits = mul-fits binary64 (neg half ⊗ z) z
+
+  square-not-nan : T (not (isNan (neg half ⊗ z ⊗ z)))
+  square-not-nan = most-not-nan (under-most (2 ^ 24) (lit≤ tt) (mul-under (2 ^ 44) (lit< tt) (lit≤ tt) (half-times h) (most-under h)))
+
+  pub exp-square-plus : Plus (expOf (neg half ⊗ z ⊗ z))
+  exp-square-plus = exp-plus (neg half ⊗ z ⊗ z) square-fits square-not-nan (square-below z (half-times h .size) (h .size))
+
+  pub exp-square-most : AtMost 2 (expOf (neg half ⊗ z ⊗ z))
+  exp-square-most = exp-most (neg half ⊗ z ⊗ z) square-fits square-not-nan (square-below z (half-times h .size) (h .size))

@@ -1,4 +1,4 @@
--- What other crates cite: how large a logarithm and a rounded value are, and the sizes in fractions that this rests on.
+-- What other crates cite: how large rounded values, logarithms and exp are, and the sizes in fractions that this rests on.
 pub mod Fractions
 pub mod BitOrder
 pub mod WholeSizes

@@ -58,38 +58,38 @@ module _ (u : ℕ) where
 times : {q : ℕ} {x y : Float} → q < 2 ^ 53 → Under U x → Under q y → Under q (x ⊗ y)
 times {q} l h k = mul-under q l (le-of-eq (mul-comm U q)) h k
 
--- a constant below 1, and a term of the series: it and w times what follows
-lg1 : Under U Lg1
-unfolding ofBits
-lg1 = record { size = lit≤ tt }
+-- the constants of the sequence
+pub record Constants : Type 0 where
+  pub lg1 : Under U Lg1
+  pub lg2 : Under U Lg2
+  pub lg3 : Under U Lg3
+  pub lg4 : Under U Lg4
+  pub lg5 : Under U Lg5
+  pub lg6 : Under U Lg6
+  pub lg7 : Under U Lg7
+  pub halved : Under U half
+  pub ln2hi-under : Under 726818 ln2hi
+  pub ln2lo-under : Under 1 ln2lo
+  pub ivln2hi-under : Under (2 * U) ivln2hi
+  pub ivln2lo-under : Under 1 ivln2lo
 
-lg2 : Under U Lg2
+constants : Constants
 unfolding ofBits
-lg2 = record { size = lit≤ tt }
-
-lg3 : Under U Lg3
-unfolding ofBits
-lg3 = record { size = lit≤ tt }
-
-lg4 : Under U Lg4
-unfolding ofBits
-lg4 = record { size = lit≤ tt }
-
-lg5 : Under U Lg5
-unfolding ofBits
-lg5 = record { size = lit≤ tt }
-
-lg6 : Under U Lg6
-unfolding ofBits
-lg6 = record { size = lit≤ tt }
-
-lg7 : Under U Lg7
-unfolding ofBits
-lg7 = record { size = lit≤ tt }
-
-half-under : Under U half
-unfolding ofBits
-half-under = record { size = lit≤ tt }
+constants =
+    record {
+      lg1 = record { size = lit≤ tt };
+      lg2 = record { size = lit≤ tt };
+      lg3 = record { size = lit≤ tt };
+      lg4 = record { size = lit≤ tt };
+      lg5 = record { size = lit≤ tt };
+      lg6 = record { size = lit≤ tt };
+      lg7 = record { size = lit≤ tt };
+      halved = record { size = lit≤ tt };
+      ln2hi-under = record { size = lit≤ tt };
+      ln2lo-under = record { size = lit≤ tt };
+      ivln2hi-under = record { size = lit≤ tt };
+      ivln2lo-under = record { size = lit≤ tt };
+    }
 
 two-value : HasValue two false 2 1
 unfolding ofBits
@@ -98,7 +98,7 @@ two-value = (refl, refl)
 module _ {f : Float} (h : Under U f) where
   square-under : Under U (halfSquare f)
   unfolding halfSquare
-  square-under = times (lit< tt) (times (lit< tt) half-under h) h
+  square-under = times (lit< tt) (times (lit< tt) (constants .halved) h) h
 
   series-under : Under (8 * U) (seriesOf f)
   unfolding seriesOf
@@ -106,8 +106,8 @@ module _ {f : Float} (h : Under U f) where
       let s : Under U (f ⊘ (two ⊕ f)) = div-under U (lit< tt) (lit< tt) (lit≤ tt) h (left-least 2 two U (lit< tt) (lit≤ tt) two-value h) in
       let z = times (lit< tt) s s in
       let w = times (lit< tt) z z in
-      let t1 = times (lit< tt) w (add-under (lit< tt) lg2 (times (lit< tt) w (add-under (lit< tt) lg4 (times (lit< tt) w lg6)))) in
-      let t2 = times (lit< tt) z (add-under (lit< tt) lg1 (times (lit< tt) w (add-under (lit< tt) lg3 (times (lit< tt) w (add-under (lit< tt) lg5 (times (lit< tt) w lg7)))))) in
+      let t1 = times (lit< tt) w (add-under (lit< tt) (constants .lg2) (times (lit< tt) w (add-under (lit< tt) (constants .lg4) (times (lit< tt) w (constants .lg6))))) in
+      let t2 = times (lit< tt) z (add-under (lit< tt) (constants .lg1) (times (lit< tt) w (add-under (lit< tt) (constants .lg3) (times (lit< tt) w (add-under (lit< tt) (constants .lg5) (times (lit< tt) w (constants .lg7))))))) in
       times (lit< tt) s (add-under (lit< tt) square-under (add-under (lit< tt) t2 t1))
 
 -- ---- k
@@ -129,33 +129,17 @@ power-near b u c h l k v =
 
 -- ---- the natural logarithm
 
-ln2hi-under : Under 726818 ln2hi
-unfolding ofBits
-ln2hi-under = record { size = lit≤ tt }
-
-ln2lo-under : Under 1 ln2lo
-unfolding ofBits
-ln2lo-under = record { size = lit≤ tt }
-
 log-from : {k f : Float} → Under (1077 * U) k → Under U f → AtMost 1024 (logFrom k f)
 unfolding logFrom
 log-from k f =
     under-most 1024 (lit≤ tt)
     (add-under (lit< tt)
     (add-under (lit< tt)
-    (sub-under (lit< tt) (add-under (lit< tt) (series-under f) (mul-under 1077 (lit< tt) (lit≤ tt) k ln2lo-under)) (square-under f))
+    (sub-under (lit< tt) (add-under (lit< tt) (series-under f) (mul-under 1077 (lit< tt) (lit≤ tt) k (constants .ln2lo-under))) (square-under f))
     f)
-    (mul-under (1077 * 726818) (lit< tt) (lit≤ tt) k ln2hi-under))
+    (mul-under (1077 * 726818) (lit< tt) (lit≤ tt) k (constants .ln2hi-under)))
 
 -- ---- the binary logarithm
-
-ivln2hi-under : Under (2 * U) ivln2hi
-unfolding ofBits
-ivln2hi-under = record { size = lit≤ tt }
-
-ivln2lo-under : Under 1 ivln2lo
-unfolding ofBits
-ivln2lo-under = record { size = lit≤ tt }
 
 -- cleared bits make no value larger
 upper-under : {x : Float} → T (fits binary64 x) → Under (2 * U) x → Under (2 * U) (upperHalf x)
@@ -174,8 +158,8 @@ log2-from {k} {f} kh fh =
     let hfsq = square-under fh in
     let hi = upper-under (sub-fits binary64 f (halfSquare f)) (sub-under (lit< tt) fh hfsq) in
     let lo = add-under (lit< tt) (sub-under (lit< tt) (sub-under (lit< tt) fh hi) hfsq) (series-under fh) in
-    let valHi = mul-under (4 * U) (lit< tt) (lit≤ tt) hi ivln2hi-under in
-    let valLo = add-under (lit< tt) (mul-under 14 (lit< tt) (lit≤ tt) (add-under (lit< tt) lo hi) ivln2lo-under) (mul-under (24 * U) (lit< tt) (lit≤ tt) lo ivln2hi-under) in
+    let valHi = mul-under (4 * U) (lit< tt) (lit≤ tt) hi (constants .ivln2hi-under) in
+    let valLo = add-under (lit< tt) (mul-under 14 (lit< tt) (lit≤ tt) (add-under (lit< tt) lo hi) (constants .ivln2lo-under)) (mul-under (24 * U) (lit< tt) (lit≤ tt) lo (constants .ivln2hi-under)) in
     let w = add-under (lit< tt) kh valHi in
     under-most 4096 (lit≤ tt) (add-under (lit< tt) (add-under (lit< tt) valLo (add-under (lit< tt) (sub-under (lit< tt) kh w) valHi)) w)
 

@@ -1,0 +1,2 @@
+-- The laws of phases, which other crates may cite.
+pub mod Phases

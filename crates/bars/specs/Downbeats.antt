@@ -1,0 +1,75 @@
+-- Document 01, "Beats and bars": "Downbeats: of phases 0 to 3, the first with the greatest flux sum; a beat past the envelope adds 0, an
+-- empty phase sums to 0." The four is written as the meter, so that a bar may have another number of beats.
+use mathlib.Core.Path.{_≡_}
+use mathlib.Core.Bool.{Bool, true, _&&_}
+use mathlib.Core.List.{List, [], _∷_, map}
+use Prim.Native.Nat.{ℕ, zero, suc, _-_, _%_}
+use lib.Dec.{leb, eqb}
+use lib.ListN.{length, getD}
+use lib.Ieee.{Float, lt}
+use Rattle.numbers.specs.Rounded.{nought, pick, sumOf}
+use Rattle.numbers.specs.Limits.{mostRows, mostFrame, between, valueFine}
+use Rattle.numbers.specs.Refusals.{lowest, unlessRefused}
+use Rattle.numbers.specs.Lists.{listed, every}
+
+-- ---- what is refused
+
+-- beats a bar, where nothing else is said
+abbrev pub commonMeter : ℕ
+commonMeter = 4
+
+-- the most beats a bar
+abbrev pub mostMeter : ℕ
+mostMeter = 16
+
+-- "Listed frames at most 1,048,575"
+unfoldable pub frameFine : ℕ → Bool
+frameFine frame = leb frame mostFrame
+
+-- number 1: N, each listed beat and the meter are in bounds
+unfoldable pub numbersFine : List Float → List ℕ → (meter : ℕ) → Bool
+numbersFine envelope beats meter = leb (length envelope) mostRows && (every frameFine beats && between 1 mostMeter meter)
+
+-- number 3: a slot for each beat
+unfoldable pub roomFine : List ℕ → (room : ℕ) → Bool
+roomFine beats room = leb (length beats) room
+
+-- the number; 4 judges the whole envelope
+unfoldable pub downbeatRefusal : List Float → List ℕ → (meter room : ℕ) → ℕ
+downbeatRefusal envelope beats meter room = lowest (numbersFine envelope beats meter) true (roomFine beats room) (every valueFine envelope)
+
+-- ---- what is answered
+
+-- "a beat past the envelope adds 0"
+unfoldable pub fluxAt : List Float → ℕ → Float
+fluxAt envelope frame = getD envelope frame nought
+
+-- the beats whose place in the list, divided by the meter, leaves the phase; `place` is that of the first
+unfoldable pub inPhase : (meter phase place : ℕ) → List ℕ → List ℕ
+inPhase meter phase place [] = []
+inPhase meter phase place (beat ∷ beats) =
+    let rest = inPhase meter phase (suc place) beats in
+    pick (eqb (place % meter) phase) (beat ∷ rest) rest
+
+-- a phase's flux sum: "an empty phase sums to 0"
+unfoldable pub phaseSum : List Float → List ℕ → (meter phase : ℕ) → Float
+phaseSum envelope beats meter phase = sumOf (map (fluxAt envelope) (inPhase meter phase 0 beats))
+
+-- of `best` and the n phases from `phase` on, the first with the greatest sum
+unfoldable pub firstGreatest : (ℕ → Float) → (phase n best : ℕ) → ℕ
+firstGreatest sum phase zero best = best
+firstGreatest sum phase (suc n) best = firstGreatest sum (suc phase) n (pick (lt (sum best) (sum phase)) phase best)
+
+-- "of phases 0 to 3, the first with the greatest flux sum"
+unfoldable pub downbeatPhase : List Float → List ℕ → (meter : ℕ) → ℕ
+downbeatPhase envelope beats meter = firstGreatest (phaseSum envelope beats meter) 1 (meter - 1) 0
+
+-- the downbeats, in the order of the list
+unfoldable pub downbeatsOf : List Float → List ℕ → (meter : ℕ) → List ℕ
+downbeatsOf envelope beats meter = inPhase meter (downbeatPhase envelope beats meter) 0 beats
+
+-- the promise of `downbeats`: its number, its count, and the lent list afterwards
+pub record Downbeats (envelope : List Float) (beats : List ℕ) (meter : ℕ) (before : List ℕ) (number count : ℕ) (after : List ℕ) : Type 0 where
+  pub number-is : number ≡ downbeatRefusal envelope beats meter (length before)
+  pub count-is : count ≡ unlessRefused (downbeatRefusal envelope beats meter (length before)) (length (downbeatsOf envelope beats meter)) 0
+  pub frames-are : after ≡ unlessRefused (downbeatRefusal envelope beats meter (length before)) (listed (downbeatsOf envelope beats meter) before) before

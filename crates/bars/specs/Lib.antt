@@ -1,0 +1,2 @@
+pub mod Downbeats
+pub mod BarBeats

@@ -1,0 +1,204 @@
+// Bars: which of the beats are downbeats, and which bar and beat a time lies in.
+//
+// Document 01, "Beats and bars". The Rust: tempo.rs `downbeat_phase` and `bar_beat_at`.
+ghost use mathlib.Core.Path.{_≡_};
+ghost use mathlib.Core.List.{List};
+ghost use Prim.Native.Nat.{_<_, _≤_};
+ghost use lib.ListN.{length};
+ghost use Rattle.numbers.specs.Lists.{every, listed};
+ghost use Rattle.bars.specs.Downbeats.{frameFine, downbeatRefusal, fluxAt, inPhase, phaseSum, downbeatPhase, Downbeats, commonMeter};
+ghost use Rattle.bars.specs.BarBeats.{lastBar, during, passing, barBeatOf};
+use numbers::Listing;
+
+// beats a bar, where nothing else is said
+pub const COMMON_METER: usize = 4;
+// the most beats a bar
+pub const MOST_METER: usize = 16;
+
+// Where a time lies: before the first bar, or in a bar and at a beat of it, both counted from 1.
+pub enum BarBeat {
+    Nowhere,
+    At { bar: usize, beat: usize },
+}
+
+// Lists the downbeats of a beat list in common time: every fourth beat, from the one that makes their flux sum greatest.
+// Room: one slot for each beat; slots past the count stay. Refuses 1 (N, or a beat above 1,048,575), 3 and 4, and then lists nothing.
+// The beats need not ascend; where flux is negative an empty phase may be the greatest, and then no beat is a downbeat.
+pub fn downbeats(envelope: &[f64], beats: &[u32], frames: &mut [u32]) -> Listing
+    ensures { λ r. ⌜ Downbeats (now (envelope .entry)) (now (beats .entry)) commonMeter (now (frames .entry)) (r .number) (r .count) (now (frames .exit)) ⌝ }
+{
+    downbeats_in(envelope, beats, COMMON_METER, frames)
+}
+
+// Inner: the downbeats of bars of `meter` beats; refuses 1 also for a meter outside 1 to 16.
+pub fn downbeats_in(envelope: &[f64], beats: &[u32], meter: usize, frames: &mut [u32]) -> Listing
+    ensures { λ r. ⌜ Downbeats (now (envelope .entry)) (now (beats .entry)) meter (now (frames .entry)) (r .number) (r .count) (now (frames .exit)) ⌝ }
+{
+    let no = downbeat_refusal(envelope, beats, meter, frames.len());
+    if no != 0 {
+        return Listing {
+            number: no,
+            count: 0,
+        };
+    }
+    let phase = downbeat_phase(envelope, beats, meter);
+    let count = list_phase(beats, meter, phase, frames);
+    Listing {
+        number: 0,
+        count: count,
+    }
+}
+
+// Says where a time lies: the last bar whose downbeat it reaches, and how many of the bar's beats it has reached, at least 1.
+// Both tests have a slack of 0.000001. Any f64 will do in each place, in any order; a NaN is reached by nothing and reaches nothing.
+// Refuses nothing.
+pub fn bar_beat_at(time: f64, downbeats: &[f64], beats: &[f64]) -> BarBeat
+    ensures { λ r. ⌜ r ≡ barBeatOf time (now (downbeats .entry)) (now (beats .entry)) ⌝ }
+{
+    let limit = time + 0.000001;
+    let bar = last_bar(limit, downbeats);
+    if bar == 0 {
+        return BarBeat::Nowhere;
+    }
+    let heard = beats_during(downbeats[bar - 1] - 0.000001, limit, beats);
+    BarBeat::At {
+        bar: bar,
+        beat: numbers::greatest(1, heard),
+    }
+}
+
+fn downbeat_refusal(envelope: &[f64], beats: &[u32], meter: usize, room: usize) -> u32
+    ensures { λ r. ⌜ r ≡ downbeatRefusal (now (envelope .entry)) (now (beats .entry)) meter room ⌝ }
+{
+    if envelope.len() > numbers::MOST_ROWS {
+        return numbers::OUT_OF_BOUNDS;
+    }
+    if !frames_fine(beats) {
+        return numbers::OUT_OF_BOUNDS;
+    }
+    if meter < 1 {
+        return numbers::OUT_OF_BOUNDS;
+    }
+    if meter > MOST_METER {
+        return numbers::OUT_OF_BOUNDS;
+    }
+    if room < beats.len() {
+        return numbers::TOO_LITTLE_ROOM;
+    }
+    if !numbers::values_fine(envelope) {
+        return numbers::WRONG_VALUE;
+    }
+    0
+}
+
+fn frames_fine(frames: &[u32]) -> bool
+    ensures { λ r. ⌜ r ≡ every frameFine (now (frames .entry)) ⌝ }
+{
+    let mut fine = true;
+    let mut i = 0;
+    while i < frames.len() {
+        let frame = frames[i];
+        fine = if frame <= numbers::MOST_FRAME {
+            fine
+        } else {
+            false
+        };
+        i += 1;
+    }
+    fine
+}
+
+fn flux_at(envelope: &[f64], frame: u32) -> f64
+    ensures { λ r. ⌜ r ≡ fluxAt (now (envelope .entry)) frame ⌝ }
+{
+    let at = frame as usize;
+    if at < envelope.len() {
+        envelope[at]
+    } else {
+        0.0
+    }
+}
+
+fn phase_sum(envelope: &[f64], beats: &[u32], meter: usize, phase: usize) -> f64
+    requires { ⌜ 0 < meter ⌝ }
+    ensures { λ r. ⌜ r ≡ phaseSum (now (envelope .entry)) (now (beats .entry)) meter phase ⌝ }
+{
+    let mut sum = 0.0;
+    let mut i = 0;
+    while i < beats.len() {
+        if i % meter == phase {
+            sum = sum + flux_at(envelope, beats[i]);
+        }
+        i += 1;
+    }
+    sum
+}
+
+fn downbeat_phase(envelope: &[f64], beats: &[u32], meter: usize) -> usize
+    requires { ⌜ 0 < meter ⌝ }
+    ensures { λ r. ⌜ r ≡ downbeatPhase (now (envelope .entry)) (now (beats .entry)) meter ⌝ }
+{
+    let mut best = 0;
+    let mut top = phase_sum(envelope, beats, meter, 0);
+    let mut phase = 1;
+    while phase < meter {
+        let sum = phase_sum(envelope, beats, meter, phase);
+        if top < sum {
+            top = sum;
+            best = phase;
+        }
+        phase += 1;
+    }
+    best
+}
+
+fn list_phase(beats: &[u32], meter: usize, phase: usize, frames: &mut [u32]) -> usize
+    requires { ⌜ (0 < meter) × (length (now beats) ≤ length (now frames)) ⌝ }
+    ensures { λ r. ⌜ (r ≡ length (inPhase meter phase 0 (now (beats .entry)))) × (now (frames .exit) ≡ listed (inPhase meter phase 0 (now (beats .entry))) (now (frames .entry))) ⌝ }
+{
+    let mut count = 0;
+    let mut i = 0;
+    while i < beats.len() {
+        if i % meter == phase {
+            frames[count] = beats[i];
+            count += 1;
+        }
+        i += 1;
+    }
+    count
+}
+
+// The number, from 1, of the last downbeat that `limit` reaches; 0 where it reaches none.
+fn last_bar(limit: f64, downbeats: &[f64]) -> usize
+    ensures { λ r. ⌜ (r ≤ length (now (downbeats .entry))) × (r ≡ lastBar limit (now (downbeats .entry)) (length (now (downbeats .entry)))) ⌝ }
+{
+    let mut k = downbeats.len();
+    while 0 < k {
+        if downbeats[k - 1] <= limit {
+            return k;
+        }
+        k -= 1;
+    }
+    0
+}
+
+fn beats_during(lo: f64, hi: f64, beats: &[f64]) -> usize
+    ensures { λ r. ⌜ r ≡ passing (during lo hi) (now (beats .entry)) ⌝ }
+{
+    let mut count = 0;
+    let mut i = 0;
+    while i < beats.len() {
+        let beat = beats[i];
+        if is_during(lo, hi, beat) {
+            count += 1;
+        }
+        i += 1;
+    }
+    count
+}
+
+fn is_during(lo: f64, hi: f64, t: f64) -> bool
+    ensures { λ r. ⌜ r ≡ during lo hi t ⌝ }
+{
+    lo <= t && t <= hi
+}

@@ -1,0 +1,5 @@
+-- The laws that other crates cite.
+pub mod Greatest
+pub mod Extensions
+pub mod Walks
+pub mod Marks

@@ -1,0 +1,90 @@
+-- Document 01, "Beats and bars": "Beats are the links walked back from the first greatest score." What `beat_grid` refuses, and what it promises.
+use mathlib.Core.Path.{_≡_}
+use mathlib.Core.Bool.{Bool, true, _&&_}
+use mathlib.Core.List.{List, [], _∷_, _++_}
+use Prim.Native.Nat.{ℕ, zero, suc, _+_, _-_, _≤_, _<_}
+use lib.Dec.{leb, eqb}
+use lib.ListN.{length, getD}
+use lib.Ieee.{Float, nan}
+use Rattle.numbers.specs.Rounded.{pick}
+use Rattle.numbers.specs.Limits.{mostRows, mostPeriod, valueFine}
+use Rattle.numbers.specs.Refusals.{lowest, unlessRefused}
+use Rattle.numbers.specs.Lists.{listed, every}
+use Rattle.beats.specs.Envelopes.{beatless, scaleOf, scaledBy, scaled}
+use Rattle.beats.specs.Scores.{greatest, noLink, scores, links, Tracked}
+
+-- ---- what is refused
+
+-- number 1: N and the period are in bounds
+unfoldable pub numbersFine : List Float → (period : ℕ) → Bool
+numbersFine envelope period = leb (length envelope) mostRows && leb period mostPeriod
+
+-- number 3: N slots for scores, links and beats
+unfoldable pub roomFine : List Float → (score back beats : ℕ) → Bool
+roomFine envelope score back beats = leb (length envelope) score && (leb (length envelope) back && leb (length envelope) beats)
+
+-- the number; 4 judges the whole envelope
+unfoldable pub gridRefusal : List Float → (period score back beats : ℕ) → ℕ
+gridRefusal envelope period score back beats =
+    lowest (numbersFine envelope period) true (roomFine envelope score back beats) (every valueFine envelope)
+
+-- ---- what is answered
+
+-- a value of a list
+abbrev pub valueAt : List Float → ℕ → Float
+valueAt values t = getD values t nan
+
+-- a link of a list
+abbrev pub linkAt : List ℕ → ℕ → ℕ
+linkAt links t = getD links t noLink
+
+-- the first greatest of the first n values, n at least 1
+unfoldable pub firstGreatest : List Float → (n : ℕ) → ℕ
+unfolding greatest
+firstGreatest values n = greatest (valueAt values) 1 (n - 1) (record { value = valueAt values 0; at = 0 }) .at
+
+-- the beats that end at frame t: those that its link ends, and t itself
+unfoldable pub walked : (steps : ℕ) → (link : ℕ → ℕ) → (t : ℕ) → List ℕ
+walked zero link t = []
+walked (suc k) link t = let earlier = walked k link (link t) in pick (eqb (link t) noLink) [] earlier ++ (t ∷ [])
+
+-- a link lies below its frame, so t + 1 steps are enough
+unfoldable pub beatsTo : (link : ℕ → ℕ) → (t : ℕ) → List ℕ
+unfolding walked
+beatsTo link t = walked (t + 1) link t
+
+-- For the code: each link of a frame up to t leads to an earlier frame.
+abbrev pub Descends : (link : ℕ → ℕ) → (t : ℕ) → Type 0
+Descends link t = (u : ℕ) → u ≤ t → (link u ≡ noLink → ⊥) → link u < u
+
+-- "Beats are the links walked back from the first greatest score", for n frames by their scaled flux
+unfoldable pub grid : (period : ℕ) → (ℕ → Float) → (n : ℕ) → List ℕ
+unfolding scores links firstGreatest beatsTo
+grid period flux n = beatsTo (linkAt (links period flux n)) (firstGreatest (scores period flux n) n)
+
+-- the scores, the links and the beats of an envelope, none of each where it is beatless
+unfoldable pub scoresOf : List Float → (period : ℕ) → List Float
+unfolding beatless scaledBy scaleOf scores
+scoresOf envelope period = pick (beatless envelope period) [] (scores period (scaled envelope) (length envelope))
+
+unfoldable pub linksOf : List Float → (period : ℕ) → List ℕ
+unfolding beatless scaledBy scaleOf links
+linksOf envelope period = pick (beatless envelope period) [] (links period (scaled envelope) (length envelope))
+
+unfoldable pub gridOf : List Float → (period : ℕ) → List ℕ
+unfolding beatless scaledBy scaleOf grid
+gridOf envelope period = pick (beatless envelope period) [] (grid period (scaled envelope) (length envelope))
+
+-- the promise of `beat_grid`: its number, its count, and the three lent lists afterwards
+pub record Gridded (envelope : List Float) (period : ℕ) (score₀ : List Float) (back₀ beats₀ : List ℕ) (number count : ℕ) (score : List Float) (back beats : List ℕ) : Type 0 where
+  pub number-is : number ≡ gridRefusal envelope period (length score₀) (length back₀) (length beats₀)
+  pub count-is : count ≡ unlessRefused number (length (gridOf envelope period)) 0
+  pub score-is : score ≡ unlessRefused number (listed (scoresOf envelope period) score₀) score₀
+  pub back-is : back ≡ unlessRefused number (listed (linksOf envelope period) back₀) back₀
+  pub beats-are : beats ≡ unlessRefused number (listed (gridOf envelope period) beats₀) beats₀
+
+-- For the code: what stands in the three lent lists, and how many beats, once n frames are tracked.
+pub record Laid (period : ℕ) (flux : ℕ → Float) (n : ℕ) (score₀ score : List Float) (back₀ back beats₀ beats : List ℕ) (count : ℕ) : Type 0 where
+  pub tracked : Tracked period flux n score₀ score back₀ back
+  pub count-is : count ≡ length (grid period flux n)
+  pub beats-are : beats ≡ listed (grid period flux n) beats₀
