@@ -1,9 +1,9 @@
 -- Flux: one bin more of a row's sum, the rows that a slot is made of, what number 0 says, and that a slot depends on no other row.
 use mathlib.Core.Bool.{true, _&&_}
 use mathlib.Core.List.{List, [], _∷_}
-use mathlib.Core.Logic.{_⊎_, inl, inr}
+use mathlib.Core.Logic.{_⊎_, inl, inr, ⊎-elim}
 use mathlib.Core.Path.{_≡_, refl, sym, ap, _∙_}
-use Prim.Native.Nat.{ℕ, zero, suc, _+_, _-_, _*_, _≤_, _<_}
+use Prim.Native.Nat.{ℕ, zero, suc, _+_, _-_, _*_, _≤_, _<_, min}
 use native.Mathlib.Nat.{le-refl, min-le-left}
 use native.Mathlib.Numerals.{add-one}
 use native.Mathlib.Omega.{arith}
@@ -14,9 +14,10 @@ use lib.ListN.{length, getD, drop, drop-of-length-le, length-take}
 use lib.Seq.{drop-cons}
 use Rattle.numbers.proofs.Everys.{every-tab}
 use Rattle.numbers.proofs.Overs.{row-over}
+use Rattle.numbers.proofs.Tabs.{local-curve}
 use Rattle.numbers.proofs.Tests.{and-left, and-right, lowest-zero}
 use Rattle.numbers.specs.Limits.{mostRows, mostBins, between, magnitudeFine, valueFine}
-use Rattle.numbers.specs.Lists.{row, every, over, curve}
+use Rattle.numbers.specs.Lists.{row, every, over, curve, filled}
 use Rattle.numbers.specs.Rounded.{_⊕_, _⊖_, positivePart, sumFrom, sumOf}
 use Rattle.sizes.proofs.Lists.{magnitudes-within, each-row}
 use Rattle.sizes.proofs.Sizes.{within-weaken, sub-within, positivePart-most, nought-most}
@@ -75,6 +76,15 @@ flux-over s new n b a k whole rows inside t (inl u) =
     flux-same s _ b t (row-over s new n b a k nan whole rows inside (t - 1) (inl (omega arith))) (row-over s new n b a k nan whole rows inside t (inl u))
 flux-over s new n b a k whole rows inside t (inr u) =
     flux-same s _ b t (row-over s new n b a k nan whole rows inside (t - 1) (inr (omega arith))) (row-over s new n b a k nan whole rows inside t (inr (omega arith)))
+
+-- the flux curve of the old rows with slots a up to and with a + k written again is the curve of the new rows
+pub flux-local : (s new : List Float) (n b a k : ℕ) → length s ≡ n * b → length new ≡ k * b → a + k ≤ n
+    → filled (fluxAt (over s (a * b) new) b) (curve (fluxAt s b) n) a (min (a + k + 1) n) ≡ curve (fluxAt (over s (a * b) new) b) n
+flux-local s new n b a k whole rows inside =
+    local-curve (fluxAt s b) (fluxAt (over s (a * b) new) b) n a (min (a + k + 1) n) nan (omega arith) (omega arith)
+    (λ t h. ⊎-elim
+    (λ (u : t < a). flux-over s new n b a k whole rows inside t (inl u))
+    (λ (u : min (a + k + 1) n ≤ t). flux-over s new n b a k whole rows inside t (inr (omega arith))))
 
 -- ---- size
 

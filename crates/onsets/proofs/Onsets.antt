@@ -3,20 +3,21 @@
 use mathlib.Core.Bool.{Bool, true, _&&_}
 use mathlib.Core.List.{List, [], _∷_, map}
 use mathlib.Core.Path.{_≡_, refl, sym, _∙_}
-use Prim.Native.Nat.{ℕ, _-_, _≤_}
+use Prim.Native.Nat.{ℕ, _-_, _≤_, _<_}
 use native.Mathlib.Omega.{arith}
-use borrow.Author.Tests.{leb-true, le-leb, eqb-true, ltb-true}
+use borrow.Author.Tests.{leb-true, le-leb, eqb-true, ltb-true, lt-ltb}
 use lib.Dec.{leb, ltb, eqb}
 use lib.Ieee.{Float}
 use lib.ListN.{length, getD, length-map, List·getD-map}
 use lib.Seq.{ext-getD}
+use Rattle.numbers.proofs.Everys.{every-at}
 use Rattle.numbers.proofs.Tabs.{length-tab, getD-curve, filled-whole}
 use Rattle.numbers.proofs.Tests.{and-left, and-right, and-both, lowest-zero}
 use Rattle.numbers.specs.Limits.{mostRows, mostFrame, rateFine, valueFine}
 use Rattle.numbers.specs.Lists.{every, curve, filled, listed}
-use Rattle.onsets.specs.Onsets.{gapOf, onsetsOf, onsetsRefusal, timesRefusal}
+use Rattle.onsets.specs.Onsets.{frameFine, gapOf, onsetsOf, onsetsRefusal, timesRefusal}
 use Rattle.onsets.specs.Peaks.{at, peaksOf, ascending, pointInto}
-use Rattle.onsets.proofs.Picks.{peaks-ascend, peaks-inside, peaks-length, suppressed-ascends, suppressed-every, suppressed-length}
+use Rattle.onsets.proofs.Picks.{ascending-from, peaks-ascend, peaks-inside, peaks-length, suppressed-ascends, suppressed-every, suppressed-length}
 
 -- a test that follows from another
 pub every-weaken : (p q : ℕ → Bool) → ((x : ℕ) → p x ≡ true → q x ≡ true) → (xs : List ℕ) → every p xs ≡ true → every q xs ≡ true
@@ -37,11 +38,24 @@ module _ (flux threshold : List Float) (rate : ℕ) where
   unfolding onsetsOf
   onsets-length = omega (arith, suppressed-length flux (gapOf rate) (peaksOf flux (at threshold)), peaks-length flux (at threshold))
 
-  -- each may be listed
-  pub onsets-listable : length flux ≤ mostRows → every (λ frame. leb frame mostFrame) (onsetsOf flux threshold rate) ≡ true
+  -- so no call after it refuses them
+  pub onsets-point-into : pointInto (length flux) (onsetsOf flux threshold rate) ≡ true
+  onsets-point-into =
+      every-weaken (λ x. ltb x (length flux - 1)) (λ x. ltb x (length flux))
+      (λ x e. lt-ltb x (length flux) (omega (arith, ltb-true x (length flux - 1) e))) (onsetsOf flux threshold rate) onsets-inside
+
+  pub onsets-listable : length flux ≤ mostRows → every frameFine (onsetsOf flux threshold rate) ≡ true
   onsets-listable h =
-      every-weaken (λ x. ltb x (length flux - 1)) (λ x. leb x mostFrame)
+      every-weaken (λ x. ltb x (length flux - 1)) frameFine
       (λ x e. le-leb x mostFrame (omega (arith, ltb-true x (length flux - 1) e))) (onsetsOf flux threshold rate) onsets-inside
+
+  -- onset i is a frame from 1 to the last but one
+  pub onset-at : (i : ℕ) → i < length (onsetsOf flux threshold rate)
+      → (1 ≤ getD (onsetsOf flux threshold rate) i 0) × (getD (onsetsOf flux threshold rate) i 0 < length flux - 1)
+  onset-at i h = (
+    ascending-from 1 (onsetsOf flux threshold rate) i h onsets-ascend,
+    ltb-true _ _ (every-at (λ x. ltb x (length flux - 1)) (onsetsOf flux threshold rate) i 0 onsets-inside h),
+  )
 
 -- ---- times
 
@@ -82,13 +96,13 @@ onsets-told flux threshold rate room e =
 
 pub record TimesFine (frames : List ℕ) (rate room : ℕ) : Type 0 where
   pub rate-fits : rateFine rate ≡ true
-  pub frames-fit : every (λ frame. leb frame mostFrame) frames ≡ true
+  pub frames-fit : every frameFine frames ≡ true
   pub has-room : length frames ≤ room
 
 pub times-told : (frames : List ℕ) (rate room : ℕ) → timesRefusal frames rate room ≡ 0 → TimesFine frames rate room
 unfolding timesRefusal
 times-told frames rate room e =
-    let p = lowest-zero (rateFine rate && every (λ frame. leb frame mostFrame) frames) true (leb (length frames) room) true e in
+    let p = lowest-zero (rateFine rate && every frameFine frames) true (leb (length frames) room) true e in
     record {
       rate-fits = and-left (rateFine rate) _ (p .bounds);
       frames-fit = and-right (rateFine rate) _ (p .bounds);

@@ -3,7 +3,7 @@ use mathlib.Core.Bool.{Bool, true, false, _&&_}
 use mathlib.Core.List.{List, [], _∷_}
 use mathlib.Core.Path.{_≡_, refl, sym, _∙_}
 use Prim.Native.Nat.{ℕ, zero, suc, _+_, _-_, _≤_, _<_}
-use native.Mathlib.Nat.{le-refl}
+use native.Mathlib.Nat.{le-refl, not-suc-le-zero, le-of-suc-le-suc}
 use native.Mathlib.Numerals.{add-one}
 use native.Mathlib.Omega.{arith}
 use borrow.Author.Tests.{leb-true, le-leb, lt-ltb}
@@ -49,6 +49,26 @@ pub ascending-rest : (low next : ℕ) (xs : List ℕ) (i : ℕ) → i < length x
     → ascending next (drop (i + 1) xs) ≡ true
 ascending-rest low next xs i h n e =
     ascending-weaken (getD xs i 0 + 1) next (drop (i + 1) xs) (omega arith) (and-right (leb low (getD xs i 0)) _ (sym (ascending-step low xs i h) ∙ e))
+
+-- each entry is no less than what the list ascends from
+pub ascending-from : (low : ℕ) (xs : List ℕ) (i : ℕ) → i < length xs → ascending low xs ≡ true → low ≤ getD xs i 0
+unfolding ascending
+ascending-from low [] i h e = absurd (not-suc-le-zero h)
+ascending-from low (x ∷ xs) zero h e = leb-true low x (and-left (leb low x) _ e)
+ascending-from low (x ∷ xs) (suc i) h e =
+    let here = leb-true low x (and-left (leb low x) _ e) in
+    let there = ascending-from (x + 1) xs i (le-of-suc-le-suc h) (and-right (leb low x) _ e) in
+    omega arith
+
+-- an earlier entry is less than a later one
+pub ascending-less : (low : ℕ) (xs : List ℕ) (i j : ℕ) → i < j → j < length xs → ascending low xs ≡ true → getD xs i 0 < getD xs j 0
+unfolding ascending
+ascending-less low [] i j g h e = absurd (not-suc-le-zero h)
+ascending-less low (x ∷ xs) i zero g h e = absurd (not-suc-le-zero g)
+ascending-less low (x ∷ xs) zero (suc j) g h e =
+    let there = ascending-from (x + 1) xs j (le-of-suc-le-suc h) (and-right (leb low x) _ e) in
+    omega arith
+ascending-less low (x ∷ xs) (suc i) (suc j) g h e = ascending-less (x + 1) xs i j (le-of-suc-le-suc g) (le-of-suc-le-suc h) (and-right (leb low x) _ e)
 
 -- ---- the entries that pass a test
 

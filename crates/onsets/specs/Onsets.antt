@@ -49,7 +49,11 @@ onsetsRefusal flux threshold rate room =
     lowest (leb (length flux) mostRows && rateFine rate) (eqb (length threshold) (length flux)) (leb (length flux) room)
     (every valueFine flux && every valueFine threshold)
 
+-- a frame that may be listed
+abbrev pub frameFine : ℕ → Bool
+frameFine frame = leb frame mostFrame
+
 -- 1: the rate is fine and each frame at most 1,048,575. 3: room for each frame.
 unfoldable pub timesRefusal : (frames : List ℕ) → (rate room : ℕ) → ℕ
 timesRefusal frames rate room =
-    lowest (rateFine rate && every (λ frame. leb frame mostFrame) frames) true (leb (length frames) room) true
+    lowest (rateFine rate && every frameFine frames) true (leb (length frames) room) true

@@ -120,15 +120,15 @@ fn row_of(slab: &[f32], rows: usize, bins: usize, t: usize) -> &[f32]
 }
 
 // One row over the row before it.
-fn rise(p: &[f32], q: &[f32]) -> f64
-    requires { ⌜ length (now q) ≡ length (now p) ⌝ }
-    requires { ⌜ (every magnitudeFine (now p) ≡ true) × (every magnitudeFine (now q) ≡ true) ⌝ }
-    ensures { λ r. ⌜ r ≡ sumOf (rises (now (p .entry)) (now (q .entry))) ⌝ }
+fn rise(prev: &[f32], cur: &[f32]) -> f64
+    requires { ⌜ length (now cur) ≡ length (now prev) ⌝ }
+    requires { ⌜ (every magnitudeFine (now prev) ≡ true) × (every magnitudeFine (now cur) ≡ true) ⌝ }
+    ensures { λ r. ⌜ r ≡ sumOf (rises (now (prev .entry)) (now (cur .entry))) ⌝ }
 {
     let mut sum = 0.0;
     let mut i = 0;
-    while i < p.len() {
-        sum = sum + positive_part(wide(q, i) - wide(p, i));
+    while i < prev.len() {
+        sum = sum + positive_part(wide(cur, i) - wide(prev, i));
         i += 1;
     }
     sum
@@ -148,11 +148,11 @@ fn wide(s: &[f32], i: usize) -> f64
 }
 
 // The sums of four rows.
-pub struct Four {
-    pub a: f64,
-    pub b: f64,
-    pub c: f64,
-    pub d: f64,
+struct Four {
+    a: f64,
+    b: f64,
+    c: f64,
+    d: f64,
 }
 
 fn flux_four(slab: &[f32], rows: usize, bins: usize, t: usize) -> Four

@@ -9,12 +9,10 @@ use numbers::Listing;
 ghost use mathlib.Core.Path.{_≡_};
 ghost use mathlib.Core.List.{map};
 ghost use Prim.Native.Nat.{_≤_};
-ghost use lib.Dec.{leb};
 ghost use lib.ListN.{length};
-ghost use Rattle.numbers.specs.Limits.{mostFrame};
 ghost use Rattle.numbers.specs.Lists.{listed, every};
 ghost use Rattle.onsets.specs.Outcomes.{Written, Lists};
-ghost use Rattle.onsets.specs.Onsets.{gapOf, onsetsOf, frameTime, onsetsRefusal, timesRefusal};
+ghost use Rattle.onsets.specs.Onsets.{gapOf, onsetsOf, frameTime, frameFine, onsetsRefusal, timesRefusal};
 
 // Lists the frames of the onsets of a flux with its threshold, at a sample rate. Room: one slot for each slot of flux.
 // Refuses: 1 a flux longer than 1,048,576 or a rate outside 1..192,000; 2 a threshold of another length; 3 frames shorter than
@@ -92,7 +90,7 @@ fn times_refusal(frames: &[u32], rate: u32, room: usize) -> u32
 }
 
 fn frames_fine(frames: &[u32]) -> bool
-    ensures { λ r. ⌜ r ≡ every (λ frame. leb frame mostFrame) (now (frames .entry)) ⌝ }
+    ensures { λ r. ⌜ r ≡ every frameFine (now (frames .entry)) ⌝ }
 {
     let mut i = 0;
     while i < frames.len() {

@@ -124,10 +124,10 @@ pub fn pick_above(curve: &[f64], level: f64, gap: usize, frames: &mut [u32]) -> 
 }
 
 // Whether a group is open and its best peak; and how many bests of closed groups are listed.
-pub struct Group {
-    pub opened: bool,
-    pub best: usize,
-    pub count: usize,
+struct Group {
+    opened: bool,
+    best: usize,
+    count: usize,
 }
 
 // Slot t joins, if it is a peak.
@@ -187,9 +187,9 @@ fn close(group: Group, frames: &mut [u32]) -> usize
     ensures { λ r. ⌜ Closed group (now (frames .entry)) r (now (frames .exit)) ⌝ }
 {
     let count = group.count;
-    if !group.opened {
-        return count;
+    if group.opened {
+        frames[count] = group.best as u32;
+        return count + 1;
     }
-    frames[count] = group.best as u32;
-    count + 1
+    count
 }

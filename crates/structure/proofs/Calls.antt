@@ -7,10 +7,28 @@ use lib.Dec.{leb, eqb}
 use lib.ListN.{length}
 use lib.Ieee.{Float}
 use borrow.Author.Tests.{leb-true, eqb-true}
-use Rattle.numbers.specs.Limits.{similarityFine}
+use Rattle.numbers.specs.Limits.{valueFine, similarityFine}
 use Rattle.numbers.specs.Lists.{every}
 use Rattle.numbers.proofs.Tests.{Passed, lowest-zero}
+use Rattle.structure.specs.Similarity.{similarityNumber}
 use Rattle.structure.specs.Novelty.{noveltyNumber}
+
+pub record SimilarityPassed (features : List Float) (rows room : ℕ) : Type 0 where
+  pub few : rows ≤ 50000
+  pub whole : length features ≡ rows * 16
+  pub space : rows * 17 ≤ room
+  pub fine : every valueFine features ≡ true
+
+pub similarity-passed : (features : List Float) (rows room : ℕ) → similarityNumber features rows room ≡ 0 → SimilarityPassed features rows room
+unfolding similarityNumber
+similarity-passed features rows room e =
+    let p : Passed (leb rows 50000) (eqb (length features) (rows * 16)) (leb (rows * 17) room) (every valueFine features) = lowest-zero _ _ _ _ e in
+    record {
+      few = leb-true _ _ (p .bounds);
+      whole = eqb-true _ _ (p .lengths);
+      space = leb-true _ _ (p .room);
+      fine = p .values
+    }
 
 pub record NoveltyPassed (similarity : List Float) (rows room : ℕ) : Type 0 where
   pub few : rows ≤ 50000

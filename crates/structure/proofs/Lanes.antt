@@ -25,12 +25,12 @@ by-slots f d e n z l m h =
     ∙ sym (filled-all f e n m)
 
 -- one slot more of an array whose slots are each read once, where it is written
-pub grown-more : {A : Type 0} (f : ℕ → A) (d : List A) (j : ℕ) (z : A) (step : A → A) → j < length d → f j ≡ step (getD d j z)
-    → set (filled f d 0 j) j (step (getD (filled f d 0 j) j z)) ≡ filled f d 0 (j + 1)
-grown-more f d j z step h e =
-    ap (λ (x : _). set (filled f d 0 j) j (step x)) (getD-filled-high f d 0 j (omega arith) (omega arith) j z (omega arith))
-    ∙ ap (λ (x : _). set (filled f d 0 j) j x) (sym e)
-    ∙ filled-more f d 0 j (omega arith) z h
+pub grown-more : {A : Type 0} (f : ℕ → A) (d : List A) (a j : ℕ) (z : A) (step : A → A) → a ≤ j → j < length d → f j ≡ step (getD d j z)
+    → set (filled f d a j) j (step (getD (filled f d a j) j z)) ≡ filled f d a (j + 1)
+grown-more f d a j z step l h e =
+    ap (λ (x : _). set (filled f d a j) j (step x)) (getD-filled-high f d a j l (omega arith) j z (omega arith))
+    ∙ ap (λ (x : _). set (filled f d a j) j x) (sym e)
+    ∙ filled-more f d a j l z h
 
 -- eight slots more of a curve, from lanes that hold them
 pub lanes-join : (f : ℕ → Float) (values d : List Float) (a i : ℕ) → a ≤ i → i + 8 ≤ length d → ((j : ℕ) → j < 8 → getD values j nan ≡ f (i + j))

@@ -42,15 +42,15 @@ unfoldable pub isZero : Float → Bool
 unfolding eq
 isZero norm = eq norm nought
 
--- "dot/(norm·norm) held to -1..1"
-unfoldable pub ratio : (dot norm norm′ : Float) → Float
-unfolding held
-ratio dot norm norm′ = held (neg similarityTop) similarityTop (dot ⊘ (norm ⊗ norm′))
+-- "+0 if .. a norm is 0; else .. held to -1..1"
+unfoldable pub settled : (quotient norm norm′ : Float) → Float
+unfolding isZero held
+settled quotient norm norm′ = pick (isZero norm || isZero norm′) nought (held (neg similarityTop) similarityTop quotient)
 
--- +0 where a norm is 0
+-- "dot/(norm·norm)", so settled
 unfoldable pub similarityOf : (dot norm norm′ : Float) → Float
-unfolding isZero ratio
-similarityOf dot norm norm′ = pick (isZero norm || isZero norm′) nought (ratio dot norm norm′)
+unfolding settled
+similarityOf dot norm norm′ = settled (dot ⊘ (norm ⊗ norm′)) norm norm′
 
 -- slot (i, d)
 unfoldable pub slotAt : List Float → (rows i d : ℕ) → Float

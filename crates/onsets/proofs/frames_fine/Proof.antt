@@ -6,16 +6,15 @@ use native.Mathlib.Omega.{arith}
 use denote.Ref.{now}
 use borrow.Author.Needs.{needs}
 use borrow.Author.Tests.{le-leb, lt-leb}
-use lib.Dec.{leb}
 use lib.ListN.{length, drop}
 use Rattle.numbers.proofs.Everys.{every-step, every-end}
-use Rattle.numbers.specs.Limits.{mostFrame}
 use Rattle.numbers.specs.Lists.{every}
+use Rattle.onsets.specs.Onsets.{frameFine}
 use Rattle.onsets.proofs.frames_fine.Statement.{statement}
 use Rattle.onsets.proofs.frames_fine.Tie as tie
 
 abbrev Inv-loop : tie.InvT-loop
-Inv-loop frames i₀ i = (i ≤ length frames) × (every (λ frame. leb frame mostFrame) frames ≡ every (λ frame. leb frame mostFrame) (drop i frames))
+Inv-loop frames i₀ i = (i ≤ length frames) × (every frameFine frames ≡ every frameFine (drop i frames))
 
 abbrev μ-loop : tie.MeasureT-loop
 μ-loop frames i₀ i = length frames - i
@@ -32,7 +31,7 @@ shared-slice-read-if1 c = search needs
 returns : tie.Need-returns Inv-loop μ-loop
 returns c =
     let l = c .before .before .before in
-    sym (l .loop .inv .1 ∙ every-step (λ (frame : ℕ). leb frame mostFrame) (now (l .before .args .frames)) (l .loop .i) 0 (omega arith) ∙ simp (lt-leb _ _ (c .if1 .taken)))
+    sym (l .loop .inv .1 ∙ every-step frameFine (now (l .before .args .frames)) (l .loop .i) 0 (omega arith) ∙ simp (lt-leb _ _ (c .if1 .taken)))
 
 add-i : tie.Need-add-i Inv-loop μ-loop
 add-i c = search needs
@@ -44,13 +43,13 @@ loop-again : tie.Need-loop-again Inv-loop μ-loop
 loop-again c =
     let l = c .before .before .before in (
       omega arith,
-      l .loop .inv .1 ∙ every-step (λ (frame : ℕ). leb frame mostFrame) (now (l .before .args .frames)) (l .loop .i) 0 (omega arith) ∙ simp (le-leb _ _ (c .if1 .left)),
+      l .loop .inv .1 ∙ every-step frameFine (now (l .before .args .frames)) (l .loop .i) 0 (omega arith) ∙ simp (le-leb _ _ (c .if1 .left)),
     )
 
 returns-2 : tie.Need-returns-2 Inv-loop μ-loop
 returns-2 c =
     let l = c .before in
-    sym (l .loop .inv .1 ∙ every-end (λ (frame : ℕ). leb frame mostFrame) _ _ (c .loop-test .left))
+    sym (l .loop .inv .1 ∙ every-end frameFine _ _ (c .loop-test .left))
 
 pub frames-fine-spec : {M : Type 1} → statement M
 frames-fine-spec =

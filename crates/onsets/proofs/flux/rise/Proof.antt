@@ -14,10 +14,10 @@ use Rattle.onsets.proofs.flux.rise.Statement.{statement}
 use Rattle.onsets.proofs.flux.rise.Tie as tie
 
 abbrev Inv-loop : tie.InvT-loop
-Inv-loop p q sum₀ i₀ sum i = (i ≤ length p) × (sumFrom sum (rises (drop i p) (drop i q)) ≡ sumOf (rises p q))
+Inv-loop prev cur sum₀ i₀ sum i = (i ≤ length prev) × (sumFrom sum (rises (drop i prev) (drop i cur)) ≡ sumOf (rises prev cur))
 
 abbrev μ-loop : tie.MeasureT-loop
-μ-loop p q sum₀ i₀ sum i = length p - i
+μ-loop prev cur sum₀ i₀ sum i = length prev - i
 
 loop-holds : tie.Need-loop-holds Inv-loop μ-loop
 loop-holds c = (omega arith, refl)
@@ -44,13 +44,13 @@ loop-again c =
     let l = w1 .before .before in
     let start = l .before .before .before in
     let e = c .positive-part .ensures in
-    (omega arith, rise-more _ _ _ _ (now (start .args .p)) (now (start .args .q)) (l .loop .i) (omega arith) (omega (arith, start .pre .0)) (w2 .wide2 .ensures) (w1 .wide .ensures) (ap (add binary64 (l .loop .sum)) e) (l .loop .inv .1))
+    (omega arith, rise-more _ _ _ _ (now (start .args .prev)) (now (start .args .cur)) (l .loop .i) (omega arith) (omega (arith, start .pre .0)) (w2 .wide2 .ensures) (w1 .wide .ensures) (ap (add binary64 (l .loop .sum)) e) (l .loop .inv .1))
 
 returns : tie.Need-returns Inv-loop μ-loop
 returns c =
     let l = c .before in
     let start = l .before .before .before in
-    sym (rise-end _ (now (start .args .p)) (now (start .args .q)) (l .loop .i) (omega arith)) ∙ l .loop .inv .1
+    sym (rise-end _ (now (start .args .prev)) (now (start .args .cur)) (l .loop .i) (omega arith)) ∙ l .loop .inv .1
 
 pub rise-spec : {M : Type 1} → statement M
 rise-spec =

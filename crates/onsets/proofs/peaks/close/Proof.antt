@@ -1,26 +1,18 @@
 -- `onsets::peaks::close` meets its contract: with no peak left, what was kept and the open group's best are the whole. Assumes nothing.
-use mathlib.Core.Bool.{true}
 use mathlib.Core.Path.{_≡_, ap}
 use Prim.Native.Nat.{_<_}
 use native.Mathlib.Omega.{arith}
 use denote.Ref.{now}
 use borrow.Author.Needs.{needs}
-use borrow.Author.Tests.{not-true, not-false}
 use lib.ListN.{length}
 use Rattle.onsets.specs.Steps.{one}
 use Rattle.onsets.proofs.Steps.{closed-none, closed-last}
 use Rattle.onsets.proofs.peaks.close.Statement.{statement}
 use Rattle.onsets.proofs.peaks.close.Tie as tie
 
-returns : tie.Need-returns
-returns c = closed-none _ _ (not-true _ (c .if1 .taken))
-
 -- an open group has a slot
-room : (c : tie.Else1) → c .before .before .args .group .count < length (now (c .before .before .args .frames))
-room c =
-    let o : c .before .before .args .group .opened ≡ true = not-false _ (c .if1 .left) in
-    let a : one (c .before .before .args .group .opened) ≡ 1 = ap one o in
-    omega arith
+room : (c : tie.Then1) → c .before .args .group .count < length (now (c .before .args .frames))
+room c = let a : one (c .before .args .group .opened) ≡ 1 = ap one (c .if1 .taken) in omega arith
 
 cast-frames : tie.Need-cast-frames
 cast-frames c = search needs
@@ -37,10 +29,13 @@ add-result c = search needs
 same-length : tie.Need-same-length
 same-length c = search needs
 
+returns : tie.Need-returns
+returns c = closed-last _ _ (c .before .if1 .taken) (room (c .before))
+
 returns-2 : tie.Need-returns-2
-returns-2 c = closed-last _ _ (not-false _ (c .before .if1 .left)) (room (c .before))
+returns-2 c = closed-none _ _ (c .if1 .left)
 
 pub close-spec : {M : Type 1} → statement M
 close-spec =
     tie.close
-    (tie.spec returns cast-frames mul-frames slice-write-frames add-result same-length returns-2)
+    (tie.spec cast-frames mul-frames slice-write-frames add-result same-length returns returns-2)

@@ -1,0 +1,257 @@
+// Similarity: how alike two rows of features are, for rows at most sixteen apart.
+//
+// Document 01, Sections. The Rust: structure.rs `BandedSimilarity`.
+use numbers::least;
+use roots::sqrt;
+ghost use mathlib.Core.Path.{_≡_};
+ghost use mathlib.Core.Bool.{_||_};
+ghost use Prim.Native.Nat.{ℕ, _+_, _-_, _*_, _≤_, _<_, min};
+ghost use lib.ListN.{length, getD};
+ghost use lib.Ieee.{nan, neg, lt};
+ghost use Rattle.numbers.specs.Rounded.{nought, pick, held};
+ghost use Rattle.numbers.specs.Limits.{similarityTop};
+ghost use Rattle.numbers.specs.Lists.{filled};
+ghost use Rattle.structure.specs.Similarity.{featureRow, dotOf, normOf, isZero, settled, similarityOf, slotAt, similarityAt};
+ghost use Rattle.structure.specs.Lanes.{turnedAt, columnOf, squareAt, rootAt, Block, laneProduct, laneQuotient, settledFrom};
+
+// row i of the features
+fn feature_row(features: &[f64], rows: usize, i: usize) -> &[f64]
+    requires { ⌜ (length (now features) ≡ rows * 16) × (i < rows) ⌝ }
+    ensures { λ r. ⌜ now r ≡ featureRow (now (features .entry)) i ⌝ }
+{
+    let from = i * 16;
+    let past = from + 16;
+    &features[from..past]
+}
+
+// the sum of the products of two rows
+fn dot(a: &[f64], b: &[f64]) -> f64
+    requires { ⌜ (length (now a) ≡ 16) × (length (now b) ≡ 16) ⌝ }
+    ensures { λ r. ⌜ r ≡ dotOf (now (a .entry)) (now (b .entry)) ⌝ }
+{
+    let mut sum = 0.0;
+    let mut k = 0;
+    while k < 16 {
+        sum = sum + a[k] * b[k];
+        k += 1;
+    }
+    sum
+}
+
+// x held to -1..1, in two steps: each is a select, which the compiler runs on several lanes
+fn raised(x: f64) -> f64
+    ensures { λ r. ⌜ r ≡ pick (lt x (neg similarityTop)) (neg similarityTop) x ⌝ }
+{
+    if x < -1.0 { -1.0 } else { x }
+}
+
+fn hold(x: f64) -> f64
+    ensures { λ r. ⌜ r ≡ held (neg similarityTop) similarityTop x ⌝ }
+{
+    let low = raised(x);
+    if low > 1.0 { 1.0 } else { low }
+}
+
+// +0 where the norm is 0
+fn unless_zero(norm: f64, value: f64) -> f64
+    ensures { λ r. ⌜ r ≡ pick (isZero norm) nought value ⌝ }
+{
+    if norm == 0.0 { 0.0 } else { value }
+}
+
+fn settle(quotient: f64, norm: f64, other: f64) -> f64
+    ensures { λ r. ⌜ r ≡ settled quotient norm other ⌝ }
+{
+    unless_zero(norm, unless_zero(other, hold(quotient)))
+}
+
+// Inner: slot (i, d) of the similarity, by itself.
+pub fn similarity_slot(features: &[f64], rows: usize, i: usize, d: usize) -> f64
+    requires { ⌜ (length (now features) ≡ rows * 16) × (i < rows) ⌝ }
+    ensures { λ r. ⌜ r ≡ slotAt (now (features .entry)) rows i d ⌝ }
+{
+    if rows - i <= d {
+        return 0.0;
+    }
+    let own = feature_row(features, rows, i);
+    let other = feature_row(features, rows, i + d);
+    let norm = sqrt(dot(own, own));
+    let norm2 = sqrt(dot(other, other));
+    settle(dot(own, other) / (norm * norm2), norm, norm2)
+}
+
+// Inner: writes slots from `from` up to `past` of the similarity, each by itself: for the few slots of a patch.
+pub fn fill_similarity(features: &[f64], rows: usize, from: usize, past: usize, similarity: &mut [f64])
+    requires { ⌜ (length (now features) ≡ rows * 16) × (from ≤ past) × (past ≤ rows * 17) × (past ≤ length (now similarity)) ⌝ }
+    ensures { λ _. ⌜ now (similarity .exit) ≡ filled (similarityAt (now (features .entry)) rows) (now (similarity .entry)) from past ⌝ }
+{
+    let mut k = from;
+    while k < past {
+        similarity[k] = similarity_slot(features, rows, k / 17, k % 17);
+        k += 1;
+    }
+}
+
+// value k of the rows of a block
+fn turn_value(features: &[f64], rows: usize, first: usize, count: usize, k: usize, turned: &mut [f64; 2048])
+    requires { ⌜ (length (now features) ≡ rows * 16) × (first + count ≤ rows) × (count ≤ 128) × (k < 16) × (length (now turned) ≡ 2048) ⌝ }
+    ensures { λ _. ⌜ now (turned .exit) ≡ filled (turnedAt (now (features .entry)) first) (now (turned .entry)) (k * 128) (k * 128 + count) ⌝ }
+{
+    let mut r = 0;
+    while r < count {
+        turned[k * 128 + r] = features[(first + r) * 16 + k];
+        r += 1;
+    }
+}
+
+fn turn(features: &[f64], rows: usize, first: usize, count: usize, turned: &mut [f64; 2048])
+    requires { ⌜ (length (now features) ≡ rows * 16) × (first + count ≤ rows) × (count ≤ 128) × (length (now turned) ≡ 2048) ⌝ }
+    ensures { λ _. ⌜ ((r k : ℕ) → r < count → k < 16 → getD (now (turned .exit)) (k * 128 + r) nan ≡ getD (now (features .entry)) ((first + r) * 16 + k) nan) ⌝ }
+{
+    let mut k = 0;
+    while k < 16 {
+        turn_value(features, rows, first, count, k, turned);
+        k += 1;
+    }
+}
+
+fn square_rows(features: &[f64], rows: usize, first: usize, count: usize, squares: &mut [f64; 128])
+    requires { ⌜ (length (now features) ≡ rows * 16) × (first + count ≤ rows) × (count ≤ 128) × (length (now squares) ≡ 128) ⌝ }
+    ensures { λ _. ⌜ now (squares .exit) ≡ filled (squareAt (now (features .entry)) first) (now (squares .entry)) 0 count ⌝ }
+{
+    let mut r = 0;
+    while r < count {
+        let row = feature_row(features, rows, first + r);
+        squares[r] = dot(row, row);
+        r += 1;
+    }
+}
+
+fn root_all(squares: &[f64; 128], norms: &mut [f64; 128])
+    requires { ⌜ length (now norms) ≡ 128 ⌝ }
+    ensures { λ _. ⌜ now (norms .exit) ≡ filled (rootAt (now (squares .entry))) (now (norms .entry)) 0 128 ⌝ }
+{
+    let mut r = 0;
+    while r < 128 {
+        norms[r] = sqrt(squares[r]);
+        r += 1;
+    }
+}
+
+fn add_products(sums: &mut [f64; 17], x: f64, turned: &[f64; 2048], at: usize)
+    requires { ⌜ (length (now sums) ≡ 17) × (at + 16 < 2048) ⌝ }
+    ensures { λ _. ⌜ now (sums .exit) ≡ filled (laneProduct (now (sums .entry)) x (now (turned .entry)) at) (now (sums .entry)) 1 17 ⌝ }
+{
+    let mut j = 1;
+    while j < 17 {
+        sums[j] = sums[j] + x * turned[at + j];
+        j += 1;
+    }
+}
+
+// the dot products of the block's row in column c with itself, which is `own`, and with the sixteen rows after it
+fn row_dots(row: &[f64], turned: &[f64; 2048], c: usize, own: f64) -> [f64; 17]
+    requires { ⌜ (length (now row) ≡ 16) × (c < 112) ⌝ }
+    ensures { λ r. ⌜ (length r ≡ 17) × (getD r 0 nan ≡ own) × ((d : ℕ) → 0 < d → d < 17 → getD r d nan ≡ dotOf (now (row .entry)) (columnOf (now (turned .entry)) (c + d))) ⌝ }
+{
+    let mut sums = [0.0; 17];
+    let mut k = 0;
+    while k < 16 {
+        add_products(&mut sums, row[k], turned, k * 128 + c);
+        k += 1;
+    }
+    sums[0] = own;
+    sums
+}
+
+fn divide(sums: &mut [f64; 17], norms: &[f64; 128], c: usize)
+    requires { ⌜ (length (now sums) ≡ 17) × (c < 112) ⌝ }
+    ensures { λ _. ⌜ now (sums .exit) ≡ filled (laneQuotient (now (sums .entry)) (now (norms .entry)) c) (now (sums .entry)) 0 17 ⌝ }
+{
+    let norm = norms[c];
+    let mut d = 0;
+    while d < 17 {
+        sums[d] = sums[d] / (norm * norms[c + d]);
+        d += 1;
+    }
+}
+
+fn put_row(quotients: &[f64; 17], norms: &[f64; 128], c: usize, at: usize, similarity: &mut [f64])
+    requires { ⌜ (c < 112) × (at + 17 ≤ length (now similarity)) ⌝ }
+    ensures { λ _. ⌜ now (similarity .exit) ≡ filled (settledFrom (now (quotients .entry)) (now (norms .entry)) c at) (now (similarity .entry)) at (at + 17) ⌝ }
+{
+    let norm = norms[c];
+    let mut d = 0;
+    while d < 17 {
+        similarity[at + d] = settle(quotients[d], norm, norms[c + d]);
+        d += 1;
+    }
+}
+
+// the seventeen slots of row i, which is the block's row in column i - first
+fn put_slots(
+    features: &[f64],
+    rows: usize,
+    first: usize,
+    i: usize,
+    turned: &[f64; 2048],
+    squares: &[f64; 128],
+    norms: &[f64; 128],
+    similarity: &mut [f64],
+)
+    requires { ⌜ (length (now features) ≡ rows * 16) × (first ≤ i) × (i < rows) × (i < first + 112) × (i * 17 + 17 ≤ length (now similarity)) × Block (now features) first (min 128 (rows - first)) (now turned) (now squares) (now norms) ⌝ }
+    ensures { λ _. ⌜ now (similarity .exit) ≡ filled (similarityAt (now (features .entry)) rows) (now (similarity .entry)) (i * 17) (i * 17 + 17) ⌝ }
+{
+    let c = i - first;
+    let mut sums = row_dots(feature_row(features, rows, i), turned, c, squares[c]);
+    divide(&mut sums, norms, c);
+    put_row(&sums, norms, c, i * 17, similarity);
+}
+
+fn put_block(
+    features: &[f64],
+    rows: usize,
+    first: usize,
+    past: usize,
+    turned: &[f64; 2048],
+    squares: &[f64; 128],
+    norms: &[f64; 128],
+    similarity: &mut [f64],
+)
+    requires { ⌜ (length (now features) ≡ rows * 16) × (first ≤ past) × (past ≤ rows) × (past ≤ first + 112) × (past * 17 ≤ length (now similarity)) × Block (now features) first (min 128 (rows - first)) (now turned) (now squares) (now norms) ⌝ }
+    ensures { λ _. ⌜ now (similarity .exit) ≡ filled (similarityAt (now (features .entry)) rows) (now (similarity .entry)) (first * 17) (past * 17) ⌝ }
+{
+    let mut i = first;
+    while i < past {
+        put_slots(features, rows, first, i, turned, squares, norms, similarity);
+        i += 1;
+    }
+}
+
+// The slots of rows first to past - 1. The rows that they need, sixteen more than that, are turned, and their norms are taken once for the block.
+fn fill_block(features: &[f64], rows: usize, first: usize, past: usize, similarity: &mut [f64])
+    requires { ⌜ (length (now features) ≡ rows * 16) × (first ≤ past) × (past ≤ rows) × (past ≤ first + 112) × (past * 17 ≤ length (now similarity)) ⌝ }
+    ensures { λ _. ⌜ now (similarity .exit) ≡ filled (similarityAt (now (features .entry)) rows) (now (similarity .entry)) (first * 17) (past * 17) ⌝ }
+{
+    let count = least(128, rows - first);
+    let mut turned = [0.0; 2048];
+    turn(features, rows, first, count, &mut turned);
+    let mut squares = [0.0; 128];
+    square_rows(features, rows, first, count, &mut squares);
+    let mut norms = [0.0; 128];
+    root_all(&squares, &mut norms);
+    put_block(features, rows, first, past, &turned, &squares, &norms, similarity);
+}
+
+// Inner: writes the slots of rows `from` to `past` - 1 of the similarity, a block of rows at a time.
+pub fn fill_similarity_rows(features: &[f64], rows: usize, from: usize, past: usize, similarity: &mut [f64])
+    requires { ⌜ (length (now features) ≡ rows * 16) × (from ≤ past) × (past ≤ rows) × (past * 17 ≤ length (now similarity)) ⌝ }
+    ensures { λ _. ⌜ now (similarity .exit) ≡ filled (similarityAt (now (features .entry)) rows) (now (similarity .entry)) (from * 17) (past * 17) ⌝ }
+{
+    let mut i = from;
+    while i < past {
+        let next = least(i + 112, past);
+        fill_block(features, rows, i, next, similarity);
+        i = next;
+    }
+}
