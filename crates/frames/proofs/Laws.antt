@@ -12,7 +12,8 @@ use lib.Ieee.{Float}
 use borrow.Author.Tests.{lt-ltb, le-ltb, eq-eqb, ne-eqb}
 use Rattle.numbers.specs.Rounded.{pick}
 use Rattle.numbers.specs.Lists.{row}
-use Rattle.frames.specs.Frames.{isWhole, rowStart, rowOf}
+use denote.Ref.{RefT, now}
+use Rattle.frames.specs.Frames.{isWhole, rowStart, rowOf, RowOf}
 
 -- a row below the count of whole rows ends within the slab
 pub whole-row : (n b t : ℕ) → 0 < b → t < n / b → t * b + b ≤ n
@@ -69,3 +70,7 @@ row-of-whole s n b t hb e h =
 -- the same slot of the same memory
 pub same-place : (memory first a b : ℕ) → a ≡ b → _≡_ {A = ℕ × ℕ} (memory, b * 4 + first) (memory, a * 4 + first)
 same-place memory first a b e = rw e
+
+-- any two parts that the promise permits stand in one place and hold the same
+pub one-part : {slab p q : RefT (List Float)} {bins t : ℕ} → RowOf slab bins t p → RowOf slab bins t q → (p .ptr ≡ q .ptr) × (now p ≡ now q)
+one-part a b = (a .place ∙ sym (b .place), a .holds ∙ sym (b .holds))

@@ -2,23 +2,25 @@
 use Prim.Native.Nat.{ℕ, zero, suc}
 use mathlib.Core.Bool.{Bool, true, false}
 
--- a number is outside its bounds, or a lent peak list isn't strictly ascending or points past its curve
+-- "a number is outside the bounds above (the size of lent values is number 4's), a patch's start exceeds its row count, a median's
+-- list is empty, or a lent peak list isn't strictly ascending or points past its curve"
 abbrev pub outOfBounds : ℕ
 outOfBounds = 1
 
--- a lent input's length isn't rows times width, or a patch isn't whole rows or runs past the end
+-- "a lent input's length isn't rows times width, or a patch isn't whole rows or runs past the end"
 abbrev pub wrongLength : ℕ
 wrongLength = 2
 
--- a lent output or work slice has fewer slots than its formula
+-- "a lent output or work slice has fewer slots than its formula"
 abbrev pub tooLittleRoom : ℕ
 tooLittleRoom = 3
 
--- a lent value isn't finite, or is too large
+-- "a magnitude isn't finite or has size above 2^126, or an envelope, curve, median or feature value isn't finite or has size above
+-- 2^150, or a lent similarity isn't within -1 to 1"
 abbrev pub wrongValue : ℕ
 wrongValue = 4
 
--- program only: the file header is malformed
+-- "program only: the file header is malformed"
 abbrev pub malformed : ℕ
 malformed = 5
 

@@ -45,8 +45,8 @@ fn root_by_digits(a: u64) -> u64
 }
 
 // Whether y is the whole number nearest to the root of a * 2 ^ 52, for any y. No product of 64 bits holds the square of y, so
-// it is taken in two parts: y is p * 2 ^ 26 + q, and its square high * 2 ^ 52 + low, less the 2 ^ 52 that low has more so that
-// nothing here is below zero.
+// it is taken in two parts: y is p * 2 ^ 26 + q, and its square high * 2 ^ 52 + low. low is kept 2 ^ 52 too large, so that nothing
+// here is below zero.
 fn is_nearest(a: u64, y: u64) -> bool
     requires { ⌜ (a < 2 ^ 54) × (y < 2 ^ 53) ⌝ }
     ensures { λ r. ⌜ r ≡ nearestWhole a y ⌝ }
@@ -74,8 +74,8 @@ fn halley(s: f64, x: f64) -> f64 {
 }
 
 // A guess at the whole number nearest to the root of a * 2 ^ 52, of which nothing is promised: two of Halley's steps from
-// half the bits, and the remainder of that root cut to 26 digits, whose square is exact. Tried on 300 million numbers it was
-// right each time.
+// half the bits, and the remainder of that root cut to 26 digits, whose square is exact. It is wrong at 2 ^ 54 - 2 at least, where
+// it rounds up to the next power of two: what fails the test goes digit by digit.
 fn guess(a: u64) -> u64
     requires { ⌜ a < 2 ^ 54 ⌝ }
     ensures { λ r. ⌜ r < 2 ^ 53 ⌝ }
