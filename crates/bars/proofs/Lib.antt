@@ -1,2 +1,4 @@
--- The laws of phases, which other crates may cite.
+-- The laws of phases, which other crates may cite, and the marked number.
 pub mod Phases
+pub mod Greatest
+pub mod Marks

@@ -14,7 +14,8 @@ use Rattle.numbers.proofs.Tests.{lt-or-le}
 use Rattle.numbers.proofs.Tabs.{length-tab, getD-curve}
 use Rattle.beats.specs.declared.Best.{Best}
 use Rattle.beats.specs.Scores.{penalty, halfOf, firstBefore, lastBefore, greatest, unlinked, noLink, Follows, extended, extension, scores, linkOf, links}
-use Rattle.beats.specs.Grids.{linkAt, Descends}
+use Rattle.beats.specs.Grids.{linkAt}
+use Rattle.beats.specs.Inner.{Descends}
 use Rattle.beats.proofs.Greatest.{best, greatest-ext, Outcome, kept, found, outcome}
 
 -- ---- the best extension

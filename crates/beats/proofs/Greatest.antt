@@ -1,5 +1,5 @@
 -- The first greatest of a run of values, one value at a time.
-use mathlib.Core.Path.{_≡_, refl, sym, ap, _∙_}
+use mathlib.Core.Path.{_≡_, refl, sym, ap, _∙_, subst}
 use mathlib.Core.Bool.{Bool, true, false}
 use mathlib.Core.Logic.{_⊎_, inl, inr, ⊎-elim}
 use Prim.Native.Nat.{ℕ, zero, suc, _+_, _-_, _≤_, _<_}
@@ -70,13 +70,24 @@ pub data Outcome (f : ℕ → Float) (u n : ℕ) (x y : Best) : Type 0 where
   found : (k : ℕ) → y ≡ best (f k) k → Tops f u n (x .value) k → Outcome f u n x y
 
 -- a test that cannot be true
-no-lt : (x y : Float) → (lt x y ≡ true → ⊥) → lt x y ≡ false
+pub no-lt : (x y : Float) → (lt x y ≡ true → ⊥) → lt x y ≡ false
 no-lt x y h = ⊎-elim (λ e. absurd (h e)) (λ e. e) (which (lt x y))
 
-no-le : (x y : Float) → (le x y ≡ true → ⊥) → le x y ≡ false
+pub no-le : (x y : Float) → (le x y ≡ true → ⊥) → le x y ≡ false
 no-le x y h = ⊎-elim (λ e. absurd (h e)) (λ e. e) (which (le x y))
 
+-- what holds of the first frame and of all later ones
+each-from : (P : ℕ → Type 0) (u : ℕ) → P u → ((i : ℕ) → suc u ≤ i → P i) → (i : ℕ) → u ≤ i → P i
+each-from P u here later i h = ⊎-elim (λ (g : i < suc u). let z : u ≡ i = omega arith in subst P z here) (λ (g : suc u ≤ i). later i g) (lt-or-le i (suc u))
+
 module _ (f : ℕ → Float) (u n : ℕ) (x y : Best) where
+  -- what is said of each frame of the run, and of each before k
+  abbrev NotBelow : Float → ℕ → Type 0
+  NotBelow v i = i < u + suc n → lt v (f i) ≡ false
+
+  abbrev Less : Float → ℕ → ℕ → Type 0
+  Less v k i = i < k → le v (f i) ≡ false
+
   -- the first value is greater
   starts : lt (x .value) (f u) ≡ true → Outcome f (suc u) n (best (f u) u) y → Outcome f u (suc n) x y
   starts b (kept e none) =
@@ -85,7 +96,7 @@ module _ (f : ℕ → Float) (u n : ℕ) (x y : Best) where
         from = le-refl u;
         to = omega arith;
         above = b;
-        most = λ i p q. ⊎-elim (λ (h : i < suc u). let z : i ≡ u = omega arith in ap (λ (j : ℕ). lt (f u) (f j)) z ∙ lt-self (f u)) (λ (h : suc u ≤ i). none i h (omega arith)) (lt-or-le i (suc u));
+        most = each-from (NotBelow (f u)) u (λ q. lt-self (f u)) (λ i p q. none i p (omega arith));
         first = λ i p q. absurd (omega arith);
       }
   starts b (found k e t) =
@@ -94,22 +105,22 @@ module _ (f : ℕ → Float) (u n : ℕ) (x y : Best) where
         from = omega (arith, t .from);
         to = omega (arith, t .to);
         above = lt-then-lt (x .value) (f u) (f k) b (t .above);
-        most = λ i p q. ⊎-elim (λ (h : i < suc u). let z : i ≡ u = omega arith in ap (λ (j : ℕ). lt (f k) (f j)) z ∙ le-back (f u) (f k) (lt-is-le (f u) (f k) (t .above))) (λ (h : suc u ≤ i). t .most i h (omega arith)) (lt-or-le i (suc u));
-        first = λ i p q. ⊎-elim (λ (h : i < suc u). let z : i ≡ u = omega arith in ap (λ (j : ℕ). le (f k) (f j)) z ∙ lt-back (f u) (f k) (t .above)) (λ (h : suc u ≤ i). t .first i h q) (lt-or-le i (suc u));
+        most = each-from (NotBelow (f k)) u (λ q. le-back (f u) (f k) (lt-is-le (f u) (f k) (t .above))) (λ i p q. t .most i p (omega arith));
+        first = each-from (Less (f k) k) u (λ q. lt-back (f u) (f k) (t .above)) (λ i p q. t .first i p q);
       }
 
   -- it is not
   passes : lt (x .value) (f u) ≡ false → Outcome f (suc u) n x y → Outcome f u (suc n) x y
-  passes b (kept e none) =
-      kept e (λ i p q. ⊎-elim (λ (h : i < suc u). let z : i ≡ u = omega arith in ap (λ (j : ℕ). lt (x .value) (f j)) z ∙ b) (λ (h : suc u ≤ i). none i h (omega arith)) (lt-or-le i (suc u)))
+  passes b (kept e none) = kept e (each-from (NotBelow (x .value)) u (λ q. b) (λ i p q. none i p (omega arith)))
   passes b (found k e t) =
+      let not-above : lt (x .value) (f u) ≡ true → ⊥ = λ h. true-not-false (lt (x .value) (f u)) h b in
       found k e
       record {
         from = omega (arith, t .from);
         to = omega (arith, t .to);
         above = t .above;
-        most = λ i p q. ⊎-elim (λ (h : i < suc u). let z : i ≡ u = omega arith in ap (λ (j : ℕ). lt (f k) (f j)) z ∙ no-lt (f k) (f u) (λ g. true-not-false (lt (x .value) (f u)) (lt-then-lt (x .value) (f k) (f u) (t .above) g) b)) (λ (h : suc u ≤ i). t .most i h (omega arith)) (lt-or-le i (suc u));
-        first = λ i p q. ⊎-elim (λ (h : i < suc u). let z : i ≡ u = omega arith in ap (λ (j : ℕ). le (f k) (f j)) z ∙ no-le (f k) (f u) (λ g. true-not-false (lt (x .value) (f u)) (lt-then-le (x .value) (f k) (f u) (t .above) g) b)) (λ (h : suc u ≤ i). t .first i h q) (lt-or-le i (suc u));
+        most = each-from (NotBelow (f k)) u (λ q. no-lt (f k) (f u) (λ g. not-above (lt-then-lt (x .value) (f k) (f u) (t .above) g))) (λ i p q. t .most i p (omega arith));
+        first = each-from (Less (f k) k) u (λ q. no-le (f k) (f u) (λ g. not-above (lt-then-le (x .value) (f k) (f u) (t .above) g))) (λ i p q. t .first i p q);
       }
 
 pub outcome : (f : ℕ → Float) (u n : ℕ) (x : Best) → Outcome f u n x (greatest f u n x)

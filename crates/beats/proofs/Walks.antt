@@ -13,7 +13,8 @@ use lib.ListN.{length, getD, length-append}
 use Rattle.numbers.specs.Rounded.{pick}
 use Rattle.numbers.proofs.Tests.{which, pick-true, pick-false}
 use Rattle.beats.specs.Scores.{noLink}
-use Rattle.beats.specs.Grids.{linkAt, walked, beatsTo, Descends}
+use Rattle.beats.specs.Grids.{linkAt, walked, beatsTo}
+use Rattle.beats.specs.Inner.{Descends}
 
 -- what the code reads is the list's link
 pub link-read : (links : List ℕ) (t : ℕ) → t < length links → getD links t 0 ≡ linkAt links t
@@ -27,11 +28,11 @@ module _ (link : ℕ → ℕ) where
   turn k t = refl
 
   -- a frame with no link is the first beat
-  alone : (k t : ℕ) → link t ≡ noLink → walked (suc k) link t ≡ t ∷ []
+  pub alone : (k t : ℕ) → link t ≡ noLink → walked (suc k) link t ≡ t ∷ []
   alone k t e = turn k t ∙ ap (λ (l : List ℕ). l ++ (t ∷ [])) (pick-true (eqb (link t) noLink) [] (walked k link (link t)) (eq-eqb (link t) noLink e))
 
   -- any other follows its link's beats
-  after : (k t : ℕ) → (link t ≡ noLink → ⊥) → walked (suc k) link t ≡ walked k link (link t) ++ (t ∷ [])
+  pub after : (k t : ℕ) → (link t ≡ noLink → ⊥) → walked (suc k) link t ≡ walked k link (link t) ++ (t ∷ [])
   after k t e = turn k t ∙ ap (λ (l : List ℕ). l ++ (t ∷ [])) (pick-false (eqb (link t) noLink) [] (walked k link (link t)) (ne-eqb (link t) noLink e))
 
   -- a frame has no link, or it has one

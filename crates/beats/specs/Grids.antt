@@ -2,7 +2,7 @@
 use mathlib.Core.Path.{_≡_}
 use mathlib.Core.Bool.{Bool, true, _&&_}
 use mathlib.Core.List.{List, [], _∷_, _++_}
-use Prim.Native.Nat.{ℕ, zero, suc, _+_, _-_, _≤_, _<_}
+use Prim.Native.Nat.{ℕ, zero, suc, _+_, _-_}
 use lib.Dec.{leb, eqb}
 use lib.ListN.{length, getD}
 use lib.Ieee.{Float, nan}
@@ -11,7 +11,7 @@ use Rattle.numbers.specs.Limits.{mostRows, mostPeriod, valueFine}
 use Rattle.numbers.specs.Refusals.{lowest, unlessRefused}
 use Rattle.numbers.specs.Lists.{listed, every}
 use Rattle.beats.specs.Envelopes.{beatless, scaleOf, scaledBy, scaled}
-use Rattle.beats.specs.Scores.{greatest, noLink, scores, links, Tracked}
+use Rattle.beats.specs.Scores.{greatest, noLink, scores, links}
 
 -- ---- what is refused
 
@@ -53,10 +53,6 @@ unfoldable pub beatsTo : (link : ℕ → ℕ) → (t : ℕ) → List ℕ
 unfolding walked
 beatsTo link t = walked (t + 1) link t
 
--- For the code: each link of a frame up to t leads to an earlier frame.
-abbrev pub Descends : (link : ℕ → ℕ) → (t : ℕ) → Type 0
-Descends link t = (u : ℕ) → u ≤ t → (link u ≡ noLink → ⊥) → link u < u
-
 -- "Beats are the links walked back from the first greatest score", for n frames by their scaled flux
 unfoldable pub grid : (period : ℕ) → (ℕ → Float) → (n : ℕ) → List ℕ
 unfolding scores links firstGreatest beatsTo
@@ -82,9 +78,3 @@ pub record Gridded (envelope : List Float) (period : ℕ) (score₀ : List Float
   pub score-is : score ≡ unlessRefused number (listed (scoresOf envelope period) score₀) score₀
   pub back-is : back ≡ unlessRefused number (listed (linksOf envelope period) back₀) back₀
   pub beats-are : beats ≡ unlessRefused number (listed (gridOf envelope period) beats₀) beats₀
-
--- For the code: what stands in the three lent lists, and how many beats, once n frames are tracked.
-pub record Laid (period : ℕ) (flux : ℕ → Float) (n : ℕ) (score₀ score : List Float) (back₀ back beats₀ beats : List ℕ) (count : ℕ) : Type 0 where
-  pub tracked : Tracked period flux n score₀ score back₀ back
-  pub count-is : count ≡ length (grid period flux n)
-  pub beats-are : beats ≡ listed (grid period flux n) beats₀

@@ -1,3 +1,4 @@
 pub mod Envelopes
 pub mod Scores
 pub mod Grids
+pub mod Inner

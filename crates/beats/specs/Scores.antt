@@ -1,11 +1,10 @@
 -- Document 01, "Beats and bars": the score and the link of each frame. `flux` is the scaled flux of a frame, whatever it comes from.
-use mathlib.Core.Path.{_≡_}
 use mathlib.Core.List.{List, [], _∷_, _++_}
 use Prim.Native.Nat.{ℕ, zero, suc, _+_, _-_, _*_, _/_, _≤_, _<_}
-use lib.ListN.{length, getD}
+use lib.ListN.{getD}
 use lib.Ieee.{Float, nan, neg, lt}
 use Rattle.numbers.specs.Rounded.{_⊕_, _⊗_, _⊘_, bits, real, nought, pick}
-use Rattle.numbers.specs.Lists.{curve, listed}
+use Rattle.numbers.specs.Lists.{curve}
 use Rattle.floats.specs.Logs.{logOf}
 use Rattle.beats.specs.declared.Best.{Best}
 
@@ -19,15 +18,6 @@ fourHundred = bits 0x4079_0000_0000_0000
 unfoldable pub penalty : (period interval : ℕ) → Float
 unfolding logOf
 penalty period interval = let ln = logOf (real interval ⊘ real period) in neg fourHundred ⊗ ln ⊗ ln
-
--- For the code: slot k of the table of penalties has that of interval 2P - k.
-unfoldable pub slotPenalty : (period k : ℕ) → Float
-unfolding penalty
-slotPenalty period k = penalty period (2 * period - k)
-
--- For the code: a table of 2P slots or more holds the penalties.
-abbrev pub Penalties : (period : ℕ) → List Float → Type 0
-Penalties period table = (k : ℕ) → 2 * period ≤ length table → k < 2 * period → getD table k nan ≡ slotPenalty period k
 
 -- ---- the earlier beats of frame t
 
@@ -70,10 +60,6 @@ unfoldable pub extended : (period : ℕ) → List Float → (t u : ℕ) → Floa
 unfolding penalty
 extended period scores t u = getD scores u nan ⊕ penalty period (t - u)
 
--- For the code: the same with the penalties in a table, where `first` is the slot of frame lo's.
-unfoldable pub tabled : (table scores : List Float) → (first lo u : ℕ) → Float
-tabled table scores first lo u = getD scores u nan ⊕ getD table (first + (u - lo)) nan
-
 -- the best extension of a beat at frame t, by the scores of the frames before it; "none for t = 0"
 unfoldable pub extension : (period : ℕ) → List Float → (t : ℕ) → Best
 unfolding extended greatest
@@ -100,8 +86,3 @@ linkOf period known t = extension period known t .at
 unfoldable pub links : (period : ℕ) → (ℕ → Float) → (n : ℕ) → List ℕ
 unfolding linkOf scores
 links period flux n = curve (linkOf period (scores period flux n)) n
-
--- For the code: a lent list of scores and one of links after the first n frames are written.
-pub record Tracked (period : ℕ) (flux : ℕ → Float) (n : ℕ) (score₀ score : List Float) (back₀ back : List ℕ) : Type 0 where
-  pub scores-are : score ≡ listed (scores period flux n) score₀
-  pub links-are : back ≡ listed (links period flux n) back₀

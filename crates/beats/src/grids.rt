@@ -1,5 +1,5 @@
 // The beats: the links walked back from the first greatest score.
-use crate::scores::NO_LINK;
+use crate::bests::NO_LINK;
 use crate::scores::track;
 ghost use mathlib.Core.Path.{_≡_};
 ghost use Prim.Native.Nat.{_≤_, _<_};
@@ -7,7 +7,8 @@ ghost use lib.ListN.{length};
 ghost use Rattle.numbers.specs.Limits.{mostRows, mostPeriod};
 ghost use Rattle.numbers.specs.Lists.{listed};
 ghost use Rattle.beats.specs.Envelopes.{scaledBy};
-ghost use Rattle.beats.specs.Grids.{linkAt, firstGreatest, beatsTo, Descends, Laid};
+ghost use Rattle.beats.specs.Grids.{linkAt, firstGreatest, beatsTo};
+ghost use Rattle.beats.specs.Inner.{Descends, Laid};
 
 // Writes the score and the link of each frame and lists the beats; answers how many there are.
 pub fn lay_grid(

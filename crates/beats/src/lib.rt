@@ -1,8 +1,10 @@
 // The beat grid: the chain of frames, about a period apart, that carries the most flux.
 //
 // Document 01, "Beats and bars". The Rust: tempo.rs `beat_grid`.
+mod bests;
 mod envelopes;
 mod grids;
+mod penalties;
 mod scores;
 
 use numbers::Listing;

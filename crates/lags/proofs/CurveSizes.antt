@@ -1,28 +1,28 @@
 -- Nothing in a lag curve is a NaN. Values of size at most 2 ^ 150, up to 2 ^ 20 of them, have a mean of at most 2 ^ 150, products about it
 -- of at most 2 ^ 302 and sums of at most 2 ^ 322; the energy is above 2 ^ -52, so each quotient is finite, and held to 0..1. Assumes nothing.
-use mathlib.Core.Path.{_≡_, refl, sym, ap, _∙_}
+use mathlib.Core.Path.{_≡_, refl, sym, _∙_}
 use mathlib.Core.Bool.{true}
 use mathlib.Core.List.{List}
 use Prim.Native.Nat.{ℕ, _+_, _-_, _*_, _^_, _≤_, _<_}
-use native.Mathlib.Nat.{le-of-eq, le-refl, le-trans, mul-comm, mul-one, one-mul}
+use native.Mathlib.Nat.{le-of-eq, le-trans, mul-comm, mul-one, one-mul}
 use native.Mathlib.Omega.{arith}
 use lib.Dec.{lit<, lit≤}
 use lib.Ieee.{Float, nan, binary64, lt, le, ofBits}
-use lib.ListN.{length, getD}
-use Rattle.numbers.specs.Rounded.{_⊖_, _⊗_, _⊘_, bits, real, nought, sumOf, held}
+use lib.ListN.{length}
+use Rattle.numbers.specs.Rounded.{_⊗_, _⊘_, bits, real, nought}
 use Rattle.numbers.specs.Limits.{mostRows, valueFine}
 use Rattle.numbers.specs.Lists.{curve, every}
 use Rattle.numbers.proofs.Tabs.{length-tab}
-use Rattle.sizes.specs.Sizes.{AtMost, Within, AtLeast, isPlus, Plus, Each}
+use Rattle.sizes.specs.Sizes.{Within, AtLeast, isPlus, Plus}
 use Rattle.sizes.proofs.Numbers.{held-power, held-multiple, held-part}
-use Rattle.sizes.proofs.Sizes.{most-weaken, most-not-nan, sub-within, mul-within, div-most, div-within, real-most}
+use Rattle.sizes.proofs.Sizes.{most-not-nan, sub-within, mul-within, div-most, div-within, real-most}
 use Rattle.sizes.proofs.Least.{real-least, mul-least}
 use Rattle.sizes.proofs.Lists.{each-at, each-tab, values-within}
 use Rattle.sizes.proofs.Sums.{sum-most, sum-within}
 use Rattle.sizes.proofs.Order.{lt-is-le}
 use Rattle.sizes.proofs.Ranges.{le-least, held-low, held-high}
 use Rattle.lags.specs.Lags.{one}
-use Rattle.lags.specs.Curves.{meanOf, centred, productAt, lagSum, energyOf, clarityOf, clarityAt}
+use Rattle.lags.specs.Curves.{meanOf, centred, productAt, lagSum, energyOf, clarityAt}
 
 -- 2 ^ -52, which the energy of a tempo is above
 abbrev pub leastEnergy : Float

@@ -1,5 +1,7 @@
 -- The laws that other crates cite.
 pub mod Products
+mod Lanes
+mod Joins
 pub mod Weights
 pub mod Searches
 pub mod Ranges

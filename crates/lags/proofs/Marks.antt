@@ -1,10 +1,10 @@
 -- Document 01, the marked numbers M5 to M10, by computing on the definitions. Assumes nothing.
 use mathlib.Core.Path.{_≡_, refl}
 use mathlib.Core.Bool.{true, false}
-use lib.Ieee.{binary64, add, sub, mul, div, neg, lt, le, ofBits, ofInt}
+use lib.Ieee.{add, sub, mul, div, neg, lt, le, ofBits, ofInt}
 use Rattle.numbers.specs.Rounded.{real}
 use Rattle.lags.specs.Options.{optionsOf, defaultOptions}
-use Rattle.lags.specs.Lags.{minLag, maxLag, lagRange, boundsFine}
+use Rattle.lags.specs.Lags.{lagRange}
 use Rattle.lags.specs.Pairs.{apart, agrees}
 
 -- "rate 48,000, 30 to 300: lags 38 to 375"

@@ -1,20 +1,20 @@
 -- How large the lags are. The lower bound is at least 1 and the upper at least 2, whatever the options hold, a NaN and an infinity too;
 -- f·60 is at most 45,000; so the lags are at most 22,500 and 45,000, and each quotient rounds to that or less. Assumes nothing.
-use mathlib.Core.Path.{_≡_, refl, sym, ap, _∙_, subst}
-use mathlib.Core.Bool.{Bool, true, false, not, _&&_}
-use Prim.Native.Nat.{ℕ, _+_, _*_, _^_, _≤_, _<_}
+use mathlib.Core.Path.{_≡_, refl, sym, ap, _∙_}
+use mathlib.Core.Bool.{Bool, true, false, not}
+use Prim.Native.Nat.{ℕ, _*_, _^_, _≤_, _<_}
 use native.Mathlib.Omega.{arith}
 use borrow.Author.Tests.{leb-true}
 use lib.Dec.{T, leb, lit<, lit≤}
 use lib.Ieee.{Float, nan, inf, fin, binary64, isNan, lt, le, add, ofBits}
 use lib.Ieee.Scale.{finite}
-use Rattle.numbers.specs.Rounded.{_⊕_, _⊗_, _⊘_, real, pick}
+use Rattle.numbers.specs.Rounded.{_⊕_, pick}
 use Rattle.numbers.specs.Limits.{mostRate, mostPeriod, rateFine}
-use Rattle.numbers.proofs.Tests.{which, and-left, and-right, pick-true, pick-false, true-not-false}
+use Rattle.numbers.proofs.Tests.{and-left, and-right, pick-true, pick-false}
 use Rattle.sizes.specs.Sizes.{sizeUpTo, AtMost, AtLeast, isPlus, Plus}
 use Rattle.sizes.proofs.Numbers.{held-short}
 use Rattle.sizes.proofs.Sizes.{div-most, mul-most, real-most}
-use Rattle.sizes.proofs.Order.{le-left, le-right, lt-is-le, le-self, le-then-le}
+use Rattle.sizes.proofs.Order.{le-right, lt-is-le, le-self, le-then-le}
 use Rattle.sizes.proofs.Ranges.{le-least}
 use Rattle.sizes.proofs.Monotone.{add-mono-left}
 use Rattle.floats.specs.Wholes.{roundOf}

@@ -7,8 +7,8 @@ use Prim.Native.Nat.{ℕ, zero, suc, _+_, _-_, _*_, _^_, _≤_, _<_}
 use native.Mathlib.Nat.{mul-comm, mul-one, mul-pos, mul-sub, mul-assoc, mul-left-comm, mul-le-mul-right, le-of-eq, lt-of-lt-of-le, zero-lt-suc}
 use native.Mathlib.Omega.{arith}
 use borrow.Author.Tests.{ltb-true, ltb-false, le-ltb}
-use lib.Dec.{T, ltb, eqb, eqb→eq, lit<, lit≤}
-use lib.Ieee.{Float, nan, inf, fin, binary64, up, down, unlike, round, sum, add, sub, div, neg, lt, le, ofBits}
+use lib.Dec.{T, ltb, eqb, eqb→eq, lit<}
+use lib.Ieee.{Float, nan, inf, fin, binary64, up, down, round, sum, add, sub, div, neg, lt, le, ofBits}
 use lib.Ieee.Bits.{is-true}
 use lib.Ieee.Fits.{down-pos}
 use lib.Ieee.Back.{round-whole}

@@ -1,5 +1,5 @@
 -- A weight curve made of a clarity curve is the weight curve of the envelope, by whichever of the two rules. Assumes nothing.
-use mathlib.Core.Path.{_≡_, ap, _∙_}
+use mathlib.Core.Path.{_≡_, ap}
 use mathlib.Core.List.{List}
 use Prim.Native.Nat.{ℕ, _+_, _≤_, _<_, zero-le}
 use lib.ListN.{length, getD}

@@ -3,11 +3,10 @@ use Prim.Native.Nat.{ℕ, _+_, _-_}
 use mathlib.Core.List.{List}
 use lib.ListN.{length, getD}
 use lib.Ieee.{Float, nan, neg}
-use Rattle.numbers.specs.Rounded.{_⊕_, _⊖_, _⊗_, _⊘_, bits, real, nought, sumOf, held}
+use Rattle.numbers.specs.Rounded.{_⊖_, _⊗_, _⊘_, bits, real, nought, sumOf, held}
 use Rattle.numbers.specs.Lists.{curve}
 use Rattle.floats.specs.Logs.{log2Of}
 use Rattle.floats.specs.Exps.{expOf}
-use Rattle.lags.specs.declared.curves.Eight.{Eight}
 use Rattle.lags.specs.Lags.{one, bpmAt}
 
 -- the mean of an envelope
@@ -83,30 +82,3 @@ weighted clarity rate minLag i = getD clarity i nan ⊗ priorAt rate (minLag + i
 
 abbrev pub weightedBy : (clarity priors : List Float) → ℕ → Float
 weightedBy clarity priors i = getD clarity i nan ⊗ getD priors i nan
-
--- ---- eight lags side by side
-
--- eight entries of a rule, from entry i on
-abbrev pub eightBy : (ℕ → Float) → ℕ → Eight
-eightBy r i =
-    record { a = r i; b = r (i + 1); c = r (i + 2); d = r (i + 3); e = r (i + 4); f = r (i + 5); g = r (i + 6); h = r (i + 7) }
-
--- the sums at eight lags from `lag` on, over the times below t
-unfoldable pub eightSums : List Float → Float → ℕ → ℕ → Eight
-unfolding productAt
-eightSums env mean lag t = eightBy (λ l. sumOf (curve (productAt env mean l) t)) lag
-
--- the sums s with one product more each: that of v with the centred slots from `at` on
-abbrev pub eightMore : Eight → Float → List Float → Float → ℕ → Eight
-eightMore s v env mean at =
-    let y = eightBy (centred env mean) at in
-    record {
-      a = s .a ⊕ v ⊗ y .a;
-      b = s .b ⊕ v ⊗ y .b;
-      c = s .c ⊕ v ⊗ y .c;
-      d = s .d ⊕ v ⊗ y .d;
-      e = s .e ⊕ v ⊗ y .e;
-      f = s .f ⊕ v ⊗ y .f;
-      g = s .g ⊕ v ⊗ y .g;
-      h = s .h ⊕ v ⊗ y .h;
-    }

@@ -2,36 +2,36 @@
 //
 // Document 01, Tempo and candidates. The Rust: tempo.rs `pick_tempo_peaks` and `tempo_prior_weight`. A centred value has no room of
 // its own: it is computed again where it is used.
+use crate::abreast::Eight;
+use crate::abreast::block_sums;
+use crate::abreast::eight_noughts;
+use crate::abreast::eight_sums;
 use crate::bpm_at;
 use crate::float_of;
 use floats::exps::exp;
 use floats::logs::log2;
 ghost use mathlib.Core.Path.{_≡_};
-ghost use mathlib.Core.List.{List};
-ghost use Prim.Native.Nat.{ℕ, _+_, _-_, _≤_, _<_, _%_};
-ghost use lib.ListN.{length, getD};
-ghost use lib.Ieee.{nan};
-ghost use Rattle.numbers.specs.Rounded.{_⊗_, real, nought, sumOf, held};
+ghost use Prim.Native.Nat.{_+_, _≤_, _<_};
+ghost use lib.ListN.{length};
+ghost use Rattle.numbers.specs.Rounded.{nought, sumOf, held};
 ghost use Rattle.numbers.specs.Limits.{mostPeriod};
 ghost use Rattle.numbers.specs.Lists.{curve, filled};
 ghost use Rattle.lags.specs.Lags.{one, lagRoom};
 ghost use Rattle.lags.specs.Curves.{
   meanOf,
-  centred,
   productAt,
   lagSum,
   energyOf,
   clarityOf,
-  clarityAt,
   clarityFrom,
   priorOf,
   priorAt,
   priorFrom,
   weightFrom,
-  weighted, weightedBy,
-  eightSums,
-  eightMore,
+  weighted,
+  weightedBy,
 };
+ghost use Rattle.lags.specs.Lanes.{eightSums};
 
 // Inner: the mean of an envelope.
 pub fn mean_of(envelope: &[f64]) -> f64
@@ -76,59 +76,6 @@ pub fn energy_of(envelope: &[f64], mean: f64) -> f64
     lag_sum(envelope, mean, 0)
 }
 
-// Eight sums, at as many lags side by side.
-struct Eight {
-    a: f64,
-    b: f64,
-    c: f64,
-    d: f64,
-    e: f64,
-    f: f64,
-    g: f64,
-    h: f64,
-}
-
-// Each sum with one product more: that of the centred value v with eight centred values in a row, from slot `at` on.
-fn eight_more(s: Eight, v: f64, envelope: &[f64], mean: f64, at: usize) -> Eight
-    requires { ⌜ at + 8 ≤ length (now envelope) ⌝ }
-    ensures { λ r. ⌜ r ≡ eightMore s v (now (envelope .entry)) mean at ⌝ }
-{
-    Eight {
-        a: s.a + v * (envelope[at] - mean),
-        b: s.b + v * (envelope[at + 1] - mean),
-        c: s.c + v * (envelope[at + 2] - mean),
-        d: s.d + v * (envelope[at + 3] - mean),
-        e: s.e + v * (envelope[at + 4] - mean),
-        f: s.f + v * (envelope[at + 5] - mean),
-        g: s.g + v * (envelope[at + 6] - mean),
-        h: s.h + v * (envelope[at + 7] - mean),
-    }
-}
-
-// The sums at eight lags from `lag` on, over the times below `past`. Two times a turn: so the compiler keeps the lags side by side.
-fn eight_sums(envelope: &[f64], mean: f64, lag: usize, past: usize) -> Eight
-    requires { ⌜ (past % 2 ≡ 0) × (past + lag + 7 ≤ length (now envelope)) ⌝ }
-    ensures { λ r. ⌜ r ≡ eightSums (now (envelope .entry)) mean lag past ⌝ }
-{
-    let mut s = Eight {
-        a: 0.0,
-        b: 0.0,
-        c: 0.0,
-        d: 0.0,
-        e: 0.0,
-        f: 0.0,
-        g: 0.0,
-        h: 0.0,
-    };
-    let mut t = 0;
-    while t < past {
-        s = eight_more(s, envelope[t] - mean, envelope, mean, t + lag);
-        s = eight_more(s, envelope[t + 1] - mean, envelope, mean, t + 1 + lag);
-        t += 2;
-    }
-    s
-}
-
 // x held to 0..1
 fn unit_of(x: f64) -> f64
     ensures { λ r. ⌜ r ≡ held nought one x ⌝ }
@@ -147,23 +94,26 @@ fn clarity_of(sum: f64, ac0: f64, n: usize, lag: usize) -> f64
     unit_of(sum * float_of(n) / (ac0 * float_of(n - lag)))
 }
 
-// Slots `from` to `from + 7` of a clarity curve whose slot 0 is the lag min_lag: the eight sums together as far as all of them reach,
-// in pairs of times, and then each to its own end.
+// Slots `from` to `from + 7` of a clarity curve whose slot 0 is the lag min_lag, from their sums over the times below t: the eight
+// together as far as all of them reach, in pairs of times, and then each to its own end.
 fn fill_eight(
     envelope: &[f64],
     mean: f64,
     ac0: f64,
     min_lag: usize,
     from: usize,
+    t: usize,
+    below: Eight,
     clarity: &mut [f64],
 )
-    requires { ⌜ («min_lag» + from + 7 < length (now envelope)) × (from + 8 ≤ length (now clarity)) ⌝ }
+    requires { ⌜ («min_lag» + from + 7 < length (now envelope)) × (t + («min_lag» + from) + 7 ≤ length (now envelope)) × (from + 8 ≤ length (now clarity)) ⌝ }
+    requires { ⌜ below ≡ eightSums (now envelope) mean («min_lag» + from) t ⌝ }
     ensures { λ _. ⌜ now (clarity .exit) ≡ filled (clarityFrom (now (envelope .entry)) mean ac0 «min_lag») (now (clarity .entry)) from (from + 8) ⌝ }
 {
     let n = envelope.len();
     let lag = min_lag + from;
-    let past = (n - lag - 7) / 2 * 2;
-    let s = eight_sums(envelope, mean, lag, past);
+    let past = t + (n - lag - 7 - t) / 2 * 2;
+    let s = eight_sums(envelope, mean, lag, t, past, below);
     let sums = [s.a, s.b, s.c, s.d, s.e, s.f, s.g, s.h];
     let mut j = 0;
     while j < 8 {
@@ -171,6 +121,49 @@ fn fill_eight(
         clarity[from + j] = clarity_of(sum, ac0, n, lag + j);
         j += 1;
     }
+}
+
+// Slots `from` to `from + 15`, from two such eights.
+fn fill_sixteen(
+    envelope: &[f64],
+    mean: f64,
+    ac0: f64,
+    min_lag: usize,
+    from: usize,
+    t: usize,
+    low: Eight,
+    high: Eight,
+    clarity: &mut [f64],
+)
+    requires { ⌜ («min_lag» + from + 15 < length (now envelope)) × (t + («min_lag» + from) + 15 ≤ length (now envelope)) × (from + 16 ≤ length (now clarity)) ⌝ }
+    requires { ⌜ (low ≡ eightSums (now envelope) mean («min_lag» + from) t) × (high ≡ eightSums (now envelope) mean («min_lag» + (from + 8)) t) ⌝ }
+    ensures { λ _. ⌜ now (clarity .exit) ≡ filled (clarityFrom (now (envelope .entry)) mean ac0 «min_lag») (now (clarity .entry)) from (from + 16) ⌝ }
+{
+    fill_eight(envelope, mean, ac0, min_lag, from, t, low, clarity);
+    fill_eight(envelope, mean, ac0, min_lag, from + 8, t, high, clarity);
+}
+
+// Slots `from` to `from + 31`: as many blocks as fit, and then each eight of them to its end.
+fn fill_thirty_two(
+    envelope: &[f64],
+    mean: f64,
+    ac0: f64,
+    min_lag: usize,
+    from: usize,
+    clarity: &mut [f64],
+)
+    requires { ⌜ («min_lag» + from + 31 < length (now envelope)) × (from + 32 ≤ length (now clarity)) ⌝ }
+    ensures { λ _. ⌜ now (clarity .exit) ≡ filled (clarityFrom (now (envelope .entry)) mean ac0 «min_lag») (now (clarity .entry)) from (from + 32) ⌝ }
+{
+    let lag = min_lag + from;
+    let t = (envelope.len() - lag - 32) / 128 * 128;
+    let s = block_sums(envelope, mean, lag, t);
+    let a = s.a;
+    let b = s.b;
+    let c = s.c;
+    let d = s.d;
+    fill_sixteen(envelope, mean, ac0, min_lag, from, t, a, b, clarity);
+    fill_sixteen(envelope, mean, ac0, min_lag, from + 16, t, c, d, clarity);
 }
 
 // Slots `from` up to `past` of a clarity curve, one lag at a time.
@@ -194,6 +187,28 @@ fn fill_singly(
     }
 }
 
+// Slots `from` up to `past`: eight lags at a time, and then what is left.
+fn fill_eights(
+    envelope: &[f64],
+    mean: f64,
+    ac0: f64,
+    min_lag: usize,
+    from: usize,
+    past: usize,
+    clarity: &mut [f64],
+)
+    requires { ⌜ (from ≤ past) × («min_lag» + past ≤ length (now envelope)) × (past ≤ length (now clarity)) ⌝ }
+    ensures { λ _. ⌜ now (clarity .exit) ≡ filled (clarityFrom (now (envelope .entry)) mean ac0 «min_lag») (now (clarity .entry)) from past ⌝ }
+{
+    let z = eight_noughts();
+    let mut i = from;
+    while past - i >= 8 {
+        fill_eight(envelope, mean, ac0, min_lag, i, 0, z, clarity);
+        i += 8;
+    }
+    fill_singly(envelope, mean, ac0, min_lag, i, past, clarity);
+}
+
 // Inner: the clarity curve, one slot a lag from min_lag to max_lag, of an envelope with this mean and this energy about it.
 pub fn fill_clarity(
     envelope: &[f64],
@@ -208,11 +223,11 @@ pub fn fill_clarity(
 {
     let count = max_lag - min_lag + 1;
     let mut i = 0;
-    while count - i >= 8 {
-        fill_eight(envelope, mean, ac0, min_lag, i, clarity);
-        i += 8;
+    while count - i >= 32 {
+        fill_thirty_two(envelope, mean, ac0, min_lag, i, clarity);
+        i += 32;
     }
-    fill_singly(envelope, mean, ac0, min_lag, i, count, clarity);
+    fill_eights(envelope, mean, ac0, min_lag, i, count, clarity);
 }
 
 // how likely a tempo is: 1 at 120 beats a minute, less each octave away

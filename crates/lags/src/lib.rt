@@ -6,7 +6,7 @@ use numbers::OUT_OF_BOUNDS;
 use numbers::greatest;
 use numbers::rate_fine;
 ghost use mathlib.Core.Path.{_≡_};
-ghost use Prim.Native.Nat.{ℕ, max, _≤_, _<_};
+ghost use Prim.Native.Nat.{_≤_};
 ghost use lib.Ieee.Scale.{finite};
 ghost use Rattle.numbers.specs.Rounded.{real};
 ghost use Rattle.numbers.specs.Limits.{mostPeriod};
@@ -23,6 +23,7 @@ ghost use Rattle.lags.specs.Lags.{
   lagRoom,
 };
 
+mod abreast;
 pub mod curves;
 pub mod pairs;
 

@@ -3,7 +3,6 @@
 // Document 01, Tempo and candidates. The Rust: tempo.rs `pick_tempo_peaks` ("distinct") and `lags_agree_mod_octave`.
 use crate::float_of;
 ghost use mathlib.Core.Path.{_≡_};
-ghost use Prim.Native.Nat.{ℕ, _<_};
 ghost use Rattle.lags.specs.Pairs.{distance, apart, foldFits, agrees};
 
 // |x - y|

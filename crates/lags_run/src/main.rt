@@ -32,7 +32,10 @@ fn rates() {
 
 fn bounds() {
     show::words(b"200 to 100:");
-    range_of(48000, TempoOpts::new().with_min_bpm(200.0).with_max_bpm(100.0));
+    range_of(
+        48000,
+        TempoOpts::new().with_min_bpm(200.0).with_max_bpm(100.0),
+    );
     range(b"0 to 0:", 48000, 0.0, 0.0);
     range(b"-0 to 0:", 48000, -0.0, 0.0);
     range(b"-5 to -1:", 48000, -5.0, -1.0);
@@ -47,7 +50,12 @@ fn far_bounds() {
     let big = fine * fine * fine * fine;
     range(b"2^600 to 2^600:", 48000, big, big);
     range(b"-2^600 to 2^600:", 192000, -big, big);
-    range(b"2^53 to 2^53:", 48000, 9007199254740992.0, 9007199254740992.0);
+    range(
+        b"2^53 to 2^53:",
+        48000,
+        9007199254740992.0,
+        9007199254740992.0,
+    );
     range(b"2^-600 to 2^-600:", 48000, 1.0 / big, 1.0 / big);
 }
 
@@ -157,6 +165,53 @@ fn beat() {
     curves(&e);
 }
 
+// Lags 20 to 60: thirty-two in blocks, eight side by side, and one more. The last slot lent is not written.
+fn long_curves(envelope: &[f64; 400]) {
+    let mut clarity = [9.0f64; 42];
+    let mut weight = [9.0f64; 42];
+    let mut priors = [9.0f64; 42];
+    let mean = lags::curves::mean_of(envelope);
+    let ac0 = lags::curves::energy_of(envelope, mean);
+    show::words(b"mean");
+    show::float(mean);
+    show::words(b"\nenergy");
+    show::float(ac0);
+    lags::curves::fill_clarity(envelope, mean, ac0, 20, 60, &mut clarity);
+    show::words(b"\nclarity");
+    show::floats(&clarity);
+    lags::curves::fill_priors(6000, 20, 60, &mut priors);
+    lags::curves::weigh(&clarity, &priors, 41, &mut weight);
+    show::words(b"\nweight");
+    show::floats(&weight);
+    show::end();
+}
+
+fn long_beat() {
+    let mut e = [0.25f64; 400];
+    e[7] = 6.5;
+    e[19] = 2.1;
+    e[31] = 6.5;
+    e[55] = 6.5;
+    e[67] = 2.1;
+    e[80] = 6.5;
+    e[103] = 6.5;
+    e[115] = 2.1;
+    e[127] = 6.5;
+    e[151] = 6.5;
+    e[163] = 2.1;
+    e[176] = 6.5;
+    e[199] = 6.5;
+    e[223] = 6.5;
+    e[248] = 6.5;
+    e[271] = 6.5;
+    e[295] = 6.5;
+    e[319] = 6.5;
+    e[343] = 6.5;
+    e[368] = 6.5;
+    e[391] = 6.5;
+    long_curves(&e);
+}
+
 fn main() {
     rates();
     bounds();
@@ -166,4 +221,5 @@ fn main() {
     near_pairs_agree();
     far_pairs_agree();
     beat();
+    long_beat();
 }

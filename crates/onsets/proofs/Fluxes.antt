@@ -19,7 +19,7 @@ use Rattle.numbers.proofs.Tests.{and-left, and-right, lowest-zero}
 use Rattle.numbers.specs.Limits.{mostRows, mostBins, between, magnitudeFine, valueFine}
 use Rattle.numbers.specs.Lists.{row, every, over, curve, filled}
 use Rattle.numbers.specs.Rounded.{_⊕_, _⊖_, positivePart, sumFrom, sumOf}
-use Rattle.sizes.proofs.Lists.{magnitudes-within, each-row}
+use Rattle.sizes.proofs.Lists.{each-row, each-tab, magnitudes-within}
 use Rattle.sizes.proofs.Sizes.{within-weaken, sub-within, positivePart-most, nought-most}
 use Rattle.sizes.proofs.Sums.{sum-within}
 use Rattle.sizes.proofs.Tests.{within-value}
@@ -112,6 +112,9 @@ flux-within s b (suc t) h l =
     let w : (u : ℕ) → Each (Within 126) (row s b u) = λ u. each-row b u (magnitudes-within s h) in
     let n : length (row s b t) ≤ b = row-most s b t in
     sum-within 12 127 (lit≤ tt) (lit≤ tt) (omega (arith, rises-length (row s b t) (row s b (suc t)))) (rises-within (w t) (w (suc t)))
+
+pub flux-curve-within : (s : List Float) (rows b : ℕ) → every magnitudeFine s ≡ true → b ≤ mostBins → Each (Within 139) (curve (fluxAt s b) rows)
+flux-curve-within s rows b h l = each-tab (fluxAt s b) 0 rows (λ t p q. flux-within s b t h l)
 
 -- so the flux that `spectral_flux` writes is never refused by the calls after it
 pub flux-fine : (s : List Float) (b t : ℕ) → every magnitudeFine s ≡ true → b ≤ mostBins → valueFine (fluxAt s b t) ≡ true

@@ -2,22 +2,26 @@
 -- 0 says of each call.
 use mathlib.Core.Bool.{Bool, true, _&&_}
 use mathlib.Core.List.{List, [], _∷_, map}
-use mathlib.Core.Path.{_≡_, refl, sym, _∙_}
-use Prim.Native.Nat.{ℕ, _-_, _≤_, _<_}
+use mathlib.Core.Path.{_≡_, refl, sym, ap, _∙_}
+use Prim.Native.Nat.{ℕ, _-_, _≤_, _<_, min}
 use native.Mathlib.Omega.{arith}
-use borrow.Author.Tests.{leb-true, le-leb, eqb-true, ltb-true, lt-ltb}
+use borrow.Author.Tests.{leb-true, le-leb, eqb-true, eq-eqb, ltb-true, lt-ltb}
 use lib.Dec.{leb, ltb, eqb}
 use lib.Ieee.{Float}
 use lib.ListN.{length, getD, length-map, List·getD-map}
 use lib.Seq.{ext-getD}
 use Rattle.numbers.proofs.Everys.{every-at}
 use Rattle.numbers.proofs.Tabs.{length-tab, getD-curve, filled-whole}
-use Rattle.numbers.proofs.Tests.{and-left, and-right, and-both, lowest-zero}
+use Rattle.numbers.proofs.Tests.{and-left, and-right, and-both, lowest-zero, lowest-0}
 use Rattle.numbers.specs.Limits.{mostRows, mostFrame, rateFine, valueFine}
 use Rattle.numbers.specs.Lists.{every, curve, filled, listed}
+use Rattle.onsets.specs.Flux.{fluxAt}
 use Rattle.onsets.specs.Onsets.{frameFine, gapOf, onsetsOf, onsetsRefusal, timesRefusal}
 use Rattle.onsets.specs.Peaks.{at, peaksOf, ascending, pointInto}
+use Rattle.onsets.specs.Threshold.{thresholdAt, thresholdRefusal}
+use Rattle.onsets.proofs.Fluxes.{FluxFine, flux-curve-within, flux-curve-fine}
 use Rattle.onsets.proofs.Picks.{ascending-from, peaks-ascend, peaks-inside, peaks-length, suppressed-ascends, suppressed-every, suppressed-length}
+use Rattle.onsets.proofs.Thresholds.{threshold-curve-fine}
 
 -- a test that follows from another
 pub every-weaken : (p q : ℕ → Bool) → ((x : ℕ) → p x ≡ true → q x ≡ true) → (xs : List ℕ) → every p xs ≡ true → every q xs ≡ true
@@ -108,3 +112,38 @@ times-told frames rate room e =
       frames-fit = and-right (rateFine rate) _ (p .bounds);
       has-room = leb-true _ _ (p .room);
     }
+
+-- ---- what one call writes the next one takes
+
+-- the flux of magnitudes that `spectral_flux` took
+module _ (s : List Float) (rows bins had : ℕ) (f : FluxFine s rows bins had) where
+  pub threshold-takes : (room work : ℕ) → rows ≤ room → min 21 rows ≤ work → thresholdRefusal (curve (fluxAt s bins) rows) room work ≡ 0
+  unfolding thresholdRefusal
+  threshold-takes room work r w =
+      let l : length (curve (fluxAt s bins) rows) ≡ rows = length-tab (fluxAt s bins) 0 rows in
+      let n : length (curve (fluxAt s bins) rows) ≤ mostRows = omega (arith, f .rows-fit) in
+      let r′ : length (curve (fluxAt s bins) rows) ≤ room = omega arith in
+      let w′ : min 21 (length (curve (fluxAt s bins) rows)) ≤ work = rw l w in
+      lowest-0 _ _ _ _ (le-leb _ _ n) refl (and-both _ _ (le-leb _ _ r′) (le-leb _ _ w′)) (flux-curve-fine s rows bins (f .fine) (f .bins-fit))
+
+  -- and its threshold
+  pub onsets-take : (rate room : ℕ) → rateFine rate ≡ true → rows ≤ room
+      → onsetsRefusal (curve (fluxAt s bins) rows) (curve (thresholdAt (curve (fluxAt s bins) rows)) rows) rate room ≡ 0
+  unfolding onsetsRefusal
+  onsets-take rate room ok r =
+      let c = curve (fluxAt s bins) rows in
+      let l : length (curve (fluxAt s bins) rows) ≡ rows = length-tab (fluxAt s bins) 0 rows in
+      let m : length (curve (thresholdAt c) rows) ≡ length (curve (fluxAt s bins) rows) = length-tab (thresholdAt c) 0 rows ∙ sym l in
+      let n : length (curve (fluxAt s bins) rows) ≤ mostRows = omega (arith, f .rows-fit) in
+      let r′ : length (curve (fluxAt s bins) rows) ≤ room = omega arith in
+      let t : every valueFine (curve (thresholdAt c) rows) ≡ true =
+      ap (λ (k : ℕ). every valueFine (curve (thresholdAt c) k)) (sym l) ∙ threshold-curve-fine c (flux-curve-within s rows bins (f .fine) (f .bins-fit)) in
+      lowest-0 _ _ _ _ (and-both _ _ (le-leb _ _ n) ok) (eq-eqb _ _ m) (le-leb _ _ r′)
+      (and-both _ _ (flux-curve-fine s rows bins (f .fine) (f .bins-fit)) t)
+
+-- onsets that `pick_onsets` listed
+pub times-take : (flux threshold : List Float) (rate room : ℕ) → length flux ≤ mostRows → rateFine rate ≡ true
+    → length (onsetsOf flux threshold rate) ≤ room → timesRefusal (onsetsOf flux threshold rate) rate room ≡ 0
+unfolding timesRefusal
+times-take flux threshold rate room h ok r =
+    lowest-0 _ _ _ _ (and-both _ _ ok (onsets-listable flux threshold rate h)) refl (le-leb _ _ r) refl

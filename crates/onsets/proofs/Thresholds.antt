@@ -1,20 +1,30 @@
 -- Thresholds: the window that a slot is made of, what number 0 says, and that a slot depends on the twenty-one slots around it alone.
-use mathlib.Core.Bool.{true, _&&_}
+use mathlib.Core.Bool.{true, false, _&&_}
 use mathlib.Core.List.{List}
 use mathlib.Core.Logic.{_⊎_}
-use mathlib.Core.Path.{_≡_, sym, ap, _∙_}
-use Prim.Native.Nat.{ℕ, _+_, _-_, _≤_, _<_, min}
+use mathlib.Core.Path.{_≡_, refl, sym, ap, _∙_}
+use Prim.Native.Nat.{ℕ, _+_, _-_, _^_, _≤_, _<_, min}
+use native.Mathlib.Nat.{zero-lt-suc}
 use native.Mathlib.Omega.{arith}
 use borrow.Author.Tests.{leb-true}
-use lib.Dec.{leb}
-use lib.Ieee.{Float, nan}
+use lib.Dec.{leb, lit<, lit≤}
+use lib.Ieee.{Float, nan, binary64, ofBits}
 use lib.ListN.{length, getD, take, drop, length-drop}
 use lib.Seq.{drop-drop, length-take-le, getD-take, getD-drop, ext-getD, length-slice}
+use Rattle.numbers.proofs.Everys.{every-tab}
 use Rattle.numbers.proofs.Tests.{and-left, and-right, lowest-zero}
-use Rattle.numbers.proofs.Windows.{around-same, windowed-local}
+use Rattle.numbers.proofs.Windows.{length-around, around-same, windowed-local}
 use Rattle.numbers.specs.Limits.{mostRows, valueFine}
 use Rattle.numbers.specs.Lists.{every, around, curve, filled}
-use Rattle.onsets.specs.Threshold.{reach, thresholdOf, thresholdAt, sortingRoom, thresholdRefusal}
+use Rattle.numbers.specs.Rounded.{_⊗_}
+use Rattle.sizes.proofs.Lists.{each-around}
+use Rattle.sizes.proofs.Sizes.{add-within, mul-within, value-most, within-weaken}
+use Rattle.sizes.proofs.Tests.{within-value}
+use Rattle.sizes.specs.Sizes.{Within, Each}
+use Rattle.median.proofs.Medians.{median-within, mad-within}
+use Rattle.median.specs.Median.{medianOf, madOf}
+use Rattle.onsets.specs.Threshold.{reach, madScale, leastExcess, thresholdOf, thresholdAt, sortingRoom, thresholdRefusal, Thresholds}
+use Rattle.onsets.proofs.Outcomes.{written-unique}
 
 module _ {A : Type 0} where
   -- a part of a list, as code takes it
@@ -53,6 +63,35 @@ pub threshold-local : (c d : List Float) (n a e : ℕ) → length c ≡ n → le
 unfolding thresholdAt
 threshold-local c d n a e lc ld h k same = windowed-local reach thresholdOf c d n a e nan nan lc ld h k same
 
+-- ---- size
+
+scale-within : Within 3 madScale
+unfolding ofBits
+scale-within = value-most false 8 1 (zero-lt-suc 0) (refl, refl) (lit≤ tt)
+
+excess-within : Within 0 leastExcess
+unfolding ofBits
+excess-within = value-most false 0x10_C6F7_A0B5_ED8D (2 ^ 72) (lit< tt) (refl, refl) (lit≤ tt)
+
+-- over a window of values of size at most 2 ^ 139, as those of a genuine flux are
+pub threshold-within : (window : List Float) → 0 < length window → Each (Within 139) window → Within 145 (thresholdOf window)
+unfolding thresholdOf
+threshold-within window some h =
+    let med = median-within 139 window some h in
+    let mad = mad-within 139 (lit≤ tt) window (medianOf window) some h med in
+    let grown : Within 143 (madScale ⊗ madOf window (medianOf window)) = mul-within binary64 3 140 (lit≤ tt) scale-within mad in
+    add-within binary64 144 (lit≤ tt) (add-within binary64 143 (lit≤ tt) (within-weaken 139 143 (lit≤ tt) med) grown)
+    (within-weaken 0 144 (lit≤ tt) excess-within)
+
+-- so the threshold of a genuine flux is never refused by the call after it
+pub threshold-curve-fine : (flux : List Float) → Each (Within 139) flux → every valueFine (curve (thresholdAt flux) (length flux)) ≡ true
+unfolding thresholdAt
+threshold-curve-fine flux h =
+    every-tab valueFine (thresholdAt flux) 0 (length flux)
+    (λ t a b.
+    let some : 0 < length (around reach flux t) = omega (arith, length-around reach flux t) in
+    within-value (within-weaken 145 150 (lit≤ tt) (threshold-within (around reach flux t) some (each-around reach t h))))
+
 -- ---- refusal
 
 -- what number 0 says
@@ -72,3 +111,12 @@ threshold-told flux room work e =
       has-work = leb-true _ _ (and-right (leb (length flux) room) _ (p .room));
       fine = p .values;
     }
+
+-- ---- what the call promises
+
+-- any two outcomes that the call permits coincide, but for the slots that it sorts in
+pub thresholds-unique : {flux threshold work : List Float} {a b : ℕ} {x y u v : List Float} → Thresholds flux threshold work a x u → Thresholds flux threshold work b y v
+    → (a ≡ b) × (x ≡ y) × (length u ≡ length v)
+thresholds-unique p q =
+    let same = written-unique _ _ _ (p .curve) (q .curve) in
+    (same .0, same .1, p .work-length ∙ sym (q .work-length))

@@ -14,6 +14,13 @@ ghost use Rattle.numbers.specs.Lists.{listed, every};
 ghost use Rattle.onsets.specs.Outcomes.{Written, Lists};
 ghost use Rattle.onsets.specs.Onsets.{gapOf, onsetsOf, frameTime, frameFine, onsetsRefusal, timesRefusal};
 
+// the least time between two onsets, in milliseconds
+const MIN_GAP_MS: f64 = 30.0;
+// samples from a frame to the next
+const HOP: f64 = 256.0;
+// samples from a frame's start to its centre, half of the transform's 1,024
+const CENTRE: f64 = 512.0;
+
 // Lists the frames of the onsets of a flux with its threshold, at a sample rate. Room: one slot for each slot of flux.
 // Refuses: 1 a flux longer than 1,048,576 or a rate outside 1..192,000; 2 a threshold of another length; 3 frames shorter than
 // flux; 4 a value of either that isn't finite or is larger than 2^150. Slots past the count stay, all of them at a refusal.
@@ -56,7 +63,7 @@ fn onsets_refusal(flux: &[f64], threshold: &[f64], rate: u32, room: usize) -> u3
 pub fn gap_of(rate: u32) -> usize
     ensures { λ r. ⌜ r ≡ gapOf rate ⌝ }
 {
-    let frames = floats::wholes::ceil_of(30.0 / 1000.0 * (rate as f64) / 256.0) as usize;
+    let frames = floats::wholes::ceil_of(MIN_GAP_MS / 1000.0 * (rate as f64) / HOP) as usize;
     numbers::greatest(1, frames)
 }
 
@@ -89,12 +96,12 @@ fn times_refusal(frames: &[u32], rate: u32, room: usize) -> u32
     0
 }
 
-fn frames_fine(frames: &[u32]) -> bool
-    ensures { λ r. ⌜ r ≡ every frameFine (now (frames .entry)) ⌝ }
+fn frames_fine(list: &[u32]) -> bool
+    ensures { λ r. ⌜ r ≡ every frameFine (now (list .entry)) ⌝ }
 {
     let mut i = 0;
-    while i < frames.len() {
-        if frames[i] > numbers::MOST_FRAME {
+    while i < list.len() {
+        if list[i] > numbers::MOST_FRAME {
             return false;
         }
         i += 1;
@@ -117,5 +124,5 @@ fn write_times(frames: &[u32], rate: u32, ms: &mut [f64])
 pub fn frame_time(frame: u32, rate: u32) -> f64
     ensures { λ r. ⌜ r ≡ frameTime rate frame ⌝ }
 {
-    ((frame as f64) * 256.0 + 512.0) / (rate as f64) * 1000.0
+    ((frame as f64) * HOP + CENTRE) / (rate as f64) * 1000.0
 }

@@ -7,10 +7,14 @@ ghost use lib.ListN.{length, drop};
 ghost use Rattle.numbers.specs.Lists.{filled};
 ghost use Rattle.onsets.specs.Threshold.{thresholdOf, thresholdAt, sortingRoom, thresholdRefusal, Thresholds};
 
-// how many slots the window reaches to each side
-const REACH: usize = 10;
 // the most slots of a window
-const WINDOW: usize = 21;
+const MEDIAN_WINDOW: usize = 21;
+// how many of them lie to each side
+const REACH: usize = 10;
+// a flux counts from so many times the distance of its neighbours from their median
+const DELTA_SCALE: f64 = 8.0;
+// and from so little more, so that silence has no onset
+const DELTA_MIN: f64 = 0.000001;
 
 // Writes threshold[0..N], N the length of flux; slots past them stay. Room: N slots, and min(21, N) of work to sort in.
 // Refuses: 1 a flux longer than 1,048,576; 3 threshold or work shorter than their room; 4 a flux value that isn't finite or is
@@ -35,7 +39,7 @@ fn refusal(flux: &[f64], room: usize, work: usize) -> u32
     if room < flux.len() {
         return numbers::TOO_LITTLE_ROOM;
     }
-    if work < numbers::least(WINDOW, flux.len()) {
+    if work < numbers::least(MEDIAN_WINDOW, flux.len()) {
         return numbers::TOO_LITTLE_ROOM;
     }
     if numbers::values_fine(flux) {
@@ -80,5 +84,5 @@ fn over_window(window: &[f64], work: &mut [f64]) -> f64
 {
     let med = median::median_in(window, work);
     let mad = median::mad_in(window, med, work);
-    med + 8.0 * mad + 0.000001
+    med + DELTA_SCALE * mad + DELTA_MIN
 }

@@ -7,14 +7,14 @@ use lib.Dec.{leb, eqb}
 use lib.ListN.{length}
 use lib.Ieee.{Float}
 use borrow.Author.Tests.{leb-true, eqb-true}
-use Rattle.numbers.specs.Limits.{valueFine, similarityFine}
+use Rattle.numbers.specs.Limits.{mostFeatures, valueFine, similarityFine}
 use Rattle.numbers.specs.Lists.{every}
 use Rattle.numbers.proofs.Tests.{Passed, lowest-zero}
 use Rattle.structure.specs.Similarity.{similarityNumber}
 use Rattle.structure.specs.Novelty.{noveltyNumber}
 
 pub record SimilarityPassed (features : List Float) (rows room : ℕ) : Type 0 where
-  pub few : rows ≤ 50000
+  pub few : rows ≤ mostFeatures
   pub whole : length features ≡ rows * 16
   pub space : rows * 17 ≤ room
   pub fine : every valueFine features ≡ true
@@ -22,16 +22,16 @@ pub record SimilarityPassed (features : List Float) (rows room : ℕ) : Type 0 w
 pub similarity-passed : (features : List Float) (rows room : ℕ) → similarityNumber features rows room ≡ 0 → SimilarityPassed features rows room
 unfolding similarityNumber
 similarity-passed features rows room e =
-    let p : Passed (leb rows 50000) (eqb (length features) (rows * 16)) (leb (rows * 17) room) (every valueFine features) = lowest-zero _ _ _ _ e in
+    let p : Passed (leb rows mostFeatures) (eqb (length features) (rows * 16)) (leb (rows * 17) room) (every valueFine features) = lowest-zero _ _ _ _ e in
     record {
       few = leb-true _ _ (p .bounds);
       whole = eqb-true _ _ (p .lengths);
       space = leb-true _ _ (p .room);
-      fine = p .values
+      fine = p .values;
     }
 
 pub record NoveltyPassed (similarity : List Float) (rows room : ℕ) : Type 0 where
-  pub few : rows ≤ 50000
+  pub few : rows ≤ mostFeatures
   pub whole : length similarity ≡ rows * 17
   pub space : rows ≤ room
   pub fine : every similarityFine similarity ≡ true
@@ -39,10 +39,10 @@ pub record NoveltyPassed (similarity : List Float) (rows room : ℕ) : Type 0 wh
 pub novelty-passed : (similarity : List Float) (rows room : ℕ) → noveltyNumber similarity rows room ≡ 0 → NoveltyPassed similarity rows room
 unfolding noveltyNumber
 novelty-passed similarity rows room e =
-    let p : Passed (leb rows 50000) (eqb (length similarity) (rows * 17)) (leb rows room) (every similarityFine similarity) = lowest-zero _ _ _ _ e in
+    let p : Passed (leb rows mostFeatures) (eqb (length similarity) (rows * 17)) (leb rows room) (every similarityFine similarity) = lowest-zero _ _ _ _ e in
     record {
       few = leb-true _ _ (p .bounds);
       whole = eqb-true _ _ (p .lengths);
       space = leb-true _ _ (p .room);
-      fine = p .values
+      fine = p .values;
     }

@@ -2,5 +2,7 @@ mod Tables
 pub mod Weights
 pub mod Terms
 mod Lanes
-mod Slots
+pub mod Slots
 pub mod Calls
+pub mod Fine
+pub mod Local

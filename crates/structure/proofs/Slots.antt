@@ -56,7 +56,7 @@ module _ (features : List Float) (rows i d : ℕ) where
 
   pub slot-inside : i + d < rows
       → slotAt features rows i d
-        ≡ similarityOf (dotOf (featureRow features i) (featureRow features (i + d))) (normOf (featureRow features i)) (normOf (featureRow features (i + d)))
+      ≡ similarityOf (dotOf (featureRow features i) (featureRow features (i + d))) (normOf (featureRow features i)) (normOf (featureRow features (i + d)))
   unfolding slotAt
   slot-inside h = pick-false _ _ _ (lt-leb rows (i + d) h)
 
@@ -112,15 +112,15 @@ block-made features first count turned squares norms was few m t s n =
     record {
       column = t;
       square = λ r h.
-      ap (λ (x : List Float). getD x r nan) s
-      ∙ getD-filled-in (squareAt features first) (replicate 128 nought) 0 count (omega arith) (omega arith) r nan (omega arith) h;
+          ap (λ (x : List Float). getD x r nan) s
+          ∙ getD-filled-in (squareAt features first) (replicate 128 nought) 0 count (omega arith) (omega arith) r nan (omega arith) h;
       none = λ r h out.
-      ap (λ (x : List Float). getD x r nan) s
-      ∙ getD-filled-high (squareAt features first) (replicate 128 nought) 0 count (omega arith) (omega arith) r nan out
-      ∙ getD-replicate 128 r nought nan h;
+          ap (λ (x : List Float). getD x r nan) s
+          ∙ getD-filled-high (squareAt features first) (replicate 128 nought) 0 count (omega arith) (omega arith) r nan out
+          ∙ getD-replicate 128 r nought nan h;
       norm = λ r h.
-      ap (λ (x : List Float). getD x r nan) n
-      ∙ getD-filled-in (rootAt squares) was 0 128 (omega arith) (omega arith) r nan (omega arith) h
+          ap (λ (x : List Float). getD x r nan) n
+          ∙ getD-filled-in (rootAt squares) was 0 128 (omega arith) (omega arith) r nan (omega arith) h;
     }
 
 -- ---- the slots of a row from its block
@@ -160,8 +160,8 @@ module _ (features : List Float) (rows first : ℕ) (turned squares norms : List
 
   -- the slots of the row in column c, from its seventeen dot products
   module _ (c d : ℕ) (few : c < 112) (there : first + c < rows) (band : d < 17) (sums : List Float)
-    (own : getD sums 0 nan ≡ getD squares c nan)
-    (others : (e : ℕ) → 0 < e → e < 17 → getD sums e nan ≡ dotOf (featureRow features (first + c)) (columnOf turned (c + e))) where
+      (own : getD sums 0 nan ≡ getD squares c nan)
+      (others : (e : ℕ) → 0 < e → e < 17 → getD sums e nan ≡ dotOf (featureRow features (first + c)) (columnOf turned (c + e))) where
     its-dot : first + c + d < rows → getD sums d nan ≡ dotOf (featureRow features (first + c)) (featureRow features (first + c + d))
     its-dot h = go (lt-or-le 0 d)
       where
@@ -206,8 +206,8 @@ module _ (features : List Float) (rows first : ℕ) (turned squares norms : List
       let back : i * 17 + e ≡ k = omega arith in
       let there′ : first + c < rows = omega arith in
       let value : getD quotients e nan ≡ getD sums e nan ⊘ (getD norms c nan ⊗ getD norms (c + e) nan) =
-          ap (λ (x : List Float). getD x e nan) q
-          ∙ getD-filled-in (laneQuotient sums norms c) sums 0 17 (omega arith) (omega arith) e nan (omega arith) e-in in
+      ap (λ (x : List Float). getD x e nan) q
+      ∙ getD-filled-in (laneQuotient sums norms c) sums 0 17 (omega arith) (omega arith) e nan (omega arith) e-in in
       ap (λ (x : Float). settled x (getD norms c nan) (getD norms (c + e) nan)) value
       ∙ block-slot c e few there′ e-in sums own (λ n p r. others n p r ∙ ap (λ (j : ℕ). dotOf (featureRow features j) (columnOf turned (c + n))) (sym place))
       ∙ ap (λ (j : ℕ). slotAt features rows j e) place

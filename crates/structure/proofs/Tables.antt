@@ -7,11 +7,11 @@ use lib.Dec.{T, eqb, eqb→eq}
 use lib.IntN.{ℤ, pos, negsuc}
 use lib.Ieee.{Float, nan, inf, fin}
 
-both-left : (a b : Bool) → T (a && b) → T a
+pub both-left : (a b : Bool) → T (a && b) → T a
 both-left true b t = tt
 both-left false b t = t
 
-both-right : (a b : Bool) → T (a && b) → T b
+pub both-right : (a b : Bool) → T (a && b) → T b
 both-right true b t = t
 both-right false b t = absurd t
 
@@ -35,14 +35,14 @@ whole-is (pos m) (negsuc n) h = absurd h
 whole-is (negsuc m) (pos n) h = absurd h
 whole-is (negsuc m) (negsuc n) h = ap negsuc (eqb→eq m n h)
 
-abbrev sameFloat : Float → Float → Bool
+abbrev pub sameFloat : Float → Float → Bool
 sameFloat nan y = false
 sameFloat (inf s) y = false
 sameFloat (fin s m e) nan = false
 sameFloat (fin s m e) (inf t) = false
 sameFloat (fin s m e) (fin t n d) = Bool·beq s t && (eqb m n && sameWhole e d)
 
-float-is : (x y : Float) → T (sameFloat x y) → x ≡ y
+pub float-is : (x y : Float) → T (sameFloat x y) → x ≡ y
 float-is nan y h = absurd h
 float-is (inf s) y h = absurd h
 float-is (fin s m e) nan h = absurd h

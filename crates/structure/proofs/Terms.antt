@@ -53,9 +53,9 @@ pub record Inside (rows i p : ℕ) : Type 0 where
 
 pub inside-is : (rows i p : ℕ) → inside rows i p ≡ true → Inside rows i p
 inside-is rows i p e = record {
-      low = leb-true 8 (i + p) (and-left _ _ e);
-      high = ltb-true (i + p) (rows + 8) (and-right (leb 8 (i + p)) _ e)
-    }
+  low = leb-true 8 (i + p) (and-left _ _ e);
+  high = ltb-true (i + p) (rows + 8) (and-right (leb 8 (i + p)) _ e);
+}
 
 pub is-inside : (rows i p : ℕ) → 8 ≤ i + p → i + p < rows + 8 → inside rows i p ≡ true
 is-inside rows i p h k = and-both _ _ (le-leb 8 (i + p) h) (lt-ltb (i + p) (rows + 8) k)

@@ -19,6 +19,9 @@ pub mod kernels;
 pub mod novelties;
 pub mod similarities;
 
+// slots of a row of the similarity: the row with itself, and with the sixteen rows after it
+pub const BAND_WIDTH: usize = 17;
+
 // the number that similarity gives
 fn similarity_number(features: &[f64], rows: usize, room: usize) -> u32
     ensures { λ r. ⌜ r ≡ similarityNumber (now (features .entry)) rows room ⌝ }
@@ -29,7 +32,7 @@ fn similarity_number(features: &[f64], rows: usize, room: usize) -> u32
     if features.len() != rows * FEATURE_WIDTH {
         return WRONG_LENGTH;
     }
-    if room < rows * 17 {
+    if room < rows * BAND_WIDTH {
         return TOO_LITTLE_ROOM;
     }
     if !values_fine(features) {
@@ -59,7 +62,7 @@ fn novelty_number(similarity: &[f64], rows: usize, room: usize) -> u32
     if rows > MOST_FEATURES {
         return OUT_OF_BOUNDS;
     }
-    if similarity.len() != rows * 17 {
+    if similarity.len() != rows * BAND_WIDTH {
         return WRONG_LENGTH;
     }
     if room < rows {

@@ -11,15 +11,19 @@ ghost use lib.ListN.{length, getD};
 ghost use lib.Ieee.{nan};
 ghost use Rattle.numbers.specs.Lists.{filled};
 ghost use Rattle.structure.specs.Kernel.{kernelTable};
+ghost use Rattle.structure.specs.Novelty.{slotOf, inside, addTerm, addRow, noveltyAt};
 ghost use Rattle.structure.specs.Lanes.{laneTerm, laneRow, laneFrom};
-ghost use Rattle.structure.specs.Novelty.{slotOf, likeness, inside, addTerm, addRow, noveltyAt};
 
 // the slot of the pair of rows a and b
 fn slot_of(a: usize, b: usize) -> usize
     requires { ⌜ (a * 17 + b < 2 ^ 64) × (b * 17 + a < 2 ^ 64) ⌝ }
     ensures { λ r. ⌜ r ≡ slotOf a b ⌝ }
 {
-    if a <= b { a * 17 + (b - a) } else { b * 17 + (a - b) }
+    if a <= b {
+        a * 17 + (b - a)
+    } else {
+        b * 17 + (a - b)
+    }
 }
 
 // whether the row at place p around row i lies inside
@@ -30,6 +34,7 @@ fn is_inside(rows: usize, i: usize, p: usize) -> bool
     8 <= i + p && i + p < rows + 8
 }
 
+// the term of places u and v around row i, unless a row lies outside
 fn add_term(
     table: &[[f64; 16]; 16],
     similarity: &[f64],
@@ -52,6 +57,7 @@ fn add_term(
     sum + table[u][v] * similarity[k]
 }
 
+// the terms of place u, v ascending
 fn add_row(
     table: &[[f64; 16]; 16],
     similarity: &[f64],
@@ -86,6 +92,7 @@ fn novelty_slot(table: &[[f64; 16]; 16], similarity: &[f64], rows: usize, i: usi
     total
 }
 
+// slot by slot: near the ends, and where fewer than eight are left
 fn fill_plain(
     table: &[[f64; 16]; 16],
     similarity: &[f64],
@@ -104,7 +111,8 @@ fn fill_plain(
     }
 }
 
-// Eight rows side by side, one to a lane: each lane's sum grows by the weight times its row's similarity, seventeen slots after the lane before.
+// Eight rows side by side, one to a lane: each lane's sum grows by the weight times its own row's similarity, which stands seventeen slots after
+// that of the lane before.
 fn add_lanes(lanes: &mut [f64; 8], weight: f64, similarity: &[f64], k: usize)
     requires { ⌜ (length (now lanes) ≡ 8) × (k + 119 < length (now similarity)) ⌝ }
     ensures { λ _. ⌜ now (lanes .exit) ≡ filled (laneTerm (now (lanes .entry)) weight (now (similarity .entry)) k) (now (lanes .entry)) 0 8 ⌝ }
@@ -116,6 +124,7 @@ fn add_lanes(lanes: &mut [f64; 8], weight: f64, similarity: &[f64], k: usize)
     }
 }
 
+// the terms of place u, v ascending, in each lane
 fn add_row_lanes(
     table: &[[f64; 16]; 16],
     similarity: &[f64],
@@ -149,6 +158,7 @@ fn eight_slots(table: &[[f64; 16]; 16], similarity: &[f64], rows: usize, i: usiz
     lanes
 }
 
+// the lanes to slots i to i + 7
 fn put_eight(values: &[f64; 8], i: usize, novelty: &mut [f64])
     requires { ⌜ i + 8 ≤ length (now novelty) ⌝ }
     ensures { λ _. ⌜ now (novelty .exit) ≡ filled (laneFrom (now (values .entry)) i) (now (novelty .entry)) i (i + 8) ⌝ }

@@ -4,14 +4,13 @@
 use numbers::least;
 use roots::sqrt;
 ghost use mathlib.Core.Path.{_≡_};
-ghost use mathlib.Core.Bool.{_||_};
 ghost use Prim.Native.Nat.{ℕ, _+_, _-_, _*_, _≤_, _<_, min};
 ghost use lib.ListN.{length, getD};
 ghost use lib.Ieee.{nan, neg, lt};
 ghost use Rattle.numbers.specs.Rounded.{nought, pick, held};
 ghost use Rattle.numbers.specs.Limits.{similarityTop};
 ghost use Rattle.numbers.specs.Lists.{filled};
-ghost use Rattle.structure.specs.Similarity.{featureRow, dotOf, normOf, isZero, settled, similarityOf, slotAt, similarityAt};
+ghost use Rattle.structure.specs.Similarity.{featureRow, dotOf, isZero, settled, slotAt, similarityAt};
 ghost use Rattle.structure.specs.Lanes.{turnedAt, columnOf, squareAt, rootAt, Block, laneProduct, laneQuotient, settledFrom};
 
 // row i of the features
@@ -38,13 +37,14 @@ fn dot(a: &[f64], b: &[f64]) -> f64
     sum
 }
 
-// x held to -1..1, in two steps: each is a select, which the compiler runs on several lanes
+// x, or -1 where it is less: a select, which the compiler runs on several lanes, as are the two below
 fn raised(x: f64) -> f64
     ensures { λ r. ⌜ r ≡ pick (lt x (neg similarityTop)) (neg similarityTop) x ⌝ }
 {
     if x < -1.0 { -1.0 } else { x }
 }
 
+// x held to -1..1; -0 stays
 fn hold(x: f64) -> f64
     ensures { λ r. ⌜ r ≡ held (neg similarityTop) similarityTop x ⌝ }
 {
@@ -59,6 +59,7 @@ fn unless_zero(norm: f64, value: f64) -> f64
     if norm == 0.0 { 0.0 } else { value }
 }
 
+// +0 where a norm is 0, and else the quotient held
 fn settle(quotient: f64, norm: f64, other: f64) -> f64
     ensures { λ r. ⌜ r ≡ settled quotient norm other ⌝ }
 {
@@ -81,7 +82,13 @@ pub fn similarity_slot(features: &[f64], rows: usize, i: usize, d: usize) -> f64
 }
 
 // Inner: writes slots from `from` up to `past` of the similarity, each by itself: for the few slots of a patch.
-pub fn fill_similarity(features: &[f64], rows: usize, from: usize, past: usize, similarity: &mut [f64])
+pub fn fill_similarity(
+    features: &[f64],
+    rows: usize,
+    from: usize,
+    past: usize,
+    similarity: &mut [f64],
+)
     requires { ⌜ (length (now features) ≡ rows * 16) × (from ≤ past) × (past ≤ rows * 17) × (past ≤ length (now similarity)) ⌝ }
     ensures { λ _. ⌜ now (similarity .exit) ≡ filled (similarityAt (now (features .entry)) rows) (now (similarity .entry)) from past ⌝ }
 {
@@ -92,8 +99,15 @@ pub fn fill_similarity(features: &[f64], rows: usize, from: usize, past: usize, 
     }
 }
 
-// value k of the rows of a block
-fn turn_value(features: &[f64], rows: usize, first: usize, count: usize, k: usize, turned: &mut [f64; 2048])
+// Value k of rows first to first + count - 1, side by side: that of row first + r stands at k * 128 + r.
+fn turn_value(
+    features: &[f64],
+    rows: usize,
+    first: usize,
+    count: usize,
+    k: usize,
+    turned: &mut [f64; 2048],
+)
     requires { ⌜ (length (now features) ≡ rows * 16) × (first + count ≤ rows) × (count ≤ 128) × (k < 16) × (length (now turned) ≡ 2048) ⌝ }
     ensures { λ _. ⌜ now (turned .exit) ≡ filled (turnedAt (now (features .entry)) first) (now (turned .entry)) (k * 128) (k * 128 + count) ⌝ }
 {
@@ -104,6 +118,7 @@ fn turn_value(features: &[f64], rows: usize, first: usize, count: usize, k: usiz
     }
 }
 
+// all sixteen values
 fn turn(features: &[f64], rows: usize, first: usize, count: usize, turned: &mut [f64; 2048])
     requires { ⌜ (length (now features) ≡ rows * 16) × (first + count ≤ rows) × (count ≤ 128) × (length (now turned) ≡ 2048) ⌝ }
     ensures { λ _. ⌜ ((r k : ℕ) → r < count → k < 16 → getD (now (turned .exit)) (k * 128 + r) nan ≡ getD (now (features .entry)) ((first + r) * 16 + k) nan) ⌝ }
@@ -115,6 +130,7 @@ fn turn(features: &[f64], rows: usize, first: usize, count: usize, turned: &mut 
     }
 }
 
+// the sums of the rows' squares
 fn square_rows(features: &[f64], rows: usize, first: usize, count: usize, squares: &mut [f64; 128])
     requires { ⌜ (length (now features) ≡ rows * 16) × (first + count ≤ rows) × (count ≤ 128) × (length (now squares) ≡ 128) ⌝ }
     ensures { λ _. ⌜ now (squares .exit) ≡ filled (squareAt (now (features .entry)) first) (now (squares .entry)) 0 count ⌝ }
@@ -127,6 +143,7 @@ fn square_rows(features: &[f64], rows: usize, first: usize, count: usize, square
     }
 }
 
+// the norms
 fn root_all(squares: &[f64; 128], norms: &mut [f64; 128])
     requires { ⌜ length (now norms) ≡ 128 ⌝ }
     ensures { λ _. ⌜ now (norms .exit) ≡ filled (rootAt (now (squares .entry))) (now (norms .entry)) 0 128 ⌝ }
@@ -138,6 +155,7 @@ fn root_all(squares: &[f64; 128], norms: &mut [f64; 128])
     }
 }
 
+// Sixteen sums of products at once, in lanes 1 to 16: lane j is that with the row j columns on. Each keeps its own order.
 fn add_products(sums: &mut [f64; 17], x: f64, turned: &[f64; 2048], at: usize)
     requires { ⌜ (length (now sums) ≡ 17) × (at + 16 < 2048) ⌝ }
     ensures { λ _. ⌜ now (sums .exit) ≡ filled (laneProduct (now (sums .entry)) x (now (turned .entry)) at) (now (sums .entry)) 1 17 ⌝ }
@@ -164,6 +182,7 @@ fn row_dots(row: &[f64], turned: &[f64; 2048], c: usize, own: f64) -> [f64; 17]
     sums
 }
 
+// The divisions in a loop of their own, apart from the choices that settle them: the compiler then runs both on several lanes.
 fn divide(sums: &mut [f64; 17], norms: &[f64; 128], c: usize)
     requires { ⌜ (length (now sums) ≡ 17) × (c < 112) ⌝ }
     ensures { λ _. ⌜ now (sums .exit) ≡ filled (laneQuotient (now (sums .entry)) (now (norms .entry)) c) (now (sums .entry)) 0 17 ⌝ }
@@ -176,6 +195,7 @@ fn divide(sums: &mut [f64; 17], norms: &[f64; 128], c: usize)
     }
 }
 
+// the lanes, settled, to slots at to at + 16
 fn put_row(quotients: &[f64; 17], norms: &[f64; 128], c: usize, at: usize, similarity: &mut [f64])
     requires { ⌜ (c < 112) × (at + 17 ≤ length (now similarity)) ⌝ }
     ensures { λ _. ⌜ now (similarity .exit) ≡ filled (settledFrom (now (quotients .entry)) (now (norms .entry)) c at) (now (similarity .entry)) at (at + 17) ⌝ }
@@ -208,6 +228,7 @@ fn put_slots(
     put_row(&sums, norms, c, i * 17, similarity);
 }
 
+// the slots of rows first to past - 1 of a block
 fn put_block(
     features: &[f64],
     rows: usize,
@@ -228,7 +249,7 @@ fn put_block(
     }
 }
 
-// The slots of rows first to past - 1. The rows that they need, sixteen more than that, are turned, and their norms are taken once for the block.
+// The slots of rows first to past - 1, at most 112. These and the sixteen rows after them make a block: turned, with each norm taken once.
 fn fill_block(features: &[f64], rows: usize, first: usize, past: usize, similarity: &mut [f64])
     requires { ⌜ (length (now features) ≡ rows * 16) × (first ≤ past) × (past ≤ rows) × (past ≤ first + 112) × (past * 17 ≤ length (now similarity)) ⌝ }
     ensures { λ _. ⌜ now (similarity .exit) ≡ filled (similarityAt (now (features .entry)) rows) (now (similarity .entry)) (first * 17) (past * 17) ⌝ }
@@ -240,11 +261,26 @@ fn fill_block(features: &[f64], rows: usize, first: usize, past: usize, similari
     square_rows(features, rows, first, count, &mut squares);
     let mut norms = [0.0; 128];
     root_all(&squares, &mut norms);
-    put_block(features, rows, first, past, &turned, &squares, &norms, similarity);
+    put_block(
+        features,
+        rows,
+        first,
+        past,
+        &turned,
+        &squares,
+        &norms,
+        similarity,
+    );
 }
 
-// Inner: writes the slots of rows `from` to `past` - 1 of the similarity, a block of rows at a time.
-pub fn fill_similarity_rows(features: &[f64], rows: usize, from: usize, past: usize, similarity: &mut [f64])
+// Inner: writes the slots of rows `from` to `past` - 1 of the similarity, a block of 112 rows at a time.
+pub fn fill_similarity_rows(
+    features: &[f64],
+    rows: usize,
+    from: usize,
+    past: usize,
+    similarity: &mut [f64],
+)
     requires { ⌜ (length (now features) ≡ rows * 16) × (from ≤ past) × (past ≤ rows) × (past * 17 ≤ length (now similarity)) ⌝ }
     ensures { λ _. ⌜ now (similarity .exit) ≡ filled (similarityAt (now (features .entry)) rows) (now (similarity .entry)) (from * 17) (past * 17) ⌝ }
 {

@@ -17,7 +17,7 @@ abbrev answerWith : (bpm : Float) → (first : Candidate) → List Candidate →
 answerWith bpm first pairs n = record { number = 0; tempo = Found bpm (first .salience); candidates = pairs; count = n }
 
 module _ (rate minLag : ℕ) (cs ws : List Float) (w : ℕ) (first : Candidate) (bpm : Float)
-  (is-w : w ≡ winnerOf ws) (is-first : first ≡ candidateAt minLag cs w) (is-bpm : bpm ≡ bpmAt rate (first .lag)) where
+    (is-w : w ≡ winnerOf ws) (is-first : first ≡ candidateAt minLag cs w) (is-bpm : bpm ≡ bpmAt rate (first .lag)) where
   answer-is : (slots : List ℕ) → candidatesOf minLag ws ≡ slots → answerWith bpm first (pairsOf minLag cs slots) (length slots) ≡ foundOf rate minLag cs ws
   unfolding foundOf
   answer-is slots e =

@@ -1,9 +1,10 @@
 -- The laws that other crates cite.
 pub mod Winners
 pub mod Refusals
+pub mod Searches
+pub mod Promises
 mod Choices
 mod Rankings
 mod Accepts
-mod Searches
 mod Answers
 mod Tells

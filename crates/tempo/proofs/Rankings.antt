@@ -133,7 +133,7 @@ module _ (ws : List Float) where
 
   -- ---- one slot more, by what it is
 
-  module _ (p : ℕ → Bool) (n t : ℕ) (l : t ≤ n) (best : ℕ) (is : best ≡ firstOf p (rankedTo ws t) n) where
+  module _ (p : ℕ → Bool) (n t best : ℕ) (l : t < n) (is : best ≡ firstOf p (rankedTo ws t) n) where
     step-kept : maximumAt ws t ≡ false → firstOf p (rankedTo ws (t + 1)) n ≡ best
     unfolding rankedTo
     step-kept e = rw add-one (ap (λ (ks : List ℕ). firstOf p ks n) (pick-false _ _ _ e) ∙ sym is)
@@ -143,7 +143,7 @@ module _ (ws : List Float) where
     step e =
         rw add-one
         (ap (λ (ks : List ℕ). firstOf p ks n) (pick-true _ _ _ e)
-        ∙ first-inserted t (maximum-above t e) p n l (ranked-falling t)
+        ∙ first-inserted t (maximum-above t e) p n (omega arith) (ranked-falling t)
         ∙ ap (λ (b : ℕ). pick (p t) (pick (eqb b n) t (pick (lt (at b) (at t)) t b)) b) (sym is))
 
     -- no maximum

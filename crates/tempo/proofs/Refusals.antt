@@ -35,7 +35,7 @@ ranged rate o r e fine =
       greatest = g;
       from-one = omega (arith, a .from-one);
       ordered = omega (arith, a .ordered);
-      most = omega (arith, a .most-max)
+      most = omega (arith, a .most-max);
     }
 
 -- nothing is refused
@@ -140,15 +140,14 @@ module _ (env : List Float) (rate : ℕ) (o : TempoOpts) (clarity weight work : 
         clarities = leb-true _ _ (and-left (leb room clarity) _ r);
         weights = leb-true _ _ (and-left (leb room weight) (leb room work) s);
         works = leb-true _ _ (and-right (leb room weight) (leb room work) s);
-        values = p .values
+        values = p .values;
       }
 
   -- what a search asks for
   pub search-asks : (r : LagRange) → Accepted env rate o clarity weight work → Ranged rate o r
       → ((1 ≤ r .«min_lag») × (r .«min_lag» ≤ r .«max_lag») × (r .«max_lag» ≤ mostPeriod))
       × ((lagRoom (r .«min_lag») (r .«max_lag») ≤ clarity) × (lagRoom (r .«min_lag») (r .«max_lag») ≤ weight))
-  search-asks r a g =
-      (
-        (g .from-one, omega (arith, g .ordered), g .most),
-        (omega (arith, a .clarities, g .least, g .greatest), omega (arith, a .weights, g .least, g .greatest)),
-      )
+  search-asks r a g = (
+    (g .from-one, omega (arith, g .ordered), g .most),
+    (omega (arith, a .clarities, g .least, g .greatest), omega (arith, a .weights, g .least, g .greatest)),
+  )

@@ -37,12 +37,12 @@ module _ (env : List Float) (rate minLag maxLag : ℕ) (mean ac0 : Float) (m : m
       record {
         winner = sym (pick-true (flat env) _ _ f);
         clarities = sym (pick-true (flat env) _ _ f);
-        weights = sym (pick-true (flat env) _ _ f)
+        weights = sym (pick-true (flat env) _ _ f);
       }
 
   module _ (clarity weight clarity′ weight′ : List Float) (lag : ℕ) (e : le ac0 leastEnergy ≡ false)
-    (c : clarity′ ≡ filled (clarityFrom env mean ac0 minLag) clarity 0 (lagRoom minLag maxLag))
-    (w : weight′ ≡ filled (weightFrom env mean ac0 rate minLag) weight 0 (lagRoom minLag maxLag)) where
+      (c : clarity′ ≡ filled (clarityFrom env mean ac0 minLag) clarity 0 (lagRoom minLag maxLag))
+      (w : weight′ ≡ filled (weightFrom env mean ac0 rate minLag) weight 0 (lagRoom minLag maxLag)) where
     clarity-is : clarity′ ≡ filled (clarityRule env minLag) clarity 0 (lagRoom minLag maxLag)
     clarity-is = c ∙ ap (λ (x : Float). filled (clarityFrom env x ac0 minLag) clarity 0 (lagRoom minLag maxLag)) m ∙ ap (λ (x : Float). filled (clarityFrom env (meanOf env) x minLag) clarity 0 (lagRoom minLag maxLag)) ac0-is
 
@@ -60,5 +60,5 @@ module _ (env : List Float) (rate minLag maxLag : ℕ) (mean ac0 : Float) (m : m
               ∙ ap (winnerLag minLag) (curve-part (weightRule env rate minLag) weight weight′ (lagRoom minLag maxLag) weight-is)
               ∙ sym (pick-false (flat env) _ _ f);
           clarities = clarity-is ∙ sym (pick-false (flat env) _ _ f);
-          weights = weight-is ∙ sym (pick-false (flat env) _ _ f)
+          weights = weight-is ∙ sym (pick-false (flat env) _ _ f);
         }

@@ -55,13 +55,13 @@ module _ (env : List Float) (onsets rate minLag maxLag : ℕ) where
       record {
         answered = is ∙ sym (pick-true (unwritten env onsets maxLag) _ _ u);
         clarities = sym (pick-true (unwritten env onsets maxLag) _ _ u);
-        weights = sym (pick-true (unwritten env onsets maxLag) _ _ u)
+        weights = sym (pick-true (unwritten env onsets maxLag) _ _ u);
       }
 
   -- ---- one that is
 
   module _ (clarity weight : List Float) (lag : ℕ) (clarity′ weight′ : List Float)
-    (searched : Searched env rate minLag maxLag clarity weight lag clarity′ weight′) (long : tooLittle (length env) onsets maxLag ≡ false) where
+      (searched : Searched env rate minLag maxLag clarity weight lag clarity′ weight′) (long : tooLittle (length env) onsets maxLag ≡ false) where
     written-is : unwritten env onsets maxLag ≡ flat env
     unfolding unwritten
     written-is = ap (λ (b : Bool). b || flat env) long
@@ -149,8 +149,7 @@ module _ (env : List Float) (onsets rate minLag maxLag : ℕ) where
             × ((1 ≤ minLag) × (minLag + length weightPart ≤ mostPeriod + 1))
         found-asks one h l =
             let is : lag - minLag ≡ winnerOf weights = omega (arith, lag-is) in
-            let slot : winnerOf weights < length weights = winner-below weights (omega (arith, length-tab (weightRule env rate minLag) 0 room)) in
-            (
+            let slot : winnerOf weights < length weights = winner-below weights (omega (arith, length-tab (weightRule env rate minLag) 0 room)) in (
               (is ∙ ap winnerOf (sym weight-part), omega (arith, ap length weight-part), clarity-length ∙ sym weight-length),
               (one, omega (arith, weight-length)),
             )
@@ -160,7 +159,7 @@ module _ (env : List Float) (onsets rate minLag maxLag : ℕ) where
             record {
               answered = is ∙ ap (λ (x : List Float). foundOf rate minLag x weightPart) clarity-part ∙ ap (foundOf rate minLag (clarityCurve env minLag maxLag)) weight-part ∙ sym found-is;
               clarities = clarities-are;
-              weights = weights-are
+              weights = weights-are;
             }
 
 -- ---- every call
@@ -178,7 +177,7 @@ module _ (env : List Float) (onsets rate : ℕ) (o : TempoOpts) (clarity weight 
         answered = is ∙ ap withoutTempo e ∙ sym (refused-keeps number _ _ no);
         clarities = sym (refused-keeps number _ _ no);
         weights = sym (refused-keeps number _ _ no);
-        unsorted = refl
+        unsorted = refl;
       }
 
   pub estimated-told : (n : ℕ) (range : LagRange) (r : TempoEstimate) (clarity′ weight′ : List Float) → n ≡ number → n ≡ 0 → Ranged rate o range
@@ -192,5 +191,5 @@ module _ (env : List Float) (onsets rate : ℕ) (o : TempoOpts) (clarity weight 
         answered = t .answered ∙ sym (passed-does number _ _ none);
         clarities = t .clarities ∙ sym (passed-does number _ _ none);
         weights = t .weights ∙ sym (passed-does number _ _ none);
-        unsorted = refl
+        unsorted = refl;
       }

@@ -67,7 +67,7 @@ foundOf rate minLag clarity weight =
       number = 0;
       tempo = Found (bpmAt rate (minLag + winner)) (getD clarity winner nan);
       candidates = pairsOf minLag clarity slots;
-      count = length slots
+      count = length slots;
     }
 
 -- "No tempo if n < 3, the onset count is below 2, n ≤ max_lag + 1": the envelope isn't searched
@@ -96,8 +96,8 @@ curveOf rule was unwritten room = pick unwritten was (filled rule was 0 room)
 
 -- What an accepted call answers and leaves in the lag curves' room.
 pub record Told
-  (env : List Float) (onsets rate minLag maxLag : ℕ) (clarity weight : List Float)
-  (answer : TempoEstimate) (clarity′ weight′ : List Float) : Type 0 where
+    (env : List Float) (onsets rate minLag maxLag : ℕ) (clarity weight : List Float)
+    (answer : TempoEstimate) (clarity′ weight′ : List Float) : Type 0 where
   pub answered : answer ≡ tempoOf env onsets rate minLag maxLag
   pub clarities : clarity′ ≡ curveOf (clarityRule env minLag) clarity (unwritten env onsets maxLag) (lagRoom minLag maxLag)
   pub weights : weight′ ≡ curveOf (weightRule env rate minLag) weight (unwritten env onsets maxLag) (lagRoom minLag maxLag)
@@ -112,8 +112,8 @@ estimateOf env onsets rate o clarity weight work =
 -- The promise of `estimate`: its answer, both lag curves and the work slice afterwards, for every input. The winner and the candidates are
 -- found without a sort, so the work slice is as it was.
 pub record Estimated
-  (env : List Float) (onsets rate : ℕ) (o : TempoOpts) (clarity weight work : List Float)
-  (answer : TempoEstimate) (clarity′ weight′ work′ : List Float) : Type 0 where
+    (env : List Float) (onsets rate : ℕ) (o : TempoOpts) (clarity weight work : List Float)
+    (answer : TempoEstimate) (clarity′ weight′ work′ : List Float) : Type 0 where
   pub answered : answer ≡ estimateOf env onsets rate o (length clarity) (length weight) (length work)
   pub clarities :
       clarity′ ≡

@@ -1,18 +1,10 @@
 // Tempo: how fast the pulse of an envelope is, and which other tempos it may be heard at.
 //
 // Document 01, Tempo and candidates. The Rust: tempo.rs `pick_tempo_peaks`.
-use lags::TempoOpts;
-use lags::bounds_fine;
-use lags::bpm_at;
-use lags::lag_range;
-use lags::room_of;
-use numbers::MOST_ROWS;
-use numbers::OUT_OF_BOUNDS;
-use numbers::TOO_LITTLE_ROOM;
-use numbers::WRONG_VALUE;
-use numbers::values_fine;
 use crate::peaks::first_apart;
 use crate::search::winning_lag;
+use lags::{TempoOpts, bounds_fine, bpm_at, lag_range, room_of};
+use numbers::{MOST_ROWS, OUT_OF_BOUNDS, TOO_LITTLE_ROOM, WRONG_VALUE, values_fine};
 ghost use mathlib.Core.Path.{_≡_};
 ghost use mathlib.Core.Bool.{true};
 ghost use Prim.Native.Nat.{ℕ, _+_, _≤_, _<_};
@@ -21,7 +13,14 @@ ghost use Rattle.numbers.specs.Limits.{mostPeriod};
 ghost use Rattle.lags.specs.Lags.{lagRoom, boundsFine};
 ghost use Rattle.tempo.specs.Candidates.{winnerOf};
 ghost use Rattle.tempo.specs.Answers.{
-  searchRoom, searchRefusal, tooLittle, withoutTempo, candidateAt, foundOf, Told, Estimated
+  searchRoom,
+  searchRefusal,
+  tooLittle,
+  withoutTempo,
+  candidateAt,
+  foundOf,
+  Told,
+  Estimated,
 };
 
 pub mod peaks;
@@ -58,7 +57,14 @@ fn has_room(rate: u32, opts: TempoOpts, clarity: usize, weight: usize, work: usi
 }
 
 // Inner: the number of a call that searches an envelope, lent so many slots for the lag curves and for sorting.
-pub fn search_refusal(envelope: &[f64], rate: u32, opts: TempoOpts, clarity: usize, weight: usize, work: usize) -> u32
+pub fn search_refusal(
+    envelope: &[f64],
+    rate: u32,
+    opts: TempoOpts,
+    clarity: usize,
+    weight: usize,
+    work: usize,
+) -> u32
     ensures { λ r. ⌜ r ≡ searchRefusal (now (envelope .entry)) rate opts clarity weight work ⌝ }
 {
     if envelope.len() > MOST_ROWS {
@@ -80,8 +86,16 @@ pub fn search_refusal(envelope: &[f64], rate: u32, opts: TempoOpts, clarity: usi
 fn without_tempo(number: u32) -> TempoEstimate
     ensures { λ r. ⌜ r ≡ withoutTempo number ⌝ }
 {
-    let unused = Candidate { lag: 0, salience: 0.0 };
-    TempoEstimate { number, tempo: Tempo::None, candidates: [unused; 3], count: 0 }
+    let unused = Candidate {
+        lag: 0,
+        salience: 0.0,
+    };
+    TempoEstimate {
+        number,
+        tempo: Tempo::None,
+        candidates: [unused; 3],
+        count: 0,
+    }
 }
 
 // the slot's lag and clarity
@@ -89,7 +103,10 @@ fn candidate_at(clarity: &[f64], min_lag: usize, i: usize) -> Candidate
     requires { ⌜ (i < length (now clarity)) × («min_lag» + i ≤ mostPeriod) ⌝ }
     ensures { λ r. ⌜ r ≡ candidateAt «min_lag» (now (clarity .entry)) i ⌝ }
 {
-    Candidate { lag: min_lag + i, salience: clarity[i] }
+    Candidate {
+        lag: min_lag + i,
+        salience: clarity[i],
+    }
 }
 
 // The tempo of the winning slot, and the candidates: after the winner the greatest maximum that stands apart from it, and then the
@@ -99,20 +116,41 @@ fn found(clarity: &[f64], weight: &[f64], rate: u32, min_lag: usize, winner: usi
     requires { ⌜ (1 ≤ «min_lag») × («min_lag» + length (now weight) ≤ mostPeriod + 1) ⌝ }
     ensures { λ r. ⌜ r ≡ foundOf rate «min_lag» (now (clarity .entry)) (now (weight .entry)) ⌝ }
 {
-    let none = Candidate { lag: 0, salience: 0.0 };
+    let none = Candidate {
+        lag: 0,
+        salience: 0.0,
+    };
     let first = candidate_at(clarity, min_lag, winner);
-    let tempo = Tempo::Found { bpm: bpm_at(rate, first.lag), clarity: first.salience };
+    let tempo = Tempo::Found {
+        bpm: bpm_at(rate, first.lag),
+        clarity: first.salience,
+    };
     let b = first_apart(weight, min_lag, winner, winner);
     if b == weight.len() {
-        return TempoEstimate { number: 0, tempo, candidates: [first, none, none], count: 1 };
+        return TempoEstimate {
+            number: 0,
+            tempo,
+            candidates: [first, none, none],
+            count: 1,
+        };
     }
     let second = candidate_at(clarity, min_lag, b);
     let c = first_apart(weight, min_lag, winner, b);
     if c == weight.len() {
-        return TempoEstimate { number: 0, tempo, candidates: [first, second, none], count: 2 };
+        return TempoEstimate {
+            number: 0,
+            tempo,
+            candidates: [first, second, none],
+            count: 2,
+        };
     }
     let third = candidate_at(clarity, min_lag, c);
-    TempoEstimate { number: 0, tempo, candidates: [first, second, third], count: 3 }
+    TempoEstimate {
+        number: 0,
+        tempo,
+        candidates: [first, second, third],
+        count: 3,
+    }
 }
 
 // whether the envelope isn't searched: too few slots or onsets
@@ -145,7 +183,13 @@ fn tempo_in(
         return without_tempo(0);
     }
     let room = room_of(min_lag, max_lag);
-    found(&clarity[0..room], &weight[0..room], rate, min_lag, lag - min_lag)
+    found(
+        &clarity[0..room],
+        &weight[0..room],
+        rate,
+        min_lag,
+        lag - min_lag,
+    )
 }
 
 // The tempo of an envelope with this many onsets, and at most three candidates, the winner first. Lend clarity, weight and work L slots
@@ -162,10 +206,25 @@ pub fn estimate(
 ) -> TempoEstimate
     ensures { λ r. ⌜ Estimated (now (envelope .entry)) onsets rate opts (now (clarity .entry)) (now (weight .entry)) (now (work .entry)) r (now (clarity .exit)) (now (weight .exit)) (now (work .exit)) ⌝ }
 {
-    let number = search_refusal(envelope, rate, opts, clarity.len(), weight.len(), work.len());
+    let number = search_refusal(
+        envelope,
+        rate,
+        opts,
+        clarity.len(),
+        weight.len(),
+        work.len(),
+    );
     if number != 0 {
         return without_tempo(number);
     }
     let range = lag_range(rate, opts);
-    tempo_in(envelope, onsets, rate, range.min_lag, range.max_lag, clarity, weight)
+    tempo_in(
+        envelope,
+        onsets,
+        rate,
+        range.min_lag,
+        range.max_lag,
+        clarity,
+        weight,
+    )
 }

@@ -9,7 +9,14 @@ ghost use Prim.Native.Nat.{ℕ, _+_, _≤_, _<_};
 ghost use lib.ListN.{length};
 ghost use Rattle.numbers.specs.Limits.{mostPeriod};
 ghost use Rattle.tempo.specs.Candidates.{
-  winnerOf, leftFine, rightFine, maximumAt, rankedTo, ranked, standsApart, firstOf
+  winnerOf,
+  leftFine,
+  rightFine,
+  maximumAt,
+  rankedTo,
+  ranked,
+  standsApart,
+  firstOf,
 };
 
 // Inner: the slot of the first greatest weight.
@@ -80,7 +87,7 @@ fn next_best(weight: &[f64], min_lag: usize, a: usize, b: usize, i: usize, best:
     if best == weight.len() {
         return i;
     }
-    if weight[i] > weight[best] {
+    if weight[best] < weight[i] {
         return i;
     }
     best

@@ -2,9 +2,7 @@
 //
 // Document 01, Tempo and candidates. The Rust: tempo.rs `pick_tempo_peaks`, as far as the winner.
 use crate::peaks::winner_of;
-use lags::curves::energy_of;
-use lags::curves::fill_lag_curves;
-use lags::curves::mean_of;
+use lags::curves::{energy_of, fill_lag_curves, mean_of};
 use lags::room_of;
 ghost use mathlib.Core.Path.{_≡_};
 ghost use Prim.Native.Nat.{ℕ, _+_, _≤_, _<_};
@@ -13,8 +11,11 @@ ghost use Rattle.numbers.specs.Limits.{mostPeriod};
 ghost use Rattle.lags.specs.Lags.{lagRoom};
 ghost use Rattle.tempo.specs.Search.{winnerLag, Searched};
 
-// the lag of the first greatest weight, or 0 where it isn't above 0
-fn lag_of_winner(weight: &[f64], min_lag: usize) -> usize
+// 2^-52: an envelope whose sum of squares about the mean is no more is flat
+pub const LEAST_ENERGY: f64 = 0.0000000000000002220446049250313080847263336181640625;
+
+// Inner: the lag of the first greatest weight, or 0 where it isn't above 0.
+pub fn lag_of_winner(weight: &[f64], min_lag: usize) -> usize
     requires { ⌜ (0 < length (now weight)) × («min_lag» + length (now weight) ≤ mostPeriod + 1) ⌝ }
     ensures { λ r. ⌜ r ≡ winnerLag «min_lag» (now (weight .entry)) ⌝ }
 {
@@ -40,8 +41,7 @@ pub fn winning_lag(
 {
     let mean = mean_of(envelope);
     let ac0 = energy_of(envelope, mean);
-    // 2^-52
-    if ac0 <= 0.0000000000000002220446049250313080847263336181640625 {
+    if ac0 <= LEAST_ENERGY {
         return 0;
     }
     fill_lag_curves(envelope, mean, ac0, rate, min_lag, max_lag, clarity, weight);

@@ -18,8 +18,9 @@ use Rattle.numbers.proofs.Tests.{Passed, lowest-zero, and-left, and-right, refu
 use Rattle.numbers.proofs.Tabs.{listed-none}
 use Rattle.roots.specs.Roots.{sqrtOf}
 use Rattle.beats.specs.Envelopes.{flatness, one, varianceOf, beatless, scaleOf, scaledBy, scaled}
-use Rattle.beats.specs.Scores.{scores, links, Tracked}
-use Rattle.beats.specs.Grids.{numbersFine, roomFine, gridRefusal, grid, scoresOf, linksOf, gridOf, Gridded, Laid}
+use Rattle.beats.specs.Scores.{scores, links}
+use Rattle.beats.specs.Grids.{numbersFine, roomFine, gridRefusal, grid, scoresOf, linksOf, gridOf, Gridded}
+use Rattle.beats.specs.Inner.{Tracked, Laid}
 use borrow.Author.Needs.{needs}
 use Rattle.beats.proofs.beat_grid.Statement.{statement}
 use Rattle.beats.proofs.beat_grid.Tie as tie

@@ -1,6 +1,5 @@
 -- `lags::bounds_fine` meets its contract: `&&` answers its right side where its left holds, and else its left. Assumes nothing.
-use mathlib.Core.Path.{_≡_, sym, ap, _∙_}
-use mathlib.Core.Bool.{Bool, _&&_}
+use mathlib.Core.Path.{sym, _∙_}
 use borrow.Author.Needs.{needs}
 use Rattle.numbers.proofs.Tests.{and-held, and-failed}
 use Rattle.lags.specs.Lags.{boundsFine}

@@ -1,5 +1,5 @@
 -- `lags::bpm_at` meets its contract: each step is the definition's. Assumes nothing.
-use mathlib.Core.Path.{_≡_, ap, _∙_}
+use mathlib.Core.Path.{ap, _∙_}
 use borrow.Author.Needs.{needs}
 use Rattle.lags.specs.Lags.{minuteOver, bpmAt}
 use Rattle.lags.proofs.bpm_at.Statement.{statement}

@@ -1,10 +1,7 @@
 -- `lags::high_bpm` meets its contract: the swap by the same test, and then the larger of it and 1 above the lower bound. Assumes nothing.
-use mathlib.Core.Path.{_≡_, sym, ap, _∙_}
+use mathlib.Core.Path.{_∙_}
 use borrow.Author.Needs.{needs}
-use lib.Ieee.{Float}
-use Rattle.numbers.specs.Rounded.{_⊕_}
-use Rattle.numbers.proofs.Tests.{pick-true, pick-false}
-use Rattle.lags.specs.Lags.{one, noLess, upperBound, lowBpm, highBpm}
+use Rattle.lags.specs.Lags.{highBpm}
 use Rattle.lags.proofs.high_bpm.Statement.{statement}
 use Rattle.lags.proofs.high_bpm.Tie as tie
 

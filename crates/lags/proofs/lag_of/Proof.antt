@@ -1,13 +1,9 @@
 -- `lags::lag_of` meets its contract: each step is the definition's. Assumes nothing.
-use mathlib.Core.Path.{_≡_, ap, _∙_}
+use mathlib.Core.Path.{ap, _∙_}
 use Rattle.floats.specs.Wholes.{roundOf}
 use borrow.Author.Needs.{needs}
 use Rattle.lags.proofs.lag_of.Statement.{statement}
 use Rattle.lags.proofs.lag_of.Tie as tie
-use Rattle.lags.proofs.lag_of.Reads as reads
-use Rattle.lags.proofs.lag_of.Lts as lts
-use Rattle.floats.proofs.wholes.round_of.Reads as round-of-reads
-use Rattle.lags.proofs.minute_over.Reads as minute-over-reads
 
 minute-over-requires : tie.Need-minute-over-requires
 minute-over-requires c κs = search needs

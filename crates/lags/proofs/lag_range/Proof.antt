@@ -1,12 +1,12 @@
 -- `lags::lag_range` meets its contract. The two lags are the definition's step by step (`min-is`, `max-is`); that min_lag + 1 does not
 -- wrap is `min-lag-most`, which holds for every pair of bounds. Assumes nothing.
-use mathlib.Core.Path.{_≡_, refl, sym, ap, _∙_}
+use mathlib.Core.Path.{_≡_, sym, ap, _∙_}
 use mathlib.Core.Bool.{true}
-use Prim.Native.Nat.{ℕ, _+_, _≤_, max}
+use Prim.Native.Nat.{ℕ, _+_, max}
 use native.Mathlib.Omega.{arith}
 use borrow.Author.Tests.{not-true, not-false}
 use lib.Ieee.{Float}
-use Rattle.numbers.proofs.Tests.{pick-true, pick-false}
+use Rattle.numbers.proofs.Tests.{pick-false}
 use Rattle.floats.specs.Wholes.{roundOf}
 use Rattle.lags.specs.declared.TempoOpts.{TempoOpts}
 use Rattle.lags.specs.Lags.{lowBpm, highBpm, minuteOver, minLag, maxLag, boundsFine, lagRange}
@@ -14,13 +14,6 @@ use Rattle.lags.proofs.Ranges.{min-lag-most, fine-rate}
 use borrow.Author.Needs.{needs}
 use Rattle.lags.proofs.lag_range.Statement.{statement}
 use Rattle.lags.proofs.lag_range.Tie as tie
-use Rattle.lags.proofs.lag_range.Reads as reads
-use Rattle.lags.proofs.lag_range.Lts as lts
-use Rattle.lags.proofs.bounds_fine.Reads as bounds-fine-reads
-use Rattle.lags.proofs.high_bpm.Reads as high-bpm-reads
-use Rattle.lags.proofs.lag_of.Reads as lag-of-reads
-use Rattle.lags.proofs.low_bpm.Reads as low-bpm-reads
-use Rattle.numbers.proofs.greatest.Reads as greatest-reads
 
 module _ (rate : ℕ) (o : TempoOpts) where
   min-is : (bpm : Float) (lag r : ℕ) → bpm ≡ highBpm o → lag ≡ roundOf (minuteOver rate bpm) → r ≡ max 1 lag → r ≡ minLag rate o

@@ -1,8 +1,8 @@
 -- `lags::low_bpm` meets its contract: the swap by the same test, and then the larger of it and 1. Assumes nothing.
-use mathlib.Core.Path.{_≡_, sym, ap, _∙_}
+use mathlib.Core.Path.{sym, ap, _∙_}
 use borrow.Author.Needs.{needs}
 use Rattle.numbers.proofs.Tests.{pick-true, pick-false}
-use Rattle.lags.specs.Lags.{one, noLess, lowerBound, lowBpm}
+use Rattle.lags.specs.Lags.{one, noLess, lowBpm}
 use Rattle.lags.proofs.low_bpm.Statement.{statement}
 use Rattle.lags.proofs.low_bpm.Tie as tie
 

@@ -14,10 +14,10 @@ use Rattle.onsets.proofs.frames_fine.Statement.{statement}
 use Rattle.onsets.proofs.frames_fine.Tie as tie
 
 abbrev Inv-loop : tie.InvT-loop
-Inv-loop frames i₀ i = (i ≤ length frames) × (every frameFine frames ≡ every frameFine (drop i frames))
+Inv-loop list i₀ i = (i ≤ length list) × (every frameFine list ≡ every frameFine (drop i list))
 
 abbrev μ-loop : tie.MeasureT-loop
-μ-loop frames i₀ i = length frames - i
+μ-loop list i₀ i = length list - i
 
 loop-holds : tie.Need-loop-holds Inv-loop μ-loop
 loop-holds c = (omega arith, refl)
@@ -31,7 +31,7 @@ shared-slice-read-if1 c = search needs
 returns : tie.Need-returns Inv-loop μ-loop
 returns c =
     let l = c .before .before .before in
-    sym (l .loop .inv .1 ∙ every-step frameFine (now (l .before .args .frames)) (l .loop .i) 0 (omega arith) ∙ simp (lt-leb _ _ (c .if1 .taken)))
+    sym (l .loop .inv .1 ∙ every-step frameFine (now (l .before .args .list)) (l .loop .i) 0 (omega arith) ∙ simp (lt-leb _ _ (c .if1 .taken)))
 
 add-i : tie.Need-add-i Inv-loop μ-loop
 add-i c = search needs
@@ -43,7 +43,7 @@ loop-again : tie.Need-loop-again Inv-loop μ-loop
 loop-again c =
     let l = c .before .before .before in (
       omega arith,
-      l .loop .inv .1 ∙ every-step frameFine (now (l .before .args .frames)) (l .loop .i) 0 (omega arith) ∙ simp (le-leb _ _ (c .if1 .left)),
+      l .loop .inv .1 ∙ every-step frameFine (now (l .before .args .list)) (l .loop .i) 0 (omega arith) ∙ simp (le-leb _ _ (c .if1 .left)),
     )
 
 returns-2 : tie.Need-returns-2 Inv-loop μ-loop

@@ -7,7 +7,8 @@ use native.Mathlib.Omega.{arith}
 use denote.Ref.{now}
 use lib.ListN.{length, getD, length-append}
 use Rattle.beats.specs.Scores.{noLink}
-use Rattle.beats.specs.Grids.{linkAt, beatsTo, Descends}
+use Rattle.beats.specs.Grids.{linkAt, beatsTo}
+use Rattle.beats.specs.Inner.{Descends}
 use Rattle.beats.proofs.Walks.{link-read, beats-after, beats-alone, beats-few}
 use borrow.Author.Needs.{needs}
 use Rattle.beats.proofs.grids.count_beats.Statement.{statement}

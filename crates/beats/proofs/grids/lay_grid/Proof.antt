@@ -11,8 +11,9 @@ use Rattle.numbers.specs.Lists.{listed}
 use Rattle.numbers.proofs.Tabs.{getD-listed-in, length-listed}
 use Rattle.beats.specs.declared.Best.{Best}
 use Rattle.beats.specs.Envelopes.{scaledBy}
-use Rattle.beats.specs.Scores.{noLink, greatest, scores, links, Tracked}
-use Rattle.beats.specs.Grids.{valueAt, linkAt, firstGreatest, beatsTo, Descends, grid}
+use Rattle.beats.specs.Scores.{noLink, greatest, scores, links}
+use Rattle.beats.specs.Grids.{valueAt, linkAt, firstGreatest, beatsTo, grid}
+use Rattle.beats.specs.Inner.{Tracked, Descends}
 use Rattle.beats.proofs.Greatest.{best, greatest-ext}
 use Rattle.beats.proofs.Extensions.{length-scores, length-links, links-descend}
 use Rattle.beats.proofs.Walks.{beats-same, beats-few}

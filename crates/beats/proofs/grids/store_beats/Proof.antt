@@ -10,7 +10,8 @@ use lib.ListN.{length, getD, set, drop, length-append, length-set}
 use lib.Seq.{append-snoc, drop-set-lt, set-split}
 use Rattle.numbers.specs.Lists.{listed}
 use Rattle.beats.specs.Scores.{noLink}
-use Rattle.beats.specs.Grids.{linkAt, beatsTo, Descends}
+use Rattle.beats.specs.Grids.{linkAt, beatsTo}
+use Rattle.beats.specs.Inner.{Descends}
 use Rattle.beats.proofs.Walks.{link-read, ends, beats-after, beats-alone, beats-some, beats-few}
 use borrow.Author.Needs.{needs}
 use Rattle.beats.proofs.grids.store_beats.Statement.{statement}

@@ -7,7 +7,7 @@ use lib.ListN.{length, getD, drop, List·getD-append}
 use lib.Ieee.{Float, nan}
 use Rattle.numbers.specs.Lists.{curve, filled}
 use Rattle.numbers.proofs.Tabs.{length-tab, getD-curve, filled-whole}
-use Rattle.beats.specs.Scores.{slotPenalty}
+use Rattle.beats.specs.Inner.{slotPenalty}
 use borrow.Author.Needs.{needs}
 use Rattle.beats.proofs.scores.track.Statement.{statement}
 use Rattle.beats.proofs.scores.track.Tie as tie

@@ -1,12 +1,9 @@
 -- `lags::curves::clarity_of` meets its contract: each step is the definition's. Assumes nothing.
-use mathlib.Core.Path.{_≡_, _∙_}
+use mathlib.Core.Path.{_∙_}
 use Rattle.lags.specs.Curves.{clarityOf}
 use borrow.Author.Needs.{needs}
 use Rattle.lags.proofs.curves.clarity_of.Statement.{statement}
 use Rattle.lags.proofs.curves.clarity_of.Tie as tie
-use Rattle.lags.proofs.curves.clarity_of.Reads as reads
-use Rattle.lags.proofs.curves.clarity_of.Lts as lts
-use Rattle.lags.proofs.curves.unit_of.Reads as unit-of-reads
 
 float-of-requires : tie.Need-float-of-requires
 float-of-requires c κs = search needs

@@ -1,23 +1,18 @@
 -- `lags::curves::fill_clarity` meets its contract. The invariant: the slots below i are written by the rule. The measure is the slots
 -- that are left; each call's slots join those before them. Assumes nothing.
-use mathlib.Core.List.{List}
-use mathlib.Core.Path.{_≡_, refl, sym, ap, _∙_}
-use Prim.Native.Nat.{ℕ, _+_, _≤_, _<_, _-_}
+use mathlib.Core.Path.{_≡_, refl, sym}
+use Prim.Native.Nat.{_+_, _≤_, _-_, zero-le}
 use native.Mathlib.Omega.{arith}
 use denote.Ref.{now}
 use lib.ListN.{length}
-use lib.Ieee.{Float, nan}
 use Rattle.numbers.specs.Lists.{filled}
-use Rattle.numbers.proofs.Tabs.{filled-none, filled-join, length-filled}
+use Rattle.numbers.proofs.Tabs.{filled-none}
 use Rattle.lags.specs.Lags.{lagRoom}
 use Rattle.lags.specs.Curves.{clarityFrom}
+use Rattle.lags.proofs.Joins.{joined, joined-length}
 use borrow.Author.Needs.{needs}
 use Rattle.lags.proofs.curves.fill_clarity.Statement.{statement}
 use Rattle.lags.proofs.curves.fill_clarity.Tie as tie
-use Rattle.lags.proofs.curves.fill_clarity.Reads as reads
-use Rattle.lags.proofs.curves.fill_clarity.Lts as lts
-use Rattle.lags.proofs.curves.fill_eight.Reads as fill-eight-reads
-use Rattle.lags.proofs.curves.fill_singly.Reads as fill-singly-reads
 
 abbrev Inv-loop : tie.InvT-loop
 Inv-loop envelope mean ac0 min-lag max-lag clarity₀ count i₀ clarity i =
@@ -38,8 +33,8 @@ loop-holds c = (search needs, refl, sym (filled-none _ _ _))
 sub-loop : tie.Need-sub-loop Inv-loop μ-loop
 sub-loop c = search needs
 
-fill-eight-requires : tie.Need-fill-eight-requires Inv-loop μ-loop
-fill-eight-requires c κs = search needs
+fill-thirty-two-requires : tie.Need-fill-thirty-two-requires Inv-loop μ-loop
+fill-thirty-two-requires c κs = search needs
 
 add-i : tie.Need-add-i Inv-loop μ-loop
 add-i c = search needs
@@ -53,15 +48,15 @@ loop-again c =
     let l = f .before .before .before in
     let a = l .before .before .before .args in
     let v = l .loop .inv in
-    let rule = clarityFrom (now (a .envelope)) (a .mean) (a .ac0) (a .min-lag) in
-    let e =
-    f .fill-eight .ensures
-    ∙ ap (λ (d : List Float). filled rule d (l .loop .i) (l .loop .i + 8)) (v .2)
-    ∙ filled-join rule (now (a .clarity)) 0 (l .loop .i) (l .loop .i + 8) (omega arith) (omega arith) nan (omega arith) in
-    (omega arith, ap length e ∙ length-filled rule (now (a .clarity)) 0 (l .loop .i + 8) (omega arith) (omega arith), e)
+    let i = l .loop .i in
+    let rule = clarityFrom (now (a .envelope)) (a .mean) (a .ac0) (a .min-lag) in (
+      omega arith,
+      joined-length rule (now (a .clarity)) _ _ 0 i (i + 32) (i + 32) zero-le (omega arith) refl (omega arith) (v .2) (f .fill-thirty-two .ensures),
+      joined rule (now (a .clarity)) _ _ 0 i (i + 32) (i + 32) zero-le (omega arith) refl (omega arith) (v .2) (f .fill-thirty-two .ensures),
+    )
 
-fill-singly-requires : tie.Need-fill-singly-requires Inv-loop μ-loop
-fill-singly-requires c κs = search needs
+fill-eights-requires : tie.Need-fill-eights-requires Inv-loop μ-loop
+fill-eights-requires c κs = search needs
 
 same-length : tie.Need-same-length Inv-loop μ-loop
 same-length c = search needs
@@ -72,9 +67,8 @@ returns c =
     let l = f .before .before .before in
     let a = l .before .before .before .args in
     let v = l .loop .inv in
-    let rule = clarityFrom (now (a .envelope)) (a .mean) (a .ac0) (a .min-lag) in
-    f .fill-singly .ensures
-    ∙ rw (v .2) (filled-join rule (now (a .clarity)) 0 (l .loop .i) (lagRoom (a .min-lag) (a .max-lag)) (omega arith) (omega arith) nan (omega arith))
+    let room = lagRoom (a .min-lag) (a .max-lag) in
+    joined (clarityFrom (now (a .envelope)) (a .mean) (a .ac0) (a .min-lag)) (now (a .clarity)) _ _ 0 (l .loop .i) room room zero-le (v .0) refl (omega arith) (v .2) (f .fill-eights .ensures)
 
 pub fill-clarity-spec : {M : Type 1} → statement M
 fill-clarity-spec =
@@ -86,10 +80,10 @@ fill-clarity-spec =
     add-count
     loop-holds
     sub-loop
-    fill-eight-requires
+    fill-thirty-two-requires
     add-i
     loop-less
     loop-again
-    fill-singly-requires
+    fill-eights-requires
     same-length
     returns)

@@ -1,31 +1,26 @@
 -- `lags::curves::fill_eight` meets its contract. The invariant: the slots below from + j are written by the rule. The measure is the
--- slots that are left; `eight-at` reads one of the eight sums, which `lag_rest` takes to its end. Assumes nothing.
+-- slots that are left; `eight-at` takes one of the eight sums out, which `lag_rest` takes to its end. Assumes nothing.
 use mathlib.Core.Path.{_≡_, refl, sym, ap, _∙_}
-use Prim.Native.Nat.{ℕ, _+_, _≤_, _<_, _-_, _*_, _/_}
+use Prim.Native.Nat.{_+_, _≤_, _-_, _*_, _/_}
 use native.Mathlib.Nat.{add-zero}
 use native.Mathlib.Omega.{arith}
 use denote.Ref.{now}
 use lib.ListN.{length, length-set}
-use lib.Ieee.{Float, nan}
+use lib.Ieee.{nan}
 use Rattle.numbers.specs.Lists.{filled}
 use Rattle.numbers.proofs.Tabs.{filled-none, filled-to}
-use Rattle.lags.specs.Curves.{clarityOf, clarityAt, clarityFrom}
-use Rattle.lags.proofs.Products.{eight-at}
+use Rattle.lags.specs.Curves.{clarityAt, clarityFrom}
+use Rattle.lags.proofs.Lanes.{eight-at}
 use borrow.Author.Needs.{needs}
 use Rattle.lags.proofs.curves.fill_eight.Statement.{statement}
 use Rattle.lags.proofs.curves.fill_eight.Tie as tie
-use Rattle.lags.proofs.curves.fill_eight.Reads as reads
-use Rattle.lags.proofs.curves.fill_eight.Lts as lts
-use Rattle.lags.proofs.curves.clarity_of.Reads as clarity-of-reads
-use Rattle.lags.proofs.curves.eight_sums.Reads as eight-sums-reads
-use Rattle.lags.proofs.curves.lag_rest.Reads as lag-rest-reads
 
 abbrev Inv-loop : tie.InvT-loop
-Inv-loop envelope mean ac0 min-lag from clarity₀ n lag past sums j₀ clarity j =
+Inv-loop envelope mean ac0 min-lag from t clarity₀ n lag past sums j₀ clarity j =
     (j ≤ 8) × (length clarity ≡ length clarity₀) × (clarity ≡ filled (clarityFrom envelope mean ac0 min-lag) clarity₀ from (from + j))
 
 abbrev μ-loop : tie.MeasureT-loop
-μ-loop envelope mean ac0 min-lag from clarity₀ n lag past sums j₀ clarity j = 8 - j
+μ-loop envelope mean ac0 min-lag from t clarity₀ n lag past sums j₀ clarity j = 8 - j
 
 add-lag : tie.Need-add-lag Inv-loop μ-loop
 add-lag c = search needs
@@ -36,11 +31,17 @@ sub-past c = search needs
 sub-past-2 : tie.Need-sub-past-2 Inv-loop μ-loop
 sub-past-2 c = search needs
 
+sub-past-3 : tie.Need-sub-past-3 Inv-loop μ-loop
+sub-past-3 c = search needs
+
 mul-past : tie.Need-mul-past Inv-loop μ-loop
 mul-past c = search needs
 
+add-past : tie.Need-add-past Inv-loop μ-loop
+add-past c = search needs
+
 eight-sums-requires : tie.Need-eight-sums-requires Inv-loop μ-loop
-eight-sums-requires c κs = search needs
+eight-sums-requires c κs = ((omega arith, omega arith, omega arith), c .before .before .pre .1)
 
 loop-holds : tie.Need-loop-holds Inv-loop μ-loop
 loop-holds c =
@@ -60,10 +61,10 @@ lag-rest-requires : tie.Need-lag-rest-requires Inv-loop μ-loop
 lag-rest-requires c κs =
     let l = c .before in
     let a = l .before .before .before .before .args in
-    let n = length (now (a .envelope)) in
-    let lag = a .min-lag + a .from in (
+    let lag = a .min-lag + a .from in
+    let past = a .t + (length (now (a .envelope)) - lag - 7 - a .t) / 2 * 2 in (
       omega arith,
-      eight-at (now (a .envelope)) (a .mean) lag ((n - lag - 7) / 2 * 2) (l .before .eight-sums .result) (l .before .eight-sums .ensures) (l .loop .j) (omega arith),
+      eight-at (now (a .envelope)) (a .mean) lag past (l .before .eight-sums .result) (l .before .eight-sums .ensures) (l .loop .j) (omega arith),
     )
 
 add-clarity-of : tie.Need-add-clarity-of Inv-loop μ-loop
@@ -121,7 +122,9 @@ fill-eight-spec =
     add-lag
     sub-past
     sub-past-2
+    sub-past-3
     mul-past
+    add-past
     eight-sums-requires
     loop-holds
     add-lag-rest

@@ -1,5 +1,5 @@
 -- `lags::curves::fill_lag_curves` meets its contract: the weights are made of the clarities just written. Assumes nothing.
-use mathlib.Core.Path.{_≡_, _∙_}
+use mathlib.Core.Path.{_∙_}
 use native.Mathlib.Omega.{arith}
 use denote.Ref.{now}
 use Rattle.lags.specs.Lags.{lagRoom}
@@ -7,10 +7,6 @@ use Rattle.lags.proofs.Weights.{weighted-is}
 use borrow.Author.Needs.{needs}
 use Rattle.lags.proofs.curves.fill_lag_curves.Statement.{statement}
 use Rattle.lags.proofs.curves.fill_lag_curves.Tie as tie
-use Rattle.lags.proofs.curves.fill_lag_curves.Reads as reads
-use Rattle.lags.proofs.curves.fill_lag_curves.Lts as lts
-use Rattle.lags.proofs.curves.fill_clarity.Reads as fill-clarity-reads
-use Rattle.lags.proofs.curves.fill_weight.Reads as fill-weight-reads
 
 fill-clarity-requires : tie.Need-fill-clarity-requires
 fill-clarity-requires c κs = search needs

@@ -13,9 +13,6 @@ use Rattle.lags.specs.Lags.{lagRoom}
 use Rattle.lags.specs.Curves.{priorFrom}
 use Rattle.lags.proofs.curves.fill_priors.Statement.{statement}
 use Rattle.lags.proofs.curves.fill_priors.Tie as tie
-use Rattle.lags.proofs.curves.fill_priors.Reads as reads
-use Rattle.lags.proofs.curves.fill_priors.Lts as lts
-use Rattle.lags.proofs.curves.prior_at.Reads as prior-at-reads
 
 abbrev Inv-loop : tie.InvT-loop
 Inv-loop rate min-lag max-lag priors₀ count i₀ priors i =
@@ -55,8 +52,7 @@ loop-again : tie.Need-loop-again Inv-loop μ-loop
 loop-again c =
     let l = c .before .before in
     let a = l .before .before .args in
-    let v = l .loop .inv in
-    (
+    let v = l .loop .inv in (
       omega arith,
       simp length-set (v .1),
       rw (c .prior-at .ensures, v .2) (filled-to (priorFrom (a .rate) (a .min-lag)) (now (a .priors)) 0 (l .loop .i) (l .loop .i + 1) (omega arith) nan (omega arith) refl),

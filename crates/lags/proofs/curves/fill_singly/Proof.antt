@@ -1,21 +1,17 @@
 -- `lags::curves::fill_singly` meets its contract. The invariant: the slots below i are written by the rule. The measure is the slots
 -- that are left. Assumes nothing.
 use mathlib.Core.Path.{_≡_, refl, sym, ap, _∙_}
-use Prim.Native.Nat.{ℕ, _+_, _≤_, _<_, _-_}
+use Prim.Native.Nat.{_+_, _≤_, _-_}
 use native.Mathlib.Omega.{arith}
 use denote.Ref.{now}
 use lib.ListN.{length, length-set}
-use lib.Ieee.{Float, nan}
+use lib.Ieee.{nan}
 use Rattle.numbers.specs.Lists.{filled}
 use Rattle.numbers.proofs.Tabs.{filled-none, filled-to}
-use Rattle.lags.specs.Curves.{clarityOf, clarityAt, clarityFrom}
+use Rattle.lags.specs.Curves.{clarityAt, clarityFrom}
 use borrow.Author.Needs.{needs}
 use Rattle.lags.proofs.curves.fill_singly.Statement.{statement}
 use Rattle.lags.proofs.curves.fill_singly.Tie as tie
-use Rattle.lags.proofs.curves.fill_singly.Reads as reads
-use Rattle.lags.proofs.curves.fill_singly.Lts as lts
-use Rattle.lags.proofs.curves.clarity_of.Reads as clarity-of-reads
-use Rattle.lags.proofs.curves.lag_sum.Reads as lag-sum-reads
 
 abbrev Inv-loop : tie.InvT-loop
 Inv-loop envelope mean ac0 min-lag from past clarity₀ i₀ clarity i =

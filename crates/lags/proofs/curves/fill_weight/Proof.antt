@@ -1,11 +1,11 @@
 -- `lags::curves::fill_weight` meets its contract. The invariant: the slots below i are written by the rule. The measure is the slots
 -- that are left. Assumes nothing.
 use mathlib.Core.Path.{_≡_, refl, sym, ap, _∙_}
-use Prim.Native.Nat.{ℕ, _+_, _≤_, _<_, _-_}
+use Prim.Native.Nat.{_+_, _≤_, _-_}
 use native.Mathlib.Omega.{arith}
 use denote.Ref.{now}
 use lib.ListN.{length, length-set}
-use lib.Ieee.{Float, nan}
+use lib.Ieee.{nan}
 use Rattle.numbers.specs.Lists.{filled}
 use Rattle.numbers.proofs.Tabs.{filled-none, filled-to}
 use Rattle.lags.specs.Lags.{lagRoom}
@@ -13,9 +13,6 @@ use Rattle.lags.specs.Curves.{weighted}
 use borrow.Author.Needs.{needs}
 use Rattle.lags.proofs.curves.fill_weight.Statement.{statement}
 use Rattle.lags.proofs.curves.fill_weight.Tie as tie
-use Rattle.lags.proofs.curves.fill_weight.Reads as reads
-use Rattle.lags.proofs.curves.fill_weight.Lts as lts
-use Rattle.lags.proofs.curves.prior_at.Reads as prior-at-reads
 
 abbrev Inv-loop : tie.InvT-loop
 Inv-loop clarity rate min-lag max-lag weight₀ count i₀ weight i =

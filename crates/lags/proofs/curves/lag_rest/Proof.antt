@@ -1,7 +1,7 @@
 -- `lags::curves::lag_rest` meets its contract. The invariant: z is the sum over the times below t. The measure is the times that are
 -- left. Assumes nothing.
-use mathlib.Core.Path.{_≡_, refl, sym, ap, _∙_}
-use Prim.Native.Nat.{ℕ, _+_, _≤_, _-_}
+use mathlib.Core.Path.{_≡_, refl, ap, _∙_}
+use Prim.Native.Nat.{_+_, _≤_, _-_}
 use borrow.Author.Needs.{needs}
 use native.Mathlib.Omega.{arith}
 use denote.Ref.{now}
@@ -10,8 +10,6 @@ use Rattle.lags.specs.Curves.{lagSum}
 use Rattle.lags.proofs.Products.{sumTo, product-next}
 use Rattle.lags.proofs.curves.lag_rest.Statement.{statement}
 use Rattle.lags.proofs.curves.lag_rest.Tie as tie
-use Rattle.lags.proofs.curves.lag_rest.Reads as reads
-use Rattle.lags.proofs.curves.lag_rest.Lts as lts
 
 abbrev Inv-loop : tie.InvT-loop
 Inv-loop envelope mean lag from sum n z₀ t₀ z t = (t ≤ length envelope - lag) × (z ≡ sumTo envelope mean lag t)

@@ -1,17 +1,15 @@
 -- `lags::curves::mean_of` meets its contract. The invariant: the sum of the whole envelope is the sum of what is left, from the sum so
 -- far on. The measure is what is left of the length. Assumes nothing.
-use mathlib.Core.Path.{_≡_, refl, sym, ap, _∙_}
-use Prim.Native.Nat.{_+_, _≤_, _-_}
+use mathlib.Core.Path.{_≡_, refl, _∙_}
+use Prim.Native.Nat.{_≤_, _-_}
 use borrow.Author.Needs.{needs}
 use native.Mathlib.Omega.{arith}
 use lib.ListN.{length, drop}
-use Rattle.numbers.specs.Rounded.{_⊘_, sumFrom, sumOf}
+use Rattle.numbers.specs.Rounded.{sumFrom, sumOf}
 use Rattle.numbers.proofs.Sums.{sum-step, sum-end}
 use Rattle.lags.specs.Curves.{meanOf}
 use Rattle.lags.proofs.curves.mean_of.Statement.{statement}
 use Rattle.lags.proofs.curves.mean_of.Tie as tie
-use Rattle.lags.proofs.curves.mean_of.Reads as reads
-use Rattle.lags.proofs.curves.mean_of.Lts as lts
 
 abbrev Inv-loop : tie.InvT-loop
 Inv-loop envelope sum₀ i₀ sum i = (i ≤ length envelope) × (sumOf envelope ≡ sumFrom sum (drop i envelope))

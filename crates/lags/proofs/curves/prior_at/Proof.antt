@@ -1,5 +1,5 @@
 -- `lags::curves::prior_at` meets its contract: each step is the definition's. Assumes nothing.
-use mathlib.Core.Path.{_≡_, ap, _∙_}
+use mathlib.Core.Path.{ap, _∙_}
 use borrow.Author.Needs.{needs}
 use Rattle.lags.specs.Curves.{priorOf, priorAt}
 use Rattle.lags.proofs.curves.prior_at.Statement.{statement}

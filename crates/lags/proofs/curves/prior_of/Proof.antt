@@ -1,13 +1,9 @@
 -- `lags::curves::prior_of` meets its contract: each step is the definition's. Assumes nothing.
-use mathlib.Core.Path.{_≡_, _∙_}
+use mathlib.Core.Path.{_∙_}
 use Rattle.lags.specs.Curves.{priorOf}
 use borrow.Author.Needs.{needs}
 use Rattle.lags.proofs.curves.prior_of.Statement.{statement}
 use Rattle.lags.proofs.curves.prior_of.Tie as tie
-use Rattle.lags.proofs.curves.prior_of.Reads as reads
-use Rattle.lags.proofs.curves.prior_of.Lts as lts
-use Rattle.floats.proofs.exps.exp.Reads as exp-reads
-use Rattle.floats.proofs.logs.log2.Reads as log2-reads
 
 log2-requires : tie.Need-log2-requires
 log2-requires c κs = search needs

@@ -5,11 +5,8 @@ use lib.Ieee.{le, ofBits}
 use Rattle.numbers.specs.Rounded.{nought}
 use Rattle.sizes.proofs.Ranges.{held-below, held-above, held-inside}
 use Rattle.lags.specs.Lags.{one}
-use borrow.Author.Needs.{needs}
 use Rattle.lags.proofs.curves.unit_of.Statement.{statement}
 use Rattle.lags.proofs.curves.unit_of.Tie as tie
-use Rattle.lags.proofs.curves.unit_of.Reads as reads
-use Rattle.lags.proofs.curves.unit_of.Lts as lts
 
 zero-one : le nought one ≡ true
 unfolding le ofBits

@@ -12,8 +12,6 @@ use Rattle.numbers.proofs.Tabs.{filled-none, filled-to}
 use Rattle.lags.specs.Curves.{weightedBy}
 use Rattle.lags.proofs.curves.weigh.Statement.{statement}
 use Rattle.lags.proofs.curves.weigh.Tie as tie
-use Rattle.lags.proofs.curves.weigh.Reads as reads
-use Rattle.lags.proofs.curves.weigh.Lts as lts
 
 abbrev Inv-loop : tie.InvT-loop
 Inv-loop clarity priors count weight₀ i₀ weight i =
@@ -53,8 +51,7 @@ loop-again : tie.Need-loop-again Inv-loop μ-loop
 loop-again c =
     let l = c .before .before .before in
     let a = l .before .args in
-    let v = l .loop .inv in
-    (
+    let v = l .loop .inv in (
       omega arith,
       simp length-set (v .1),
       rw (v .2) (filled-to (weightedBy (now (a .clarity)) (now (a .priors))) (now (a .weight)) 0 (l .loop .i) (l .loop .i + 1) (omega arith) nan (omega arith) refl),

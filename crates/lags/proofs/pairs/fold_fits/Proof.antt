@@ -1,5 +1,4 @@
 -- `lags::pairs::fold_fits` meets its contract: each step is the definition's. Assumes nothing.
-use mathlib.Core.Path.{_≡_, sym, ap, _∙_}
 use borrow.Author.Needs.{needs}
 use Rattle.lags.specs.Pairs.{foldFits}
 use Rattle.lags.proofs.pairs.fold_fits.Statement.{statement}

@@ -1,7 +1,7 @@
 -- `lags::pairs::lags_agree` meets its contract. The invariant: no fold passed fits, so the search of all is the search of what is
 -- left. The measure is the folds that are left. Assumes nothing.
 use mathlib.Core.Path.{_≡_, refl, sym, _∙_}
-use Prim.Native.Nat.{_+_, _≤_, _<_, _-_}
+use Prim.Native.Nat.{_≤_, _<_, _-_}
 use borrow.Author.Needs.{needs}
 use native.Mathlib.Omega.{arith}
 use lib.ListN.{drop}
@@ -10,9 +10,6 @@ use Rattle.lags.specs.Pairs.{folds, foldFits, some, agrees}
 use Rattle.lags.proofs.Searches.{some-found, some-next, some-end}
 use Rattle.lags.proofs.pairs.lags_agree.Statement.{statement}
 use Rattle.lags.proofs.pairs.lags_agree.Tie as tie
-use Rattle.lags.proofs.pairs.lags_agree.Reads as reads
-use Rattle.lags.proofs.pairs.lags_agree.Lts as lts
-use Rattle.lags.proofs.pairs.fold_fits.Reads as fold-fits-reads
 
 abbrev Inv-loop : tie.InvT-loop
 Inv-loop whole lag folds₀ k₀ k = (k ≤ 5) × (agrees whole lag ≡ some (foldFits whole lag) (drop k folds))

@@ -1,5 +1,4 @@
 -- `lags::pairs::lags_apart` meets its contract: each step is the definition's. Assumes nothing.
-use mathlib.Core.Path.{_≡_, sym, ap, _∙_}
 use borrow.Author.Needs.{needs}
 use Rattle.lags.specs.Pairs.{apart}
 use Rattle.lags.proofs.pairs.lags_apart.Statement.{statement}

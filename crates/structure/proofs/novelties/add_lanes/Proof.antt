@@ -63,8 +63,8 @@ loop-again c =
       omega arith,
       simp length-set (l .loop .inv .1),
       rw (l .loop .inv .2)
-      (grown-more (laneTerm (now (a .lanes)) (a .weight) (now (a .similarity)) (a .k)) (now (a .lanes)) 0 (l .loop .j) nan
-      (λ (x : Float). x ⊕ a .weight ⊗ getD (now (a .similarity)) (a .k + 17 * l .loop .j) nan) (omega arith) (omega arith) refl),
+          (grown-more (laneTerm (now (a .lanes)) (a .weight) (now (a .similarity)) (a .k)) (now (a .lanes)) 0 (l .loop .j) nan
+          (λ (x : Float). x ⊕ a .weight ⊗ getD (now (a .similarity)) (a .k + 17 * l .loop .j) nan) (omega arith) (omega arith) refl),
     )
 
 returns : tie.Need-returns Inv-loop μ-loop

@@ -92,11 +92,11 @@ loop-again c =
       omega arith,
       ap length e ∙ length-filled (laneTerm lanes w similarity k) lanes 0 8 (omega arith) (omega arith) ∙ m,
       λ j h.
-      let step : getD (c .add-lanes .last .0) j nan ≡ addTerm similarity (a .rows) (a .i + j) u v (getD lanes j nan) =
+          let step : getD (c .add-lanes .last .0) j nan ≡ addTerm similarity (a .rows) (a .i + j) u v (getD lanes j nan) =
           ap (λ (d : List Float). getD d j nan) e
           ∙ getD-filled-in (laneTerm lanes w similarity k) lanes 0 8 (omega arith) (omega arith) j nan (omega arith) h
           ∙ rw (w-is, k-is) (sym (lane-term (a .rows) (a .i) j u v (s .pre .2) (s .pre .3) h (s .pre .4) (omega arith) similarity (getD lanes j nan))) in
-      rw step (sym (turns-next (addTerm similarity (a .rows) (a .i + j) u) v 16 (getD lanes j nan) (omega arith)) ∙ l .loop .inv .2 j h),
+          rw step (sym (turns-next (addTerm similarity (a .rows) (a .i + j) u) v 16 (getD lanes j nan) (omega arith)) ∙ l .loop .inv .2 j h),
     )
 
 returns : tie.Need-returns Inv-loop μ-loop

@@ -58,9 +58,9 @@ loop-again c =
       omega arith,
       ap length e ∙ length-filled f lanes 0 8 (omega arith) (omega arith) ∙ m,
       λ j h.
-      let step : getD next j nan ≡ addRow similarity (a .rows) (a .i + j) u (getD lanes j nan) =
+          let step : getD next j nan ≡ addRow similarity (a .rows) (a .i + j) u (getD lanes j nan) =
           ap (λ (d : List Float). getD d j nan) e ∙ getD-filled-in f lanes 0 8 (omega arith) (omega arith) j nan (omega arith) h in
-      rw step (sym (turns-next (addRow similarity (a .rows) (a .i + j)) u 16 (getD lanes j nan) (omega arith)) ∙ l .loop .inv .2 j h),
+          rw step (sym (turns-next (addRow similarity (a .rows) (a .i + j)) u 16 (getD lanes j nan) (omega arith)) ∙ l .loop .inv .2 j h),
     )
 
 returns : tie.Need-returns Inv-loop μ-loop

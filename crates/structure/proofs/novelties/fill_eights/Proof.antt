@@ -80,7 +80,7 @@ loop-again c =
       omega arith,
       ap length e ∙ length-filled (laneFrom values i) was i (i + 8) (omega arith) (omega arith) ∙ m,
       e ∙ ap (λ (d : List Float). filled (laneFrom values i) d i (i + 8)) (l .loop .inv .3)
-      ∙ lanes-join f values (now (a .novelty)) (a .from) i (omega arith) (omega arith) (v .ensures),
+          ∙ lanes-join f values (now (a .novelty)) (a .from) i (omega arith) (omega arith) (v .ensures),
     )
 
 fill-plain-requires : tie.Need-fill-plain-requires Inv-loop μ-loop

@@ -59,8 +59,8 @@ loop-again c =
       omega arith,
       simp length-set (l .loop .inv .1),
       rw (l .loop .inv .2)
-      (ap (λ (k : ℕ). set (filled f (now (a .novelty)) i (i + j)) (i + j) (getD (now (a .values)) k nan)) (sym e)
-      ∙ filled-to f (now (a .novelty)) i (i + j) (i + (j + 1)) (omega arith) nan (omega arith) (omega arith)),
+          (ap (λ (k : ℕ). set (filled f (now (a .novelty)) i (i + j)) (i + j) (getD (now (a .values)) k nan)) (sym e)
+          ∙ filled-to f (now (a .novelty)) i (i + j) (i + (j + 1)) (omega arith) nan (omega arith) (omega arith)),
     )
 
 same-length : tie.Need-same-length Inv-loop μ-loop

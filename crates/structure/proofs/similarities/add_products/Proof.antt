@@ -64,8 +64,8 @@ loop-again c =
       omega arith,
       simp length-set (l .loop .inv .2),
       rw (l .loop .inv .3)
-      (grown-more (laneProduct (now (a .sums)) (a .x) (now (a .turned)) (a .at)) (now (a .sums)) 1 (l .loop .j) nan
-      (λ (y : Float). y ⊕ a .x ⊗ getD (now (a .turned)) (a .at + l .loop .j) nan) (omega arith) (omega arith) refl),
+          (grown-more (laneProduct (now (a .sums)) (a .x) (now (a .turned)) (a .at)) (now (a .sums)) 1 (l .loop .j) nan
+          (λ (y : Float). y ⊕ a .x ⊗ getD (now (a .turned)) (a .at + l .loop .j) nan) (omega arith) (omega arith) refl),
     )
 
 returns : tie.Need-returns Inv-loop μ-loop

@@ -72,8 +72,8 @@ loop-again c =
       omega arith,
       simp length-set (l .loop .inv .1),
       rw (l .loop .inv .2)
-      (grown-more (laneQuotient (now (a .sums)) (now (a .norms)) (a .c)) (now (a .sums)) 0 (l .loop .d) nan
-      (λ (y : Float). y ⊘ (getD (now (a .norms)) (a .c) nan ⊗ getD (now (a .norms)) (a .c + l .loop .d) nan)) (omega arith) (omega arith) refl),
+          (grown-more (laneQuotient (now (a .sums)) (now (a .norms)) (a .c)) (now (a .sums)) 0 (l .loop .d) nan
+          (λ (y : Float). y ⊘ (getD (now (a .norms)) (a .c) nan ⊗ getD (now (a .norms)) (a .c + l .loop .d) nan)) (omega arith) (omega arith) refl),
     )
 
 returns : tie.Need-returns Inv-loop μ-loop

@@ -40,8 +40,8 @@ put-block-requires c κs =
       p .3,
       p .4,
       rw (← e)
-      (block-made (now (a .features)) (a .first) (m .least .result) _ _ _ (replicate 128 nought) (omega arith) (length-replicate 128 nought)
-      (t .turn .ensures) (q .square-rows .ensures) (n .root-all .ensures)),
+          (block-made (now (a .features)) (a .first) (m .least .result) _ _ _ (replicate 128 nought) (omega arith) (length-replicate 128 nought)
+          (t .turn .ensures) (q .square-rows .ensures) (n .root-all .ensures)),
     )
 
 same-length : tie.Need-same-length

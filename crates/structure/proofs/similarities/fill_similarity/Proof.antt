@@ -46,7 +46,7 @@ loop-again c =
       omega arith,
       simp length-set (l .loop .inv .2),
       rw (l .loop .inv .3, c .similarity-slot .ensures)
-      (filled-more (similarityAt (now (a .features)) (a .rows)) (now (a .similarity)) (a .from) (l .loop .k) (omega arith) nan (omega arith)),
+          (filled-more (similarityAt (now (a .features)) (a .rows)) (now (a .similarity)) (a .from) (l .loop .k) (omega arith) nan (omega arith)),
     )
 
 same-length : tie.Need-same-length Inv-loop μ-loop

@@ -59,7 +59,7 @@ loop-again c =
       omega arith,
       ap length e ∙ length-filled f was (i * 17) (next * 17) (omega arith) (omega arith) ∙ m,
       e ∙ ap (λ (d : List Float). filled f d (i * 17) (next * 17)) (l .loop .inv .3)
-      ∙ filled-join f (now (a .similarity)) (a .from * 17) (i * 17) (next * 17) (omega arith) (omega arith) nan (omega arith),
+          ∙ filled-join f (now (a .similarity)) (a .from * 17) (i * 17) (next * 17) (omega arith) (omega arith) nan (omega arith),
     )
 
 same-length : tie.Need-same-length Inv-loop μ-loop

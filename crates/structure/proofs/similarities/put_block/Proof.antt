@@ -53,8 +53,8 @@ loop-again c =
       omega arith,
       ap length e ∙ length-filled f was (i * 17) (i * 17 + 17) (omega arith) (omega arith) ∙ m,
       e ∙ ap (λ (d : List Float). filled f d (i * 17) (i * 17 + 17)) (l .loop .inv .3)
-      ∙ filled-join f (now (a .similarity)) (a .first * 17) (i * 17) (i * 17 + 17) (omega arith) (omega arith) nan (omega arith)
-      ∙ ap (filled f (now (a .similarity)) (a .first * 17)) n,
+          ∙ filled-join f (now (a .similarity)) (a .first * 17) (i * 17) (i * 17 + 17) (omega arith) (omega arith) nan (omega arith)
+          ∙ ap (filled f (now (a .similarity)) (a .first * 17)) n,
     )
 
 same-length : tie.Need-same-length Inv-loop μ-loop

@@ -23,7 +23,7 @@ Inv-loop row turned c own sums₀ k₀ sums k =
     (k ≤ 16)
     × (length sums ≡ 17)
     × ((d : ℕ) → 0 < d → d < 17
-        → sumFrom (getD sums d nan) (products (drop k row) (drop k (columnOf turned (c + d)))) ≡ dotOf row (columnOf turned (c + d)))
+    → sumFrom (getD sums d nan) (products (drop k row) (drop k (columnOf turned (c + d)))) ≡ dotOf row (columnOf turned (c + d)))
 
 abbrev μ-loop : tie.MeasureT-loop
 μ-loop row turned c own sums₀ k₀ sums k = 16 - k
@@ -76,14 +76,14 @@ loop-again c =
       omega arith,
       ap length e ∙ length-filled f was 1 17 (omega arith) (omega arith) ∙ m,
       λ d p q.
-      let column = columnOf turned (a .c + d) in
-      let there : getD column k nan ≡ getD turned (at + d) nan =
+          let column = columnOf turned (a .c + d) in
+          let there : getD column k nan ≡ getD turned (at + d) nan =
           getD-column turned (a .c + d) k (omega arith) ∙ ap (λ (n : ℕ). getD turned n nan) (sym (add-assoc (k * 128) (a .c) d)) in
-      let step : getD next d nan ≡ getD was d nan ⊕ getD row k nan ⊗ getD column k nan =
+          let step : getD next d nan ≡ getD was d nan ⊕ getD row k nan ⊗ getD column k nan =
           ap (λ (x : List Float). getD x d nan) e
           ∙ getD-filled-in f was 1 17 (omega arith) (omega arith) d nan (omega arith) q
           ∙ ap (λ (y : Float). getD was d nan ⊕ getD row k nan ⊗ y) (sym there) in
-      rw step (sym (dot-next (getD was d nan) row column k (omega arith) (omega (arith, length-column turned (a .c + d)))) ∙ l .loop .inv .2 d p q),
+          rw step (sym (dot-next (getD was d nan) row column k (omega arith) (omega (arith, length-column turned (a .c + d)))) ∙ l .loop .inv .2 d p q),
     )
 
 array-write-sums : tie.Need-array-write-sums Inv-loop μ-loop
@@ -99,9 +99,9 @@ returns c =
       simp length-set m,
       getD-set-same sums 0 (a .own) nan (omega arith),
       λ d p q.
-      getD-set-other sums 0 d (a .own) nan (λ (z : d ≡ 0). omega arith)
-      ∙ sym (dot-end (getD sums d nan) (now (a .row)) (columnOf (now (a .turned)) (a .c + d)) (l .loop .k) (omega arith))
-      ∙ l .loop .inv .2 d p q,
+          getD-set-other sums 0 d (a .own) nan (λ (z : d ≡ 0). omega arith)
+          ∙ sym (dot-end (getD sums d nan) (now (a .row)) (columnOf (now (a .turned)) (a .c + d)) (l .loop .k) (omega arith))
+          ∙ l .loop .inv .2 d p q,
     )
 
 pub row-dots-spec : {M : Type 1} → statement M

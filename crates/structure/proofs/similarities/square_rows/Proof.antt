@@ -59,7 +59,7 @@ loop-again c =
       omega arith,
       simp length-set (l .loop .inv .1),
       rw (l .loop .inv .2, c .dot .ensures, c .before .feature-row .ensures)
-      (filled-more (squareAt (now (a .features)) (a .first)) (now (a .squares)) 0 (l .loop .r) (omega arith) nan (omega arith)),
+          (filled-more (squareAt (now (a .features)) (a .first)) (now (a .squares)) 0 (l .loop .r) (omega arith) nan (omega arith)),
     )
 
 returns : tie.Need-returns Inv-loop μ-loop

@@ -56,14 +56,14 @@ loop-again c =
       omega arith,
       ap length e ∙ length-filled f was (k * 128) (k * 128 + count) (omega arith) (omega arith) ∙ m,
       λ r k′ h g.
-      ap (λ (d : List Float). getD d (k′ * 128 + r) nan) e
-      ∙ ⊎-elim
-      (λ (u : k′ < k).
-      getD-filled-low f was (k * 128) (k * 128 + count) (omega arith) (omega arith) (k′ * 128 + r) nan (omega arith) ∙ l .loop .inv .2 r k′ h u)
-      (λ (u : k ≤ k′).
-      getD-filled-in f was (k * 128) (k * 128 + count) (omega arith) (omega arith) (k′ * 128 + r) nan (omega arith) (omega arith)
-      ∙ turned-is (now (a .features)) (a .first) r k′ (omega arith))
-      (lt-or-le k′ k),
+          ap (λ (d : List Float). getD d (k′ * 128 + r) nan) e
+          ∙ ⊎-elim
+          (λ (u : k′ < k).
+          getD-filled-low f was (k * 128) (k * 128 + count) (omega arith) (omega arith) (k′ * 128 + r) nan (omega arith) ∙ l .loop .inv .2 r k′ h u)
+          (λ (u : k ≤ k′).
+          getD-filled-in f was (k * 128) (k * 128 + count) (omega arith) (omega arith) (k′ * 128 + r) nan (omega arith) (omega arith)
+          ∙ turned-is (now (a .features)) (a .first) r k′ (omega arith))
+          (lt-or-le k′ k),
     )
 
 returns : tie.Need-returns Inv-loop μ-loop

@@ -71,8 +71,8 @@ loop-again c =
       omega arith,
       simp length-set (l .loop .inv .1),
       rw (l .loop .inv .2)
-      (ap (λ (p : ℕ). set (filled f (now (a .turned)) (k * 128) (k * 128 + r)) (k * 128 + r) (getD (now (a .features)) p nan)) (sym e)
-      ∙ filled-to f (now (a .turned)) (k * 128) (k * 128 + r) (k * 128 + (r + 1)) (omega arith) nan (omega arith) (omega arith)),
+          (ap (λ (p : ℕ). set (filled f (now (a .turned)) (k * 128) (k * 128 + r)) (k * 128 + r) (getD (now (a .features)) p nan)) (sym e)
+          ∙ filled-to f (now (a .turned)) (k * 128) (k * 128 + r) (k * 128 + (r + 1)) (omega arith) nan (omega arith) (omega arith)),
     )
 
 returns : tie.Need-returns Inv-loop μ-loop

@@ -1,13 +1,15 @@
--- `tempo::peaks::next_best` meets its contract: each return is one case of the law on one slot more. Assumes nothing.
+-- `tempo::peaks::next_best` meets its contract: each return is one case of the law on one slot more. Where `best` is read it is a slot, as
+-- some maximum before stood apart. Assumes nothing.
 use mathlib.Core.Path.{_≡_, sym, _∙_}
+use mathlib.Core.Bool.{true}
 use mathlib.Core.List.{List, [], _∷_}
-use Prim.Native.Nat.{ℕ, _≤_}
+use Prim.Native.Nat.{ℕ, _<_}
 use native.Mathlib.Omega.{arith}
+use borrow.Author.Needs.{needs}
 use borrow.Author.Tests.{not-true, not-false}
 use lib.ListN.{length}
-use Rattle.tempo.specs.Candidates.{standsApart}
+use Rattle.tempo.specs.Candidates.{maximumAt, standsApart}
 use Rattle.tempo.proofs.Rankings.{next-no-maximum, next-fails, next-alone, best-below, next-greater, next-not-greater}
-use borrow.Author.Needs.{needs}
 use Rattle.tempo.proofs.peaks.next_best.Statement.{statement}
 use Rattle.tempo.proofs.peaks.next_best.Tie as tie
 
@@ -17,69 +19,59 @@ is-maximum-requires c κs = search needs
 returns : tie.Need-returns
 returns c =
     let s = c .before .before .before in
-    let ws = s .args .weight .now in
-    let p = standsApart (s .args .min-lag) (s .args .a ∷ s .args .b ∷ []) in
-    let l : s .args .i ≤ length ws = omega arith in
-    next-no-maximum ws p (length ws) (s .args .i) l (s .args .best) (s .pre .1 .1) (sym (c .before .is-maximum .ensures) ∙ not-true _ (c .if1 .taken))
+    next-no-maximum _ _ _ _ _ (s .pre .1 .0) (s .pre .1 .1) (sym (c .before .is-maximum .ensures) ∙ not-true _ (c .if1 .taken))
 
 is-apart-requires : tie.Need-is-apart-requires
 is-apart-requires c κs = search needs
 
+-- the slot is a maximum
+maximum : (c : tie.Else1) → let a = c .before .before .before .args in maximumAt (a .weight .now) (a .i) ≡ true
+maximum c = sym (c .before .is-maximum .ensures) ∙ not-false _ (c .if1 .left)
+
 returns-2 : tie.Need-returns-2
 returns-2 c =
     let s = c .before .before .before .before .before in
-    let ws = s .args .weight .now in
-    let p = standsApart (s .args .min-lag) (s .args .a ∷ s .args .b ∷ []) in
-    let l : s .args .i ≤ length ws = omega arith in
-    next-fails ws p (length ws) (s .args .i) l (s .args .best) (s .pre .1 .1) (sym (c .before .before .before .is-maximum .ensures) ∙ not-false _ (c .before .before .if1 .left)) (sym (c .before .is-apart .ensures) ∙ not-true _ (c .if2 .taken))
+    next-fails _ _ _ _ _ (s .pre .1 .0) (s .pre .1 .1) (maximum (c .before .before)) (sym (c .before .is-apart .ensures) ∙ not-true _ (c .if2 .taken))
+
+-- and stands apart
+apart : (c : tie.Else2) → let a = c .before .before .before .before .before .args in standsApart (a .min-lag) (a .a ∷ a .b ∷ []) (a .i) ≡ true
+apart c = sym (c .before .is-apart .ensures) ∙ not-false _ (c .if2 .left)
 
 returns-3 : tie.Need-returns-3
 returns-3 c =
     let s = c .before .before .before .before .before .before in
-    let ws = s .args .weight .now in
-    let p = standsApart (s .args .min-lag) (s .args .a ∷ s .args .b ∷ []) in
-    let l : s .args .i ≤ length ws = omega arith in
-    next-alone ws p (length ws) (s .args .i) l (s .args .best) (s .pre .1 .1) (sym (c .before .before .before .before .is-maximum .ensures) ∙ not-false _ (c .before .before .before .if1 .left)) (sym (c .before .before .is-apart .ensures) ∙ not-false _ (c .before .if2 .left)) (c .if3 .taken)
+    next-alone _ _ _ _ _ (s .pre .1 .0) (s .pre .1 .1) (maximum (c .before .before .before)) (apart (c .before)) (c .if3 .taken)
+
+-- some maximum before it did
+slot : (c : tie.Else3) → let a = c .before .before .before .before .before .before .args in a .best < length (a .weight .now)
+slot c =
+    let s = c .before .before .before .before .before .before in
+    let b = best-below _ _ _ _ _ (s .pre .1 .0) (s .pre .1 .1) (maximum (c .before .before .before)) (apart (c .before)) (c .if3 .left) in
+    omega (arith, b, s .pre .1 .0)
 
 mul-if4 : tie.Need-mul-if4
-mul-if4 c = search needs
+mul-if4 c = let h = slot c in search needs
 
 shared-slice-read-if4 : tie.Need-shared-slice-read-if4
-shared-slice-read-if4 c = search needs
+shared-slice-read-if4 c = slot (c .before)
 
 mul-if4-2 : tie.Need-mul-if4-2
-mul-if4-2 c =
-    let s = c .before .before .before .before .before .before .before in
-    let ws = s .args .weight .now in
-    let p = standsApart (s .args .min-lag) (s .args .a ∷ s .args .b ∷ []) in
-    let l : s .args .i ≤ length ws = omega arith in
-    let b = best-below ws p (length ws) (s .args .i) l (s .args .best) (s .pre .1 .1) (sym (c .before .before .before .before .before .is-maximum .ensures) ∙ not-false _ (c .before .before .before .before .if1 .left)) (sym (c .before .before .before .is-apart .ensures) ∙ not-false _ (c .before .before .if2 .left)) (c .before .if3 .left) in
-    search needs
+mul-if4-2 c = search needs
 
 shared-slice-read-if4-2 : tie.Need-shared-slice-read-if4-2
-shared-slice-read-if4-2 c =
-    let s = c .before .before .before .before .before .before .before .before in
-    let ws = s .args .weight .now in
-    let p = standsApart (s .args .min-lag) (s .args .a ∷ s .args .b ∷ []) in
-    let l : s .args .i ≤ length ws = omega arith in
-    let b = best-below ws p (length ws) (s .args .i) l (s .args .best) (s .pre .1 .1) (sym (c .before .before .before .before .before .before .is-maximum .ensures) ∙ not-false _ (c .before .before .before .before .before .if1 .left)) (sym (c .before .before .before .before .is-apart .ensures) ∙ not-false _ (c .before .before .before .if2 .left)) (c .before .before .if3 .left) in
-    omega arith
+shared-slice-read-if4-2 c = search needs
 
 returns-4 : tie.Need-returns-4
 returns-4 c =
-    let s = c .before .before .before .before .before .before .before .before .before in
-    let ws = s .args .weight .now in
-    let p = standsApart (s .args .min-lag) (s .args .a ∷ s .args .b ∷ []) in
-    let l : s .args .i ≤ length ws = omega arith in
-    next-greater ws p (length ws) (s .args .i) l (s .args .best) (s .pre .1 .1) (sym (c .before .before .before .before .before .before .before .is-maximum .ensures) ∙ not-false _ (c .before .before .before .before .before .before .if1 .left)) (sym (c .before .before .before .before .before .is-apart .ensures) ∙ not-false _ (c .before .before .before .before .if2 .left)) (c .before .before .before .if3 .left) (c .if4 .taken)
+    let e = c .before .before .before in
+    let s = e .before .before .before .before .before .before in
+    next-greater _ _ _ _ _ (s .pre .1 .0) (s .pre .1 .1) (maximum (e .before .before .before)) (apart (e .before)) (e .if3 .left) (c .if4 .taken)
 
 returns-5 : tie.Need-returns-5
 returns-5 c =
-    let s = c .before .before .before .before .before .before .before .before .before in
-    let ws = s .args .weight .now in
-    let p = standsApart (s .args .min-lag) (s .args .a ∷ s .args .b ∷ []) in
-    let l : s .args .i ≤ length ws = omega arith in
-    next-not-greater ws p (length ws) (s .args .i) l (s .args .best) (s .pre .1 .1) (sym (c .before .before .before .before .before .before .before .is-maximum .ensures) ∙ not-false _ (c .before .before .before .before .before .before .if1 .left)) (sym (c .before .before .before .before .before .is-apart .ensures) ∙ not-false _ (c .before .before .before .before .if2 .left)) (c .before .before .before .if3 .left) (c .if4 .left)
+    let e = c .before .before .before in
+    let s = e .before .before .before .before .before .before in
+    next-not-greater _ _ _ _ _ (s .pre .1 .0) (s .pre .1 .1) (maximum (e .before .before .before)) (apart (e .before)) (e .if3 .left) (c .if4 .left)
 
 pub next-best-spec : {M : Type 1} → statement M
 next-best-spec =

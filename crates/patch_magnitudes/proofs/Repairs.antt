@@ -1,0 +1,293 @@
+-- Demand 3, "Patching equals starting over", for magnitude rows with their flux and threshold curves. Each theorem holds for every input.
+-- `Patches` is what `patch_magnitudes` promises, `after` the track that it leaves. Assumes nothing.
+use mathlib.Core.Bool.{true}
+use mathlib.Core.List.{List, [], _∷_}
+use mathlib.Core.Path.{_≡_, refl, sym, ap, _∙_}
+use Prim.Native.Nat.{ℕ, zero, suc, _+_, _-_, _*_, _/_, _≤_, _<_, min}
+use native.Mathlib.Omega.{arith}
+use lib.Ieee.{Float, nan}
+use lib.ListN.{length, take, drop}
+use Rattle.numbers.proofs.Overs.{length-over, every-over, patch-fits, row-over}
+use Rattle.numbers.proofs.Tabs.{length-tab, length-filled, filled-outside}
+use Rattle.numbers.proofs.Tests.{passed-does, and-both, lowest-0}
+use Rattle.numbers.specs.Limits.{magnitudeFine, valueFine}
+use Rattle.numbers.specs.Lists.{curve, every, filled}
+use Rattle.numbers.specs.Refusals.{unlessRefused}
+use Rattle.onsets.specs.Flux.{fluxAt}
+use Rattle.onsets.specs.Onsets.{onsetsOf}
+use Rattle.onsets.specs.Outcomes.{Written}
+use Rattle.onsets.specs.Threshold.{thresholdAt, thresholdRefusal, Thresholds}
+use Rattle.patching.proofs.Parts.{filled-first, filled-rest, filled-by}
+use Rattle.patching.proofs.Wholes.{whole-asked}
+use Rattle.patching.specs.Patches.{Patch, patchOf, pastRow, wholeRows, edited, unlessEmpty}
+use Rattle.patch_magnitudes.specs.declared.Patched.{Patched}
+use Rattle.patch_magnitudes.specs.declared.Patched.the-variants.{Refused, Wrote}
+use Rattle.patch_magnitudes.specs.Magnitudes.{
+  Track,
+  track,
+  sortingRoom,
+  fluxFirst,
+  fluxPast,
+  thresholdFirst,
+  thresholdPast,
+  mendedFlux,
+  mendedThreshold,
+  mended,
+  valuesFine,
+  numberOf,
+  answered,
+  after,
+  sortedIn,
+  Patches,
+}
+use Rattle.patch_magnitudes.specs.Runs.{fluxCurve, thresholdCurve, Fresh, Kept, Sound, Good, analysed, Call, run}
+use Rattle.patch_magnitudes.proofs.Asked.{Asked, asked, bounds-asked, room-asked}
+use Rattle.patch_magnitudes.proofs.Mended.{flux-mends, threshold-mends, flux-rest, threshold-rest, fluxes-fine, thresholds-fine}
+
+-- What holds of the track before a patch, and of a mended one, holds after it: it is refused, empty, or mended.
+by-outcome : (P : Track → Type 0) (rows bins : ℕ) (was : Track) (patch : Patch) (room : ℕ) → P was
+    → (Asked rows bins was patch room → P (mended rows bins was patch)) → P (after rows bins was patch room)
+unfolding after
+by-outcome P rows bins was patch room kept done = go (numberOf rows bins was patch room) (patch .new) refl
+  where
+    go : (n : ℕ) (new : List Float) → numberOf rows bins was patch room ≡ n → P (unlessRefused n (unlessEmpty new (mended rows bins was patch) was) was)
+    go (suc n) new e = kept
+    go zero [] e = kept
+    go zero (x ∷ xs) e = done (asked rows bins was patch room e)
+
+-- ---- (1) Where the lent curves were those of the rows, they are those of the edited rows afterwards, bit for bit.
+
+mends : (rows bins : ℕ) (was : Track) (patch : Patch) (room : ℕ) → Fresh rows bins was → Asked rows bins was patch room → Fresh rows bins (mended rows bins was patch)
+unfolding mended
+mends rows bins was patch room fresh a =
+    record {
+      flux = flux-mends rows bins was patch room a (fresh .flux);
+      threshold = threshold-mends rows bins was patch room a fresh;
+    }
+
+pub patched-is-fresh : (rows bins : ℕ) (was : Track) (patch : Patch) (room : ℕ) → Fresh rows bins was → Fresh rows bins (after rows bins was patch room)
+patched-is-fresh rows bins was patch room fresh =
+    by-outcome (Fresh rows bins) rows bins was patch room fresh (mends rows bins was patch room fresh)
+
+-- ---- (2) Outside the rows replaced and the slots that the answer names nothing differs.
+
+unmoved : (bins : ℕ) (patch : Patch) (f g t u : ℕ) (was : Track) → Kept bins patch f g t u was was
+unmoved bins patch f g t u was =
+    record {
+      magnitudes-length = refl;
+      flux-length = refl;
+      threshold-length = refl;
+      rows-stay = λ i h. refl;
+      flux-stays = λ i h. refl;
+      threshold-stays = λ i h. refl;
+    }
+
+mended-keeps : (rows bins : ℕ) (was : Track) (patch : Patch) (room : ℕ) → Asked rows bins was patch room
+    → Kept bins patch (fluxFirst patch) (fluxPast rows bins patch) (thresholdFirst patch) (thresholdPast rows bins patch) was (mended rows bins was patch)
+unfolding mended mendedFlux mendedThreshold edited
+mended-keeps rows bins was patch room a =
+    let w = a .lengths in
+    let r = a .rooms in
+    let k = length (patch .new) / bins in
+    record {
+      magnitudes-length = length-over _ _ _ (patch-fits (was .magnitudes) (patch .new) rows bins (patch .start) k nan (w .whole) (w .new-whole) (w .inside));
+      flux-length = length-filled _ (was .flux) _ _ (omega arith) (omega arith);
+      threshold-length = length-filled _ (was .threshold) _ _ (omega arith) (omega arith);
+      rows-stay = row-over (was .magnitudes) (patch .new) rows bins (patch .start) k nan (w .whole) (w .new-whole) (w .inside);
+      flux-stays = λ i h. filled-outside _ (was .flux) _ _ (omega arith) (omega arith) i nan h;
+      threshold-stays = λ i h. filled-outside _ (was .threshold) _ _ (omega arith) (omega arith) i nan h;
+    }
+
+module _ (rows bins : ℕ) (was : Track) (room f g t u : ℕ) (now : Track) where
+  kept-by : (n start : ℕ) (new : List Float) → numberOf rows bins was (patchOf start new) room ≡ n → Wrote f g t u ≡ answered n rows bins (patchOf start new)
+      → now ≡ unlessRefused n (unlessEmpty new (mended rows bins was (patchOf start new)) was) was → Kept bins (patchOf start new) f g t u was now
+  unfolding answered
+  kept-by (suc n) start new e h k = let z : _≡_ {A = ℕ} 0 1 = cc in absurd (omega arith)
+  kept-by zero start [] e h k = rw k (unmoved bins (patchOf start []) f g t u was)
+  kept-by zero start (x ∷ xs) e h k =
+      let patch = patchOf start (x ∷ xs) in
+      let p : f ≡ fluxFirst patch = cc in
+      let q : g ≡ fluxPast rows bins patch = cc in
+      let r : t ≡ thresholdFirst patch = cc in
+      let s : u ≡ thresholdPast rows bins patch = cc in
+      rw (k, p, q, r, s) (mended-keeps rows bins was patch room (asked rows bins was patch room e))
+
+pub outside-stays : (rows bins : ℕ) (was : Track) (patch : Patch) (work : List Float) (f g t u : ℕ) (now : Track) (work′ : List Float)
+    → Patches rows bins was patch work (Wrote f g t u) now work′ → Kept bins patch f g t u was now
+unfolding after
+outside-stays rows bins was patch work f g t u now work′ done =
+    kept-by rows bins was (length work) f g t u now (numberOf rows bins was patch (length work)) (patch .start) (patch .new) refl (done .answer-is) (done .track-is)
+
+-- ---- (3) An empty patch changes nothing. (4) A refused one changes nothing.
+
+empty-keeps-all : (n rows start : ℕ) (done was now : Track) (work work′ : List Float) → now ≡ unlessRefused n was was
+    → drop (sortedIn n rows (patchOf start [])) work′ ≡ drop (sortedIn n rows (patchOf start [])) work → (now ≡ was) × (work′ ≡ work)
+unfolding sortedIn
+empty-keeps-all zero rows start done was now work work′ e h = (e, h)
+empty-keeps-all (suc n) rows start done was now work work′ e h = (e, h)
+
+pub empty-changes-nothing : (rows bins : ℕ) (was : Track) (start : ℕ) (work : List Float) (answer : Patched) (now : Track) (work′ : List Float)
+    → Patches rows bins was (patchOf start []) work answer now work′ → (now ≡ was) × (work′ ≡ work)
+unfolding after
+empty-changes-nothing rows bins was start work answer now work′ done =
+    empty-keeps-all (numberOf rows bins was (patchOf start []) (length work)) rows start was was now work work′ (done .track-is) (done .work-keeps)
+
+module _ (rows bins : ℕ) (was now : Track) (work work′ : List Float) (k : ℕ) where
+  refused-keeps-all : (n start : ℕ) (new : List Float) → Refused k ≡ answered n rows bins (patchOf start new)
+      → now ≡ unlessRefused n (unlessEmpty new (mended rows bins was (patchOf start new)) was) was
+      → drop (sortedIn n rows (patchOf start new)) work′ ≡ drop (sortedIn n rows (patchOf start new)) work → (now ≡ was) × (work′ ≡ work)
+  unfolding answered sortedIn
+  refused-keeps-all (suc n) start new e h w = (h, w)
+  refused-keeps-all zero start [] e h w = let z : _≡_ {A = ℕ} 0 1 = cc in absurd (omega arith)
+  refused-keeps-all zero start (x ∷ xs) e h w = let z : _≡_ {A = ℕ} 0 1 = cc in absurd (omega arith)
+
+pub refused-changes-nothing : (rows bins : ℕ) (was : Track) (patch : Patch) (work : List Float) (k : ℕ) (now : Track) (work′ : List Float)
+    → Patches rows bins was patch work (Refused k) now work′ → (now ≡ was) × (work′ ≡ work)
+unfolding after
+refused-changes-nothing rows bins was patch work k now work′ done =
+    refused-keeps-all rows bins was now work work′ k (numberOf rows bins was patch (length work)) (patch .start) (patch .new) (done .answer-is) (done .track-is) (done .work-keeps)
+
+-- ---- (5) Any run of patches on a fresh analysis, refused ones among them, ends as one fresh analysis of the last rows.
+
+-- what each step keeps: the curves are those of the rows, and what lies behind them is as it was lent
+record Going (rows bins : ℕ) (lent st : Track) : Type 0 where
+  fresh : Fresh rows bins st
+  flux-rest : drop rows (st .flux) ≡ drop rows (lent .flux)
+  threshold-rest : drop rows (st .threshold) ≡ drop rows (lent .threshold)
+
+going-on : (rows bins : ℕ) (lent st : Track) (patch : Patch) (room : ℕ) → Going rows bins lent st → Asked rows bins st patch room
+    → Going rows bins lent (mended rows bins st patch)
+unfolding mended
+going-on rows bins lent st patch room h a =
+    record {
+      fresh = mends rows bins st patch room (h .fresh) a;
+      flux-rest = flux-rest rows bins st patch room a ∙ h .flux-rest;
+      threshold-rest = threshold-rest rows bins st patch room a ∙ h .threshold-rest;
+    }
+
+run-going : (rows bins : ℕ) (lent st : Track) (calls : List Call) → Going rows bins lent st → Going rows bins lent (run rows bins st calls)
+unfolding run
+run-going rows bins lent st [] h = h
+run-going rows bins lent st (call ∷ calls) h =
+    run-going rows bins lent (after rows bins st (call .patch) (call .room)) calls
+    (by-outcome (Going rows bins lent) rows bins st (call .patch) (call .room) h (going-on rows bins lent st (call .patch) (call .room) h))
+
+module _ (rows bins : ℕ) (lent : Track) where
+  pub analysed-is-fresh : Fresh rows bins (analysed rows bins lent)
+  unfolding analysed fluxCurve thresholdCurve
+  analysed-is-fresh = record { flux = filled-first _ (lent .flux) rows; threshold = filled-first _ (lent .threshold) rows }
+
+  analysed-going : Going rows bins lent (analysed rows bins lent)
+  unfolding analysed
+  analysed-going = record { fresh = analysed-is-fresh; flux-rest = filled-rest _ (lent .flux) rows; threshold-rest = filled-rest _ (lent .threshold) rows }
+
+  going-is-analysed : (st : Track) → Going rows bins lent st → st ≡ analysed rows bins (track (st .magnitudes) (lent .flux) (lent .threshold))
+  unfolding analysed fluxCurve thresholdCurve
+  going-is-analysed st h =
+      ap (λ (f : List Float). track (st .magnitudes) f (st .threshold))
+      (filled-by (fluxAt (st .magnitudes) bins) (lent .flux) (st .flux) rows (h .fresh .flux) (h .flux-rest))
+      ∙ ap (λ (t : List Float). track (st .magnitudes) (filled (fluxAt (st .magnitudes) bins) (lent .flux) 0 rows) t)
+      (filled-by (thresholdAt (fluxCurve rows bins (st .magnitudes))) (lent .threshold) (st .threshold) rows (h .fresh .threshold) (h .threshold-rest))
+
+pub run-is-one-analysis : (rows bins : ℕ) (lent : Track) (calls : List Call)
+    → run rows bins (analysed rows bins lent) calls
+    ≡ analysed rows bins (track (run rows bins (analysed rows bins lent) calls .magnitudes) (lent .flux) (lent .threshold))
+run-is-one-analysis rows bins lent calls =
+    going-is-analysed rows bins lent (run rows bins (analysed rows bins lent) calls)
+    (run-going rows bins lent (analysed rows bins lent) calls (analysed-going rows bins lent))
+
+-- the same of curves that were fresh to begin with, wherever they came from
+pub run-is-fresh : (rows bins : ℕ) (lent : Track) (calls : List Call) → Fresh rows bins lent → Fresh rows bins (run rows bins lent calls)
+run-is-fresh rows bins lent calls fresh =
+    run-going rows bins lent lent calls (record { fresh = fresh; flux-rest = refl; threshold-rest = refl }) .fresh
+
+-- what the two calls of the analysis write, where neither refuses, is `analysed`
+pub calls-analyse : (rows bins : ℕ) (lent : Track) (flux threshold work work′ : List Float)
+    → Written 0 (filled (fluxAt (lent .magnitudes) bins) (lent .flux) 0 rows) (lent .flux) 0 flux
+    → thresholdRefusal (take rows flux) (length (lent .threshold)) (length work) ≡ 0
+    → Thresholds (take rows flux) (lent .threshold) work 0 threshold work′ → track (lent .magnitudes) flux threshold ≡ analysed rows bins lent
+unfolding analysed fluxCurve
+calls-analyse rows bins lent flux threshold work work′ w z t =
+    let f : flux ≡ filled (fluxAt (lent .magnitudes) bins) (lent .flux) 0 rows = w .slots-are in
+    let c : take rows flux ≡ curve (fluxAt (lent .magnitudes) bins) rows = ap (take rows) f ∙ filled-first (fluxAt (lent .magnitudes) bins) (lent .flux) rows in
+    let l : length (take rows flux) ≡ rows = ap length c ∙ length-tab (fluxAt (lent .magnitudes) bins) 0 rows in
+    let e : threshold ≡ filled (thresholdAt (take rows flux)) (lent .threshold) 0 (length (take rows flux)) = t .curve .slots-are ∙ passed-does _ _ _ z in
+    ap (λ (x : List Float). track (lent .magnitudes) x threshold) f
+    ∙ ap (track (lent .magnitudes) (filled (fluxAt (lent .magnitudes) bins) (lent .flux) 0 rows))
+    (e ∙ ap (filled (thresholdAt (take rows flux)) (lent .threshold) 0) l ∙ ap (λ (x : List Float). filled (thresholdAt x) (lent .threshold) 0 rows) c)
+
+-- ---- (6) A good patch on fresh curves is accepted, at any place of a run.
+
+pub good-is-accepted : (rows bins : ℕ) (was : Track) (patch : Patch) (room : ℕ) → Sound rows bins was → Fresh rows bins was → Good rows bins patch room
+    → numberOf rows bins was patch room ≡ 0
+unfolding numberOf valuesFine
+good-is-accepted rows bins was patch room sound fresh good =
+    let k : patch .start ≤ rows = let h : patch .start + good .count ≤ rows = good .inside in omega arith in
+    let lengths : wholeRows (length (was .magnitudes)) rows bins (patch .start) (length (patch .new)) ≡ true =
+    rw (good .whole) (whole-asked (length (was .magnitudes)) rows bins (patch .start) (good .count) (sound .some-bins) (sound .whole) (good .inside)) in
+    let flux : every valueFine (take rows (was .flux)) ≡ true =
+    rw (fresh .flux) (fluxes-fine rows bins (was .magnitudes) (sound .fine) (sound .bins-fit)) in
+    let threshold : every valueFine (take rows (was .threshold)) ≡ true =
+    rw (fresh .threshold) (thresholds-fine rows bins (was .magnitudes) (sound .fine) (sound .bins-fit)) in
+    lowest-0 _ _ _ _
+    (bounds-asked rows bins (patch .start) (record { rows-fit = sound .rows-fit; some-bins = sound .some-bins; bins-fit = sound .bins-fit; starts = k }))
+    lengths
+    (room-asked rows (length (was .flux)) (length (was .threshold)) room (record { flux-room = sound .flux-room; threshold-room = sound .threshold-room; work-room = good .work-room }))
+    (and-both (every magnitudeFine (was .magnitudes)) _ (sound .fine)
+    (and-both (every magnitudeFine (patch .new)) _ (good .fine) (and-both (every valueFine (take rows (was .flux))) _ flux threshold)))
+
+-- a patch leaves a sound track sound
+mended-sound : (rows bins : ℕ) (was : Track) (patch : Patch) (room : ℕ) → Sound rows bins was → Asked rows bins was patch room → Sound rows bins (mended rows bins was patch)
+unfolding mended edited
+mended-sound rows bins was patch room s a =
+    let kept = mended-keeps rows bins was patch room a in
+    record {
+      rows-fit = s .rows-fit;
+      some-bins = s .some-bins;
+      bins-fit = s .bins-fit;
+      whole = kept .magnitudes-length ∙ s .whole;
+      fine = every-over magnitudeFine (was .magnitudes) (patch .start * bins) (patch .new) (s .fine) (a .new-fine);
+      flux-room = rw (kept .flux-length) (s .flux-room);
+      threshold-room = rw (kept .threshold-length) (s .threshold-room);
+    }
+
+pub run-is-sound : (rows bins : ℕ) (lent : Track) (calls : List Call) → Sound rows bins lent → Sound rows bins (run rows bins lent calls)
+unfolding run
+run-is-sound rows bins lent [] s = s
+run-is-sound rows bins lent (call ∷ calls) s =
+    run-is-sound rows bins (after rows bins lent (call .patch) (call .room)) calls
+    (by-outcome (Sound rows bins) rows bins lent (call .patch) (call .room) s (mended-sound rows bins lent (call .patch) (call .room) s))
+
+pub analysed-is-sound : (rows bins : ℕ) (lent : Track) → Sound rows bins lent → Sound rows bins (analysed rows bins lent)
+unfolding analysed
+analysed-is-sound rows bins lent s =
+    record {
+      rows-fit = s .rows-fit;
+      some-bins = s .some-bins;
+      bins-fit = s .bins-fit;
+      whole = s .whole;
+      fine = s .fine;
+      flux-room = rw (length-filled (fluxAt (lent .magnitudes) bins) (lent .flux) 0 rows (omega arith) (s .flux-room)) (s .flux-room);
+      threshold-room = rw (length-filled (thresholdAt (fluxCurve rows bins (lent .magnitudes))) (lent .threshold) 0 rows (omega arith) (s .threshold-room)) (s .threshold-room);
+    }
+
+pub good-is-accepted-in-a-run : (rows bins : ℕ) (lent : Track) (calls : List Call) (patch : Patch) (room : ℕ) → Sound rows bins lent → Good rows bins patch room
+    → numberOf rows bins (run rows bins (analysed rows bins lent) calls) patch room ≡ 0
+good-is-accepted-in-a-run rows bins lent calls patch room s good =
+    good-is-accepted rows bins (run rows bins (analysed rows bins lent) calls) patch room
+    (run-is-sound rows bins (analysed rows bins lent) calls (analysed-is-sound rows bins lent s))
+    (run-is-fresh rows bins (analysed rows bins lent) calls (analysed-is-fresh rows bins lent)) good
+
+-- ---- (7) What is computed from patched curves, be it onsets, a tempo or a beat grid, is what a full run on the edited rows gives.
+
+pub same-answer : {A : Type 0} (answer : (flux threshold : List Float) → A) (rows bins : ℕ) (lent : Track) (calls : List Call) → Fresh rows bins lent
+    → answer (take rows (run rows bins lent calls .flux)) (take rows (run rows bins lent calls .threshold))
+    ≡ answer (fluxCurve rows bins (run rows bins lent calls .magnitudes)) (thresholdCurve rows bins (run rows bins lent calls .magnitudes))
+same-answer answer rows bins lent calls fresh =
+    let now = run-is-fresh rows bins lent calls fresh in
+    rw (now .flux, now .threshold)
+
+pub same-onsets : (rate rows bins : ℕ) (lent : Track) (calls : List Call) → Fresh rows bins lent
+    → onsetsOf (take rows (run rows bins lent calls .flux)) (take rows (run rows bins lent calls .threshold)) rate
+    ≡ onsetsOf (fluxCurve rows bins (run rows bins lent calls .magnitudes)) (thresholdCurve rows bins (run rows bins lent calls .magnitudes)) rate
+same-onsets rate rows bins lent calls fresh = same-answer (λ flux threshold. onsetsOf flux threshold rate) rows bins lent calls fresh

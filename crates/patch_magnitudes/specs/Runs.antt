@@ -1,0 +1,70 @@
+-- Demand 3: "Patching equals starting over .. Any run of patches, refused ones among them, ends as one fresh analysis of the last rows."
+-- The words in which that is said; proofs/Repairs has the theorems.
+use Prim.Native.Nat.{ℕ, _+_, _*_, _≤_, _<_}
+use mathlib.Core.Path.{_≡_}
+use mathlib.Core.Bool.{true}
+use mathlib.Core.Logic.{_⊎_}
+use mathlib.Core.List.{List, [], _∷_}
+use lib.ListN.{length, getD, take}
+use lib.Ieee.{Float, nan}
+use Rattle.numbers.specs.Limits.{mostRows, mostBins, magnitudeFine}
+use Rattle.numbers.specs.Lists.{curve, filled, row, every}
+use Rattle.onsets.specs.Flux.{fluxAt}
+use Rattle.onsets.specs.Threshold.{thresholdAt}
+use Rattle.patching.specs.Patches.{Patch, pastRow}
+use Rattle.patch_magnitudes.specs.Magnitudes.{Track, track, sortingRoom, after}
+
+-- the curves that demand 2 gives rows of magnitudes
+unfoldable pub fluxCurve : (rows bins : ℕ) → (magnitudes : List Float) → List Float
+fluxCurve rows bins magnitudes = curve (fluxAt magnitudes bins) rows
+
+unfoldable pub thresholdCurve : (rows bins : ℕ) → (magnitudes : List Float) → List Float
+thresholdCurve rows bins magnitudes = curve (thresholdAt (fluxCurve rows bins magnitudes)) rows
+
+-- the lent curves are those of the rows, on their first N slots; what follows them is the caller's
+pub record Fresh (rows bins : ℕ) (lent : Track) : Type 0 where
+  pub flux : take rows (lent .flux) ≡ fluxCurve rows bins (lent .magnitudes)
+  pub threshold : take rows (lent .threshold) ≡ thresholdCurve rows bins (lent .magnitudes)
+
+-- nothing differs but rows a up to b, flux slots f up to g and threshold slots t up to u
+pub record Kept (bins : ℕ) (patch : Patch) (f g t u : ℕ) (was now : Track) : Type 0 where
+  pub magnitudes-length : length (now .magnitudes) ≡ length (was .magnitudes)
+  pub flux-length : length (now .flux) ≡ length (was .flux)
+  pub threshold-length : length (now .threshold) ≡ length (was .threshold)
+  pub rows-stay : (i : ℕ) → (i < patch .start) ⊎ (pastRow bins patch ≤ i) → row (now .magnitudes) bins i ≡ row (was .magnitudes) bins i
+  pub flux-stays : (i : ℕ) → (i < f) ⊎ (g ≤ i) → getD (now .flux) i nan ≡ getD (was .flux) i nan
+  pub threshold-stays : (i : ℕ) → (i < t) ⊎ (u ≤ i) → getD (now .threshold) i nan ≡ getD (was .threshold) i nan
+
+-- a track that the analysis accepts
+pub record Sound (rows bins : ℕ) (lent : Track) : Type 0 where
+  pub rows-fit : rows ≤ mostRows
+  pub some-bins : 1 ≤ bins
+  pub bins-fit : bins ≤ mostBins
+  pub whole : length (lent .magnitudes) ≡ rows * bins
+  pub fine : every magnitudeFine (lent .magnitudes) ≡ true
+  pub flux-room : rows ≤ length (lent .flux)
+  pub threshold-room : rows ≤ length (lent .threshold)
+
+-- a patch that is no one's mistake: so many whole rows that end inside, of fine magnitudes, and the room to sort in
+pub record Good (rows bins : ℕ) (patch : Patch) (room : ℕ) : Type 0 where
+  pub count : ℕ
+  pub whole : length (patch .new) ≡ count * bins
+  pub inside : patch .start + count ≤ rows
+  pub fine : every magnitudeFine (patch .new) ≡ true
+  pub work-room : sortingRoom rows ≤ room
+
+-- one analysis from nothing: what `spectral_flux` and then `adaptive_threshold` write into lent curves
+unfoldable pub analysed : (rows bins : ℕ) → Track → Track
+analysed rows bins lent =
+    track (lent .magnitudes) (filled (fluxAt (lent .magnitudes) bins) (lent .flux) 0 rows)
+    (filled (thresholdAt (fluxCurve rows bins (lent .magnitudes))) (lent .threshold) 0 rows)
+
+-- one call: its patch, and how many slots it is lent to sort in
+pub record Call : Type 0 where
+  pub patch : Patch
+  pub room : ℕ
+
+-- the track after one call after the other, whatever each answers
+unfoldable pub run : (rows bins : ℕ) → Track → List Call → Track
+run rows bins lent [] = lent
+run rows bins lent (call ∷ calls) = run rows bins (after rows bins lent (call .patch) (call .room)) calls

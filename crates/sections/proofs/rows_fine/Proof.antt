@@ -1,0 +1,69 @@
+-- `sections::rows_fine` meets its contract. The invariant: the test of the whole list is the test of what is left. The measure is what is left of the list. Assumes
+-- nothing.
+use mathlib.Core.Path.{_≡_, refl, sym, _∙_}
+use Prim.Native.Nat.{_≤_, _-_}
+use native.Mathlib.Omega.{arith}
+use denote.Ref.{now}
+use borrow.Author.Tests.{lt-ltb, le-ltb}
+use lib.ListN.{length, drop}
+use Rattle.numbers.proofs.Everys.{every-step, every-end}
+use Rattle.numbers.specs.Lists.{every}
+use Rattle.sections.specs.Times.{rowFine}
+use borrow.Author.Needs.{needs}
+use Rattle.sections.proofs.rows_fine.Statement.{statement}
+use Rattle.sections.proofs.rows_fine.Tie as tie
+
+abbrev Inv-loop : tie.InvT-loop
+Inv-loop rows i₀ i = (i ≤ length rows) × (every rowFine rows ≡ every rowFine (drop i rows))
+
+abbrev μ-loop : tie.MeasureT-loop
+μ-loop rows i₀ i = length rows - i
+
+loop-holds : tie.Need-loop-holds Inv-loop μ-loop
+loop-holds c = (omega arith, refl)
+
+mul-if1 : tie.Need-mul-if1 Inv-loop μ-loop
+mul-if1 c = search needs
+
+shared-slice-read-if1 : tie.Need-shared-slice-read-if1 Inv-loop μ-loop
+shared-slice-read-if1 c = search needs
+
+cast-if1 : tie.Need-cast-if1 Inv-loop μ-loop
+cast-if1 c = omega (arith, c .shared-slice-known .given (c .before .before .loop .i))
+
+returns : tie.Need-returns Inv-loop μ-loop
+returns c =
+    let l = c .before .before .before in
+    sym (l .loop .inv .1 ∙ every-step rowFine (now (l .before .args .rows)) (l .loop .i) 0 (omega arith) ∙ simp (le-ltb _ _ (c .if1 .taken)))
+
+add-i : tie.Need-add-i Inv-loop μ-loop
+add-i c = search needs
+
+loop-less : tie.Need-loop-less Inv-loop μ-loop
+loop-less c = search needs
+
+loop-again : tie.Need-loop-again Inv-loop μ-loop
+loop-again c =
+    let l = c .before .before .before in
+    (omega arith, l .loop .inv .1 ∙ every-step rowFine (now (l .before .args .rows)) (l .loop .i) 0 (omega arith) ∙ simp (lt-ltb _ _ (c .if1 .left)))
+
+returns-2 : tie.Need-returns-2 Inv-loop μ-loop
+returns-2 c =
+    let l = c .before in
+    sym (l .loop .inv .1 ∙ every-end rowFine _ _ (c .loop-test .left))
+
+pub rows-fine-spec : {M : Type 1} → statement M
+rows-fine-spec =
+    tie.close
+    (tie.spec
+    Inv-loop
+    μ-loop
+    loop-holds
+    mul-if1
+    shared-slice-read-if1
+    cast-if1
+    returns
+    add-i
+    loop-less
+    loop-again
+    returns-2)

@@ -1,0 +1,5 @@
+pub mod Boundaries
+pub mod Confidence
+pub mod Times
+pub mod Outcomes
+pub mod Steps

@@ -1,0 +1,36 @@
+-- Document 01, "For each input, refused or not, a promise determines the result and each lent slot afterwards": what the two calls
+-- promise, as equations over the inputs.
+use Prim.Native.Nat.{ℕ}
+use mathlib.Core.Path.{_≡_}
+use mathlib.Core.List.{List, map}
+use lib.ListN.{length, drop}
+use lib.Ieee.{Float}
+use Rattle.numbers.specs.Rounded.{nought}
+use Rattle.numbers.specs.Lists.{listed}
+use Rattle.numbers.specs.Refusals.{unlessRefused}
+use Rattle.onsets.specs.Outcomes.{Written}
+use Rattle.sections.specs.Boundaries.{boundariesOf, sectionsOf, boundariesRefusal}
+use Rattle.sections.specs.Confidence.{confidenceOf}
+use Rattle.sections.specs.Times.{rowTime, timesRefusal}
+use Rattle.sections.specs.declared.Sections.{Sections}
+
+-- A call that finds these boundaries in a novelty curve: it answers this number, how many sections there are, how many boundaries it
+-- listed, and a confidence; a refusal answers zeros and changes no slot. Of the sorting room, which is left open: it keeps its length
+-- and its slots past the novelty's, and is unchanged where the number refuses.
+pub record Found (number : ℕ) (novelty : List Float) (bounds rows : List ℕ) (work : List Float) (answer : Sections) (rows′ : List ℕ) (work′ : List Float) : Type 0 where
+  pub number-is : answer .number ≡ number
+  pub sections-are : answer .sections ≡ unlessRefused number (sectionsOf (length novelty) (length bounds)) 0
+  pub count-is : answer .count ≡ unlessRefused number (length bounds) 0
+  pub confidence-is : answer .confidence ≡ unlessRefused number (confidenceOf novelty bounds) nought
+  pub rows-are : rows′ ≡ unlessRefused number (listed bounds rows) rows
+  pub work-length : length work′ ≡ length work
+  pub work-keeps : drop (unlessRefused number (length novelty) 0) work′ ≡ drop (unlessRefused number (length novelty) 0) work
+
+-- what `boundaries` promises
+abbrev pub BoundariesPromise : (novelty : List Float) (samples rate maxSections : ℕ) (rows : List ℕ) (work : List Float) (answer : Sections) (rows′ : List ℕ) (work′ : List Float) → Type 0
+BoundariesPromise novelty samples rate maxSections rows work =
+    Found (boundariesRefusal novelty samples rate (length rows) (length work)) novelty (boundariesOf novelty samples rate maxSections) rows work
+
+-- what `boundary_times` promises
+abbrev pub TimesPromise : (rows : List ℕ) (samples rate : ℕ) (ms : List Float) (answer : ℕ) (ms′ : List Float) → Type 0
+TimesPromise rows samples rate ms = Written (timesRefusal rows samples rate (length ms)) (listed (map (rowTime samples rate) rows) ms) ms

@@ -1,0 +1,25 @@
+-- Document 01, Sections: "listed ascending as rows (time: row·frame ms)".
+use Prim.Native.Nat.{ℕ}
+use mathlib.Core.Bool.{Bool, true, _&&_}
+use mathlib.Core.List.{List}
+use lib.Dec.{leb, ltb}
+use lib.ListN.{length}
+use lib.Ieee.{Float}
+use Rattle.numbers.specs.Rounded.{_⊗_, real}
+use Rattle.numbers.specs.Limits.{mostFeatures}
+use Rattle.numbers.specs.Refusals.{lowest}
+use Rattle.numbers.specs.Lists.{every}
+use Rattle.sections.specs.Boundaries.{frameMs, gridFine}
+
+-- the time of a row in milliseconds
+unfoldable pub rowTime : (samples rate row : ℕ) → Float
+rowTime samples rate row = real row ⊗ frameMs samples rate
+
+-- a row that a curve of at most 50,000 slots has
+abbrev pub rowFine : ℕ → Bool
+rowFine row = ltb row mostFeatures
+
+-- 1: a feature row has 1 to 2 ^ 31 samples, the rate is fine, and each row is below 50,000. 3: room for each row.
+unfoldable pub timesRefusal : List ℕ → (samples rate room : ℕ) → ℕ
+timesRefusal rows samples rate room =
+    lowest (gridFine samples rate && every rowFine rows) true (leb (length rows) room) true

@@ -1,0 +1,39 @@
+-- What follows from the promise of `stability_of`: any two outcomes have one answer and one length of each lent slice, and coincide in every slot
+-- that is not left open; and no more windows agree than there are, of which there are at most four. Assumes nothing.
+use mathlib.Core.Path.{_≡_, refl, sym, ap, _∙_}
+use mathlib.Core.Bool.{Bool, true, false}
+use mathlib.Core.List.{List}
+use Prim.Native.Nat.{ℕ, zero, suc, _+_, _/_, _≤_, min}
+use native.Mathlib.Nat.{min-le-left}
+use native.Mathlib.Omega.{arith}
+use lib.ListN.{length, drop}
+use lib.Ieee.{Float}
+use Rattle.numbers.specs.Rounded.{pick}
+use Rattle.numbers.specs.Refusals.{unlessRefused}
+use Rattle.lags.specs.declared.TempoOpts.{TempoOpts}
+use Rattle.stability.specs.declared.Steadiness.{Steadiness}
+use Rattle.stability.specs.Windows.{windowsOf, windowAt, windowAgrees, agreeingTo}
+use Rattle.stability.specs.Answers.{Lent, Steadied}
+
+pub lent-coincide : {number room : ℕ} {was xs ys : List Float} → Lent number room was xs → Lent number room was ys
+    → (length xs ≡ length ys) × (unlessRefused number (drop room xs) xs ≡ unlessRefused number (drop room ys) ys)
+lent-coincide p q = (p .same-length ∙ sym (q .same-length), p .kept ∙ sym (q .kept))
+
+pub coincide : {env : List Float} {rate : ℕ} {o : TempoOpts} {whole : ℕ} {clarity weight work : List Float}
+    {r s : Steadiness} {c d w v k l : List Float}
+    → Steadied env rate o whole clarity weight work r c w k → Steadied env rate o whole clarity weight work s d v l → r ≡ s
+coincide p q = p .answered ∙ sym (q .answered)
+
+pub windows-most : (n maxLag : ℕ) → windowsOf n maxLag ≤ 4
+unfolding windowsOf
+windows-most n maxLag = min-le-left 4 (n / (maxLag + 2))
+
+one-most : (b : Bool) → pick b 1 0 ≤ 1
+one-most true = omega arith
+one-most false = omega arith
+
+pub agreeing-most : (env : List Float) (rate minLag maxLag whole w k : ℕ) → agreeingTo env rate minLag maxLag whole w k ≤ k
+unfolding agreeingTo
+agreeing-most env rate minLag maxLag whole w zero = omega arith
+agreeing-most env rate minLag maxLag whole w (suc k) =
+    omega (arith, agreeing-most env rate minLag maxLag whole w k, one-most (windowAgrees (windowAt env w k) rate minLag maxLag whole))

@@ -1,0 +1,67 @@
+-- `stability::share` meets its contract, by its three returns. Assumes nothing.
+use mathlib.Core.Path.{_≡_}
+use Prim.Native.Nat.{ℕ, _≤_}
+use native.Mathlib.Omega.{arith}
+use Rattle.stability.proofs.Shares.{windows-fit, shared-without, shared-few, shared-counted}
+use borrow.Author.Needs.{needs}
+use Rattle.stability.proofs.share.Statement.{statement}
+use Rattle.stability.proofs.share.Tie as tie
+
+returns : tie.Need-returns
+returns c = shared-without _ _ _ _ _ _ _ _ (c .if1 .taken)
+
+add-least : tie.Need-add-least
+add-least c = search needs
+
+div-least : tie.Need-div-least
+div-least c = search needs
+
+least-requires : tie.Need-least-requires
+least-requires c κs = search needs
+
+returns-2 : tie.Need-returns-2
+returns-2 c = shared-few _ _ _ _ _ _ _ _ (c .before .before .if1 .left) _ (c .before .least .ensures) (c .if2 .taken)
+
+count-agreeing-requires : tie.Need-count-agreeing-requires
+count-agreeing-requires c κs =
+    let s = c .before .before .before .before .before .before .before .before .before .before in
+    let h : 1 ≤ c .before .before .before .before .least .result = omega arith in
+    (s .pre .0, ((h, windows-fit _ _ _ (c .before .before .before .before .least .ensures)), s .pre .1))
+
+nearest-u64-to-f64-requires : tie.Need-nearest-u64-to-f64-requires
+nearest-u64-to-f64-requires c κs = search needs
+
+nearest-u64-to-f64-requires-2 : tie.Need-nearest-u64-to-f64-requires-2
+nearest-u64-to-f64-requires-2 c κs = search needs
+
+same-length : tie.Need-same-length
+same-length c = search needs
+
+same-length-2 : tie.Need-same-length-2
+same-length-2 c = search needs
+
+same-length-3 : tie.Need-same-length-3
+same-length-3 c = search needs
+
+returns-3 : tie.Need-returns-3
+returns-3 c =
+    shared-counted _ _ _ _ _ _ _ _ (c .before .before .before .before .before .before .before .before .before .before .before .before .before .before .if1 .left) _ (c .before .before .before .before .before .before .before .before .before .before .before .before .before .least .ensures) _ _ _ _ _ _ (c .before .before .before .before .before .before .before .before .before .before .before .before .if2 .left) (c .before .before .before .before .before .before .before .before .count-agreeing .ensures)
+    (c .before .nearest-u64-to-f64 .ensures)
+    (c .nearest-u64-to-f642 .ensures)
+
+pub share-spec : {M : Type 1} → statement M
+share-spec =
+    tie.close
+    (tie.spec
+    returns
+    add-least
+    div-least
+    least-requires
+    returns-2
+    count-agreeing-requires
+    nearest-u64-to-f64-requires
+    nearest-u64-to-f64-requires-2
+    same-length
+    same-length-2
+    same-length-3
+    returns-3)

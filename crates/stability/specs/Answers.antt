@@ -1,0 +1,68 @@
+-- Document 01, Tempo and candidates, "Stability": what `stability_of` answers, and what it leaves in the slices that it is lent.
+use Prim.Native.Nat.{ℕ}
+use mathlib.Core.Bool.{Bool, true, _&&_, _||_}
+use mathlib.Core.List.{List}
+use mathlib.Core.Path.{_≡_}
+use lib.Dec.{ltb, leb, eqb}
+use lib.ListN.{length, drop}
+use lib.Ieee.{Float}
+use Rattle.numbers.specs.Rounded.{_⊘_, real, pick}
+use Rattle.numbers.specs.Limits.{mostPeriod, valueFine}
+use Rattle.numbers.specs.Refusals.{lowest, unlessRefused}
+use Rattle.numbers.specs.Lists.{every}
+use Rattle.lags.specs.declared.TempoOpts.{TempoOpts}
+use Rattle.lags.specs.Lags.{minLag, maxLag, lagRoom}
+use Rattle.tempo.specs.Answers.{searchBounds, searchRoom}
+use Rattle.stability.specs.declared.Stability.{Stability}
+use Rattle.stability.specs.declared.Stability.the-variants.{None, Share}
+use Rattle.stability.specs.declared.Steadiness.{Steadiness}
+use Rattle.stability.specs.Windows.{windowsOf, agreeingTo, Open}
+
+-- the number: what `estimate` looks at, and the whole lag, which is bounded as a period
+unfoldable pub stabilityRefusal : List Float → (rate : ℕ) → TempoOpts → (whole clarity weight work : ℕ) → ℕ
+unfolding searchBounds searchRoom
+stabilityRefusal env rate o whole clarity weight work =
+    lowest (leb whole mostPeriod && searchBounds env rate o) true (searchRoom rate o clarity weight work) (every valueFine env)
+
+-- "below 2, none"; "No tempo: no stability", where whole lag 0 stands for no tempo. "Answer: agreeing/w, with both counts."
+unfoldable pub shareOf : List Float → (rate minLag maxLag whole : ℕ) → Stability
+unfolding windowsOf agreeingTo
+shareOf env rate minLag maxLag whole =
+    let w = windowsOf (length env) maxLag in
+    let agreeing = agreeingTo env rate minLag maxLag whole w w in
+    pick (eqb whole 0 || ltb w 2) None (Share (real agreeing ⊘ real w) agreeing w)
+
+-- What an accepted call answers, and leaves of the slices that it is lent.
+pub record Shared
+    (env : List Float) (rate minLag maxLag whole : ℕ) (clarity weight work : List Float)
+    (answer : Stability) (clarity′ weight′ work′ : List Float) : Type 0 where
+  pub answered : answer ≡ shareOf env rate minLag maxLag whole
+  pub clarities : Open (lagRoom minLag maxLag) clarity clarity′
+  pub weights : Open (lagRoom minLag maxLag) weight weight′
+  pub works : Open (lagRoom minLag maxLag) work work′
+
+-- no stability, with the number of a refusal or 0
+abbrev pub withoutStability : ℕ → Steadiness
+withoutStability n = record { number = n; stability = None }
+
+-- the answer
+unfoldable pub steadinessOf : List Float → (rate : ℕ) → TempoOpts → (whole clarity weight work : ℕ) → Steadiness
+unfolding stabilityRefusal shareOf minLag maxLag
+steadinessOf env rate o whole clarity weight work =
+    let number = stabilityRefusal env rate o whole clarity weight work in
+    unlessRefused number (record { number = 0; stability = shareOf env rate (minLag rate o) (maxLag rate o) whole }) (withoutStability number)
+
+-- A lent slice afterwards: a refusal changes nothing, and else only the first slots, one a lag, may differ.
+pub record Lent (number room : ℕ) (was now′ : List Float) : Type 0 where
+  pub same-length : length now′ ≡ length was
+  pub kept : unlessRefused number (drop room now′) now′ ≡ unlessRefused number (drop room was) was
+
+-- The promise of `stability_of`: its answer is determined by the input. What the first slots of the lag curves' room and of the work slice hold
+-- afterwards is left open: they are of the last window that was searched, and no caller can use them.
+pub record Steadied
+    (env : List Float) (rate : ℕ) (o : TempoOpts) (whole : ℕ) (clarity weight work : List Float)
+    (answer : Steadiness) (clarity′ weight′ work′ : List Float) : Type 0 where
+  pub answered : answer ≡ steadinessOf env rate o whole (length clarity) (length weight) (length work)
+  pub clarities : Lent (stabilityRefusal env rate o whole (length clarity) (length weight) (length work)) (lagRoom (minLag rate o) (maxLag rate o)) clarity clarity′
+  pub weights : Lent (stabilityRefusal env rate o whole (length clarity) (length weight) (length work)) (lagRoom (minLag rate o) (maxLag rate o)) weight weight′
+  pub works : Lent (stabilityRefusal env rate o whole (length clarity) (length weight) (length work)) (lagRoom (minLag rate o) (maxLag rate o)) work work′

@@ -1,0 +1,122 @@
+-- What a patch leaves alone. A slot of the similarity depends on its two rows alone, and a slot of the novelty on the similarities of the rows from eight
+-- before it to seven after it alone. So where rows a to a + k - 1 are replaced, the other pairs keep their slots, and the rows further off their novelty.
+use mathlib.Core.Path.{_≡_, refl, sym, ap, _∙_}
+use mathlib.Core.Bool.{Bool, true, false, _&&_}
+use mathlib.Core.List.{List}
+use mathlib.Core.Logic.{_⊎_, inl, inr, ⊎-elim}
+use Prim.Native.Nat.{ℕ, zero, suc, _+_, _-_, _*_, _/_, _%_, _≤_, _<_, min}
+use native.Mathlib.Nat.{le-of-lt}
+use native.Mathlib.Omega.{arith}
+use lib.Dec.{leb}
+use lib.ListN.{length, getD}
+use lib.Ieee.{Float, nan}
+use Rattle.numbers.specs.Rounded.{_⊕_, _⊗_, nought, pick}
+use Rattle.numbers.specs.Lists.{curve, filled, over}
+use Rattle.numbers.proofs.Tests.{which, lt-or-le}
+use Rattle.numbers.proofs.Tabs.{local-curve}
+use Rattle.numbers.proofs.Overs.{row-over}
+use Rattle.structure.specs.Kernel.{kernelAt}
+use Rattle.structure.specs.Similarity.{featureRow, dotOf, normOf, similarityOf, slotAt, similarityAt}
+use Rattle.structure.specs.Novelty.{slotOf, likeness, inside, addTerm, addRow, noveltyAt, turns}
+use Rattle.structure.proofs.Terms.{slot-rising, slot-falling, Inside, inside-is, term-added, term-skipped, term-skipped-too}
+
+-- ---- similarity
+
+-- two rows the same, one slot
+pub slot-same : (f g : List Float) (rows i d : ℕ) → featureRow g i ≡ featureRow f i → featureRow g (i + d) ≡ featureRow f (i + d)
+    → slotAt g rows i d ≡ slotAt f rows i d
+unfolding slotAt
+slot-same f g rows i d e h =
+    ap (λ (x : List Float). pick (leb rows (i + d)) nought (similarityOf (dotOf x (featureRow g (i + d))) (normOf x) (normOf (featureRow g (i + d))))) e
+    ∙ ap (λ (y : List Float). pick (leb rows (i + d)) nought (similarityOf (dotOf (featureRow f i) y) (normOf (featureRow f i)) (normOf y))) h
+
+-- row t is not among the k rows from row a on
+abbrev pub Outside : (a k t : ℕ) → Type 0
+Outside a k t = (t < a) ⊎ (a + k ≤ t)
+
+-- k rows of the features from row a on are replaced by new
+module _ (features new : List Float) (rows a k : ℕ) (whole : length features ≡ rows * 16) (given : length new ≡ k * 16) (fit : a + k ≤ rows) where
+  pub slot-over : (i d : ℕ) → Outside a k i → Outside a k (i + d) → slotAt (over features (a * 16) new) rows i d ≡ slotAt features rows i d
+  slot-over i d h g =
+      slot-same features (over features (a * 16) new) rows i d
+      (row-over features new rows 16 a k nan whole given fit i h)
+      (row-over features new rows 16 a k nan whole given fit (i + d) g)
+
+  -- slot j of the flat slice
+  pub similarity-over : (j : ℕ) → Outside a k (j / 17) → Outside a k (j / 17 + j % 17)
+      → similarityAt (over features (a * 16) new) rows j ≡ similarityAt features rows j
+  unfolding similarityAt
+  similarity-over j h g = slot-over (j / 17) (j % 17) h g
+
+-- ---- novelty
+
+turns-same : {A : Type 0} (f g : ℕ → A → A) (s n : ℕ) (x : A) → ((p : ℕ) → s ≤ p → p < s + n → (y : A) → f p y ≡ g p y) → turns f s n x ≡ turns g s n x
+unfolding turns
+turns-same f g s zero x h = refl
+turns-same f g s (suc n) x h =
+    ap (turns f (suc s) n) (h s (omega arith) (omega arith) x)
+    ∙ turns-same f g (suc s) n (g s x) (λ p l u y. h p (omega arith) (omega arith) y)
+
+-- row p lies in the kernel around row i
+pub record Near (rows i p : ℕ) : Type 0 where
+  pub low : i ≤ p + 8
+  pub high : p < i + 8
+  pub in-rows : p < rows
+
+-- one similarity of each pair of rows in the kernel around row i, one novelty of row i
+module _ (s t : List Float) (rows i : ℕ) (same : (p q : ℕ) → Near rows i p → Near rows i q → likeness t p q ≡ likeness s p q) where
+  term-same : (u v : ℕ) → u < 16 → v < 16 → (sum : Float) → addTerm t rows i u v sum ≡ addTerm s rows i u v sum
+  term-same u v h k sum = go (which (inside rows i u)) (which (inside rows i v))
+    where
+      near : (p : ℕ) → p < 16 → Inside rows i p → Near rows i (i + p - 8)
+      near p l w = record { low = omega arith; high = omega arith; in-rows = omega arith }
+
+      go : (inside rows i u ≡ true) ⊎ (inside rows i u ≡ false) → (inside rows i v ≡ true) ⊎ (inside rows i v ≡ false)
+          → addTerm t rows i u v sum ≡ addTerm s rows i u v sum
+      go (inl a) (inl b) =
+          term-added t rows i u v sum a b
+          ∙ ap (λ (x : Float). sum ⊕ kernelAt u v ⊗ x) (same (i + u - 8) (i + v - 8) (near u h (inside-is rows i u a)) (near v k (inside-is rows i v b)))
+          ∙ sym (term-added s rows i u v sum a b)
+      go (inl a) (inr b) = term-skipped-too t rows i u v sum a b ∙ sym (term-skipped-too s rows i u v sum a b)
+      go (inr a) b = term-skipped t rows i u v sum a ∙ sym (term-skipped s rows i u v sum a)
+
+  pub novelty-same : noveltyAt t rows i ≡ noveltyAt s rows i
+  unfolding noveltyAt addRow
+  novelty-same =
+      turns-same (addRow t rows i) (addRow s rows i) 0 16 nought
+      (λ u l h y. turns-same (addTerm t rows i u) (addTerm s rows i u) 0 16 y (λ v m k x. term-same u v (omega arith) (omega arith) x))
+
+-- the similarities of the pairs that touch none of the k rows from row a on are the same
+module _ (s t : List Float) (rows a k : ℕ)
+    (same : (i d : ℕ) → d < 17 → i + d < rows → Outside a k i → Outside a k (i + d) → getD t (i * 17 + d) nan ≡ getD s (i * 17 + d) nan) where
+  likeness-kept : (p q : ℕ) → p < rows → q < rows → p < q + 17 → q < p + 17 → Outside a k p → Outside a k q → likeness t p q ≡ likeness s p q
+  unfolding likeness
+  likeness-kept p q h g l m u v =
+      ⊎-elim
+      (λ (r : p < q).
+      let e : p + (q - p) ≡ q = omega arith in
+      rw (slot-rising p q (le-of-lt r)) (same p (q - p) (omega arith) (omega arith) u (rw e v)))
+      (λ (r : q ≤ p).
+      let e : q + (p - q) ≡ p = omega arith in
+      rw (slot-falling p q r) (same q (p - q) (omega arith) (omega arith) v (rw e u)))
+      (lt-or-le p q)
+
+  -- so is the novelty of a row further off
+  pub novelty-kept : (i : ℕ) → (i + 8 ≤ a) ⊎ (a + k + 8 ≤ i) → noveltyAt t rows i ≡ noveltyAt s rows i
+  novelty-kept i far =
+      novelty-same s t rows i
+      (λ p q near-p near-q. likeness-kept p q (near-p .in-rows) (near-q .in-rows) (apart p q near-p near-q) (apart q p near-q near-p) (outside p near-p far) (outside q near-q far))
+    where
+      apart : (p q : ℕ) → Near rows i p → Near rows i q → p < q + 17
+      apart p q x y = omega arith
+
+      outside : (p : ℕ) → Near rows i p → (i + 8 ≤ a) ⊎ (a + k + 8 ≤ i) → Outside a k p
+      outside p x (inl f) = inl (omega arith)
+      outside p x (inr f) = inr (omega arith)
+
+  -- the whole curve: slots from seven rows before the first replaced row up to eight past the last, written again, make the new curve
+  pub novelty-local : 0 < k → a + k ≤ rows
+      → filled (noveltyAt t rows) (curve (noveltyAt s rows) rows) (a - 7) (min (a + k + 8) rows) ≡ curve (noveltyAt t rows) rows
+  novelty-local some fit =
+      local-curve (noveltyAt s rows) (noveltyAt t rows) rows (a - 7) (min (a + k + 8) rows) nan (omega arith) (omega arith)
+      (λ i h. ⊎-elim (λ (u : i < a - 7). novelty-kept i (inl (omega arith))) (λ (u : min (a + k + 8) rows ≤ i). novelty-kept i (inr (omega arith))))
