@@ -36,14 +36,14 @@ module _ (sum : ℕ → Float) (m : ℕ) (real : (p : ℕ) → p < m → T (not 
         below = omega arith;
         most = λ p q. ⊎-elim (λ (g : p < n). le-then-le (sum p) (sum k) (sum n) (w .most p g) (lt-is-le (sum k) (sum n) e))
             (λ (g : n ≤ p). let z : n ≡ p = omega arith in subst (λ (j : ℕ). le (sum j) (sum n) ≡ true) z (le-self (sum n) (real n h))) (lt-or-le p n);
-        before = λ p q. le-then-lt (sum p) (sum k) (sum n) (w .most p q) e
+        before = λ p q. le-then-lt (sum p) (sum k) (sum n) (w .most p q) e;
       })
       (λ e. rw e
       record {
         below = omega (arith, w .below);
         most = λ p q. ⊎-elim (λ (g : p < n). w .most p g)
             (λ (g : n ≤ p). let z : n ≡ p = omega arith in subst (λ (j : ℕ). le (sum j) (sum k) ≡ true) z (not-lt (sum k) (sum n) (real k (omega (arith, w .below))) (real n h) e)) (lt-or-le p n);
-        before = w .before
+        before = w .before;
       })
       (which (lt (sum k) (sum n)))
 
@@ -77,15 +77,15 @@ phase-greatest envelope beats meter fine few some =
     let sum = phaseSum envelope beats meter in
     let e : 1 + (meter - 1) ≡ meter = omega arith in
     let real : (p : ℕ) → p < meter → T (not (isNan (sum p))) = λ p q.
-        most-not-nan
-        (sum-within 52 150 (lit≤ tt) (lit≤ tt) (omega (arith, few, length-map (fluxAt envelope) (inPhase meter p 0 beats), length-phase meter p 0 beats))
-        (fluxes-within envelope (values-within envelope fine) (inPhase meter p 0 beats)))
+    most-not-nan
+    (sum-within 52 150 (lit≤ tt) (lit≤ tt) (omega (arith, few, length-map (fluxAt envelope) (inPhase meter p 0 beats), length-phase meter p 0 beats))
+    (fluxes-within envelope (values-within envelope fine) (inPhase meter p 0 beats)))
     in
     let one : First sum 1 0 =
-        record {
-          below = omega arith;
-          most = λ p q. let z : 0 ≡ p = omega arith in subst (λ (j : ℕ). le (sum j) (sum 0) ≡ true) z (le-self (sum 0) (real 0 (omega arith)));
-          before = λ p q. absurd (omega arith)
-        }
+    record {
+      below = omega arith;
+      most = λ p q. let z : 0 ≡ p = omega arith in subst (λ (j : ℕ). le (sum j) (sum 0) ≡ true) z (le-self (sum 0) (real 0 (omega arith)));
+      before = λ p q. absurd (omega arith);
+    }
     in
     subst (λ (j : ℕ). First sum j (firstGreatest sum 1 (meter - 1) 0)) e (first-of sum meter real 1 (meter - 1) 0 (omega arith) one)

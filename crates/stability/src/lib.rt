@@ -2,8 +2,11 @@
 //
 // Document 01, Tempo and candidates, "Stability". The Rust: tempo.rs `stability_of`.
 use crate::windows::count_agreeing;
-use lags::{TempoOpts, lag_range};
-use numbers::{MOST_PERIOD, OUT_OF_BOUNDS, least};
+use lags::TempoOpts;
+use lags::lag_range;
+use numbers::MOST_PERIOD;
+use numbers::OUT_OF_BOUNDS;
+use numbers::least;
 use tempo::search_refusal;
 ghost use mathlib.Core.Path.{_≡_};
 ghost use Prim.Native.Nat.{ℕ, _+_, _≤_, _<_};

@@ -2,10 +2,15 @@
 //
 // Document 01, Tempo and candidates, "Stability". The Rust: tempo.rs `stability_of`. The priors of the lags are the same in each window, so
 // they are computed once, into the work slice.
-use lags::curves::{energy_of, fill_clarity, fill_priors, mean_of, weigh};
+use lags::curves::energy_of;
+use lags::curves::fill_clarity;
+use lags::curves::fill_priors;
+use lags::curves::mean_of;
+use lags::curves::weigh;
 use lags::pairs::fold_fits;
 use lags::room_of;
-use tempo::search::{LEAST_ENERGY, lag_of_winner};
+use tempo::search::LEAST_ENERGY;
+use tempo::search::lag_of_winner;
 ghost use mathlib.Core.Path.{_≡_};
 ghost use Prim.Native.Nat.{ℕ, _+_, _*_, _≤_, _<_};
 ghost use lib.ListN.{length};

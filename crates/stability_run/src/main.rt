@@ -2,7 +2,8 @@
 ghost use Prim.Native.Nat.{_≤_};
 ghost use lib.ListN.{length};
 use lags::TempoOpts;
-use stability::{Stability, Steadiness};
+use stability::Stability;
+use stability::Steadiness;
 
 fn stability_is(s: Stability) {
     match s {

@@ -3,8 +3,16 @@
 // Document 01, Tempo and candidates. The Rust: tempo.rs `pick_tempo_peaks`.
 use crate::peaks::first_apart;
 use crate::search::winning_lag;
-use lags::{TempoOpts, bounds_fine, bpm_at, lag_range, room_of};
-use numbers::{MOST_ROWS, OUT_OF_BOUNDS, TOO_LITTLE_ROOM, WRONG_VALUE, values_fine};
+use lags::TempoOpts;
+use lags::bounds_fine;
+use lags::bpm_at;
+use lags::lag_range;
+use lags::room_of;
+use numbers::MOST_ROWS;
+use numbers::OUT_OF_BOUNDS;
+use numbers::TOO_LITTLE_ROOM;
+use numbers::WRONG_VALUE;
+use numbers::values_fine;
 ghost use mathlib.Core.Path.{_≡_};
 ghost use mathlib.Core.Bool.{true};
 ghost use Prim.Native.Nat.{ℕ, _+_, _≤_, _<_};

@@ -2,7 +2,9 @@
 ghost use Prim.Native.Nat.{_≤_};
 ghost use lib.ListN.{length};
 use lags::TempoOpts;
-use tempo::{Candidate, Tempo, TempoEstimate};
+use tempo::Candidate;
+use tempo::Tempo;
+use tempo::TempoEstimate;
 
 fn tempo_of(t: Tempo) {
     match t {
