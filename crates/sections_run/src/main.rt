@@ -15,6 +15,7 @@ fn main() {
     others();
     values();
     longest();
+    too_long();
     times();
     time_grids();
     gaps();
@@ -341,7 +342,7 @@ fn values() {
     two_values(b"a nan in 15 rows", 0.0, 0.0f64 / 0.0, 15, 26);
 }
 
-// 50,000 rows, with one peak, and one more.
+// 50,000 rows, with one peak.
 fn longest() {
     let mut curve = [0.0f64; 50001];
     curve[49997] = 5.0;
@@ -352,6 +353,12 @@ fn longest() {
     show::small(rows[0]);
     show::small(rows[1]);
     show::end();
+}
+
+fn too_long() {
+    let curve = [0.0f64; 50001];
+    let mut rows = [777u32; 50001];
+    let mut work = [9.0f64; 50001];
     show::words(b"50001 rows");
     answer(sections::boundaries(&curve, 192000, 48000, 10, &mut rows, &mut work));
     show::end();
