@@ -1,0 +1,289 @@
+-- Demand 3, "Patching equals starting over", for feature rows with their similarity and novelty curves. Each theorem holds for every input.
+-- `Patches` is what `patch_features` promises, `after` the track that it leaves. Assumes nothing.
+use mathlib.Core.Bool.{true, false}
+use mathlib.Core.List.{List, [], _∷_}
+use mathlib.Core.Logic.{_⊎_, inl, inr, ⊎-elim}
+use mathlib.Core.Path.{_≡_, refl, sym, ap, _∙_}
+use Prim.Native.Nat.{ℕ, zero, suc, _+_, _-_, _*_, _/_, _≤_, _<_, min}
+use native.Mathlib.Omega.{arith}
+use lib.Dec.{lit≤}
+use lib.Ieee.{Float, nan}
+use lib.ListN.{length, getD, take, drop}
+use Rattle.numbers.proofs.Overs.{length-over, every-over, patch-fits, row-over}
+use Rattle.numbers.proofs.Tabs.{length-tab, length-filled, filled-outside, getD-filled-in}
+use Rattle.numbers.proofs.Tests.{lt-or-le, pick-false, passed-does, and-both, lowest-0}
+use Rattle.numbers.specs.Limits.{featureWidth, valueFine, similarityFine}
+use Rattle.numbers.specs.Lists.{curve, every, filled}
+use Rattle.numbers.specs.Refusals.{unlessRefused}
+use Rattle.patching.proofs.Parts.{filled-first, filled-rest, filled-by}
+use Rattle.patching.proofs.Wholes.{whole-asked}
+use Rattle.patching.specs.Patches.{Patch, patchOf, pastRow, wholeRows, edited, unlessEmpty}
+use Rattle.structure.specs.Novelty.{noveltyAt, noveltyNumber, NoveltyDone}
+use Rattle.structure.specs.Similarity.{similarityAt, similarityNumber, SimilarityDone}
+use Rattle.patch_features.specs.declared.PatchedFeatures.{PatchedFeatures}
+use Rattle.patch_features.specs.declared.PatchedFeatures.the-variants.{Refused, Wrote}
+use Rattle.patch_features.specs.Features.{
+  Track,
+  track,
+  pairs,
+  similarityFirst,
+  similarityPast,
+  noveltyFirst,
+  noveltyPast,
+  touched,
+  mendedAt,
+  mendedSimilarity,
+  mendedNovelty,
+  mended,
+  valuesFine,
+  numberOf,
+  answered,
+  after,
+  Patches,
+}
+use Rattle.patch_features.specs.Runs.{similarityCurve, noveltyCurve, Fresh, Kept, Sound, Good, analysed, run}
+use Rattle.patch_features.proofs.Asked.{Asked, asked, bounds-asked, room-asked}
+use Rattle.patch_features.proofs.Fine.{similarities-are-fine, novelties-are-fine}
+use Rattle.patch_features.proofs.Mended.{similarity-mends, novelty-mends, similarity-rest, novelty-rest}
+
+-- What holds of the track before a patch, and of a mended one, holds after it: it is refused, empty, or mended.
+by-outcome : (P : Track → Type 0) (rows : ℕ) (was : Track) (patch : Patch) → P was → (Asked rows was patch → P (mended rows was patch)) → P (after rows was patch)
+unfolding after
+by-outcome P rows was patch kept done = go (numberOf rows was patch) (patch .new) refl
+  where
+    go : (n : ℕ) (new : List Float) → numberOf rows was patch ≡ n → P (unlessRefused n (unlessEmpty new (mended rows was patch) was) was)
+    go (suc n) new e = kept
+    go zero [] e = kept
+    go zero (x ∷ xs) e = done (asked rows was patch e)
+
+-- ---- (1) Where the lent curves were those of the rows, they are those of the edited rows afterwards, bit for bit.
+
+mends : (rows : ℕ) (was : Track) (patch : Patch) → Fresh rows was → Asked rows was patch → Fresh rows (mended rows was patch)
+unfolding mended
+mends rows was patch fresh a =
+    record {
+      similarity = similarity-mends rows was patch a (fresh .similarity);
+      novelty = novelty-mends rows was patch a fresh;
+    }
+
+pub patched-is-fresh : (rows : ℕ) (was : Track) (patch : Patch) → Fresh rows was → Fresh rows (after rows was patch)
+patched-is-fresh rows was patch fresh = by-outcome (Fresh rows) rows was patch fresh (mends rows was patch fresh)
+
+-- ---- (2) Outside the rows replaced, the pairs that touch one and the slots that the answer names nothing differs.
+
+unmoved : (patch : Patch) (f g t u : ℕ) (was : Track) → Kept patch f g t u was was
+unmoved patch f g t u was =
+    record {
+      features-length = refl;
+      similarity-length = refl;
+      novelty-length = refl;
+      rows-stay = λ i h. refl;
+      similarity-stays = λ k h. refl;
+      untouched-stay = λ k h. refl;
+      novelty-stays = λ i h. refl;
+    }
+
+-- a pair that touches no replaced row keeps its slot, inside the slots that are named too
+untouched-keeps : (features : List Float) (rows a b : ℕ) (lent : List Float) (f g : ℕ) → f ≤ g → g ≤ length lent → (k : ℕ) → touched a b k ≡ false
+    → getD (filled (mendedAt features rows a b lent) lent f g) k nan ≡ getD lent k nan
+unfolding mendedAt
+untouched-keeps features rows a b lent f g h l k e =
+    ⊎-elim (λ (u : k < f). filled-outside (mendedAt features rows a b lent) lent f g h l k nan (inl u))
+    (λ (u : f ≤ k). ⊎-elim
+    (λ (v : k < g). getD-filled-in (mendedAt features rows a b lent) lent f g h l k nan u v ∙ pick-false (touched a b k) _ _ e)
+    (λ (v : g ≤ k). filled-outside (mendedAt features rows a b lent) lent f g h l k nan (inr v))
+    (lt-or-le k g))
+    (lt-or-le k f)
+
+mended-keeps : (rows : ℕ) (was : Track) (patch : Patch) → Asked rows was patch
+    → Kept patch (similarityFirst patch) (similarityPast patch) (noveltyFirst patch) (noveltyPast rows patch) was (mended rows was patch)
+unfolding mended mendedSimilarity mendedNovelty edited
+mended-keeps rows was patch a =
+    let w = a .lengths in
+    let r = a .rooms in
+    let k = length (patch .new) / featureWidth in
+    record {
+      features-length = length-over _ _ _ (patch-fits (was .features) (patch .new) rows featureWidth (patch .start) k nan (w .whole) (w .new-whole) (w .inside));
+      similarity-length = length-filled _ (was .similarity) _ _ (omega arith) (omega arith);
+      novelty-length = length-filled _ (was .novelty) _ _ (omega arith) (omega arith);
+      rows-stay = row-over (was .features) (patch .new) rows featureWidth (patch .start) k nan (w .whole) (w .new-whole) (w .inside);
+      similarity-stays = λ i h. filled-outside _ (was .similarity) _ _ (omega arith) (omega arith) i nan h;
+      untouched-stay = λ i h. untouched-keeps _ rows (patch .start) (pastRow featureWidth patch) (was .similarity) _ _ (omega arith) (omega arith) i h;
+      novelty-stays = λ i h. filled-outside _ (was .novelty) _ _ (omega arith) (omega arith) i nan h;
+    }
+
+module _ (rows : ℕ) (was : Track) (f g t u : ℕ) (now : Track) where
+  kept-by : (n start : ℕ) (new : List Float) → numberOf rows was (patchOf start new) ≡ n → Wrote f g t u ≡ answered n rows (patchOf start new)
+      → now ≡ unlessRefused n (unlessEmpty new (mended rows was (patchOf start new)) was) was → Kept (patchOf start new) f g t u was now
+  unfolding answered
+  kept-by (suc n) start new e h k = let z : _≡_ {A = ℕ} 0 1 = cc in absurd (omega arith)
+  kept-by zero start [] e h k = rw k (unmoved (patchOf start []) f g t u was)
+  kept-by zero start (x ∷ xs) e h k =
+      let patch = patchOf start (x ∷ xs) in
+      let p : f ≡ similarityFirst patch = cc in
+      let q : g ≡ similarityPast patch = cc in
+      let r : t ≡ noveltyFirst patch = cc in
+      let s : u ≡ noveltyPast rows patch = cc in
+      rw (k, p, q, r, s) (mended-keeps rows was patch (asked rows was patch e))
+
+pub outside-stays : (rows : ℕ) (was : Track) (patch : Patch) (f g t u : ℕ) (now : Track) → Patches rows was patch (Wrote f g t u) now → Kept patch f g t u was now
+unfolding after
+outside-stays rows was patch f g t u now done =
+    kept-by rows was f g t u now (numberOf rows was patch) (patch .start) (patch .new) refl (done .answer-is) (done .track-is)
+
+-- ---- (3) An empty patch changes nothing. (4) A refused one changes nothing.
+
+empty-keeps-all : (n : ℕ) (was now : Track) → now ≡ unlessRefused n was was → now ≡ was
+empty-keeps-all zero was now e = e
+empty-keeps-all (suc n) was now e = e
+
+pub empty-changes-nothing : (rows : ℕ) (was : Track) (start : ℕ) (answer : PatchedFeatures) (now : Track) → Patches rows was (patchOf start []) answer now → now ≡ was
+unfolding after
+empty-changes-nothing rows was start answer now done = empty-keeps-all (numberOf rows was (patchOf start [])) was now (done .track-is)
+
+module _ (rows : ℕ) (was now : Track) (k : ℕ) where
+  refused-keeps-all : (n start : ℕ) (new : List Float) → Refused k ≡ answered n rows (patchOf start new)
+      → now ≡ unlessRefused n (unlessEmpty new (mended rows was (patchOf start new)) was) was → now ≡ was
+  unfolding answered
+  refused-keeps-all (suc n) start new e h = h
+  refused-keeps-all zero start [] e h = let z : _≡_ {A = ℕ} 0 1 = cc in absurd (omega arith)
+  refused-keeps-all zero start (x ∷ xs) e h = let z : _≡_ {A = ℕ} 0 1 = cc in absurd (omega arith)
+
+pub refused-changes-nothing : (rows : ℕ) (was : Track) (patch : Patch) (k : ℕ) (now : Track) → Patches rows was patch (Refused k) now → now ≡ was
+unfolding after
+refused-changes-nothing rows was patch k now done =
+    refused-keeps-all rows was now k (numberOf rows was patch) (patch .start) (patch .new) (done .answer-is) (done .track-is)
+
+-- ---- (5) Any run of patches on a fresh analysis, refused ones among them, ends as one fresh analysis of the last rows.
+
+-- what each step keeps: the curves are those of the rows, and what lies behind them is as it was lent
+record Going (rows : ℕ) (lent st : Track) : Type 0 where
+  fresh : Fresh rows st
+  similarity-rest : drop (pairs rows) (st .similarity) ≡ drop (pairs rows) (lent .similarity)
+  novelty-rest : drop rows (st .novelty) ≡ drop rows (lent .novelty)
+
+going-on : (rows : ℕ) (lent st : Track) (patch : Patch) → Going rows lent st → Asked rows st patch → Going rows lent (mended rows st patch)
+unfolding mended
+going-on rows lent st patch h a =
+    record {
+      fresh = mends rows st patch (h .fresh) a;
+      similarity-rest = similarity-rest rows st patch a ∙ h .similarity-rest;
+      novelty-rest = novelty-rest rows st patch a ∙ h .novelty-rest;
+    }
+
+run-going : (rows : ℕ) (lent st : Track) (patches : List Patch) → Going rows lent st → Going rows lent (run rows st patches)
+unfolding run
+run-going rows lent st [] h = h
+run-going rows lent st (patch ∷ patches) h =
+    run-going rows lent (after rows st patch) patches (by-outcome (Going rows lent) rows st patch h (going-on rows lent st patch h))
+
+module _ (rows : ℕ) (lent : Track) where
+  pub analysed-is-fresh : Fresh rows (analysed rows lent)
+  unfolding analysed similarityCurve noveltyCurve
+  analysed-is-fresh = record { similarity = filled-first _ (lent .similarity) (pairs rows); novelty = filled-first _ (lent .novelty) rows }
+
+  analysed-going : Going rows lent (analysed rows lent)
+  unfolding analysed
+  analysed-going =
+      record {
+        fresh = analysed-is-fresh;
+        similarity-rest = filled-rest _ (lent .similarity) (pairs rows);
+        novelty-rest = filled-rest _ (lent .novelty) rows;
+      }
+
+  going-is-analysed : (st : Track) → Going rows lent st → st ≡ analysed rows (track (st .features) (lent .similarity) (lent .novelty))
+  unfolding analysed similarityCurve noveltyCurve
+  going-is-analysed st h =
+      ap (λ (s : List Float). track (st .features) s (st .novelty))
+      (filled-by (similarityAt (st .features) rows) (lent .similarity) (st .similarity) (pairs rows) (h .fresh .similarity) (h .similarity-rest))
+      ∙ ap (λ (n : List Float). track (st .features) (filled (similarityAt (st .features) rows) (lent .similarity) 0 (pairs rows)) n)
+      (filled-by (noveltyAt (similarityCurve rows (st .features)) rows) (lent .novelty) (st .novelty) rows (h .fresh .novelty) (h .novelty-rest))
+
+pub run-is-one-analysis : (rows : ℕ) (lent : Track) (patches : List Patch)
+    → run rows (analysed rows lent) patches
+    ≡ analysed rows (track (run rows (analysed rows lent) patches .features) (lent .similarity) (lent .novelty))
+run-is-one-analysis rows lent patches =
+    going-is-analysed rows lent (run rows (analysed rows lent) patches) (run-going rows lent (analysed rows lent) patches (analysed-going rows lent))
+
+-- the same of curves that were fresh to begin with, wherever they came from
+pub run-is-fresh : (rows : ℕ) (lent : Track) (patches : List Patch) → Fresh rows lent → Fresh rows (run rows lent patches)
+run-is-fresh rows lent patches fresh =
+    run-going rows lent lent patches (record { fresh = fresh; similarity-rest = refl; novelty-rest = refl }) .fresh
+
+-- what the two calls of the analysis write, where neither refuses, is `analysed`
+pub calls-analyse : (rows : ℕ) (lent : Track) (similarity novelty : List Float)
+    → SimilarityDone (lent .features) rows (lent .similarity) 0 similarity
+    → NoveltyDone (take (pairs rows) similarity) rows (lent .novelty) 0 novelty
+    → track (lent .features) similarity novelty ≡ analysed rows lent
+unfolding analysed similarityCurve
+calls-analyse rows lent similarity novelty s n =
+    let f : similarity ≡ filled (similarityAt (lent .features) rows) (lent .similarity) 0 (pairs rows) = s .slots ∙ passed-does _ _ _ (sym (s .answer)) in
+    let c : take (pairs rows) similarity ≡ curve (similarityAt (lent .features) rows) (pairs rows) =
+    ap (take (pairs rows)) f ∙ filled-first (similarityAt (lent .features) rows) (lent .similarity) (pairs rows) in
+    let e : novelty ≡ filled (noveltyAt (take (pairs rows) similarity) rows) (lent .novelty) 0 rows = n .slots ∙ passed-does _ _ _ (sym (n .answer)) in
+    ap (λ (x : List Float). track (lent .features) x novelty) f
+    ∙ ap (track (lent .features) (filled (similarityAt (lent .features) rows) (lent .similarity) 0 (pairs rows)))
+    (e ∙ ap (λ (x : List Float). filled (noveltyAt x rows) (lent .novelty) 0 rows) c)
+
+-- ---- (6) A good patch on fresh curves is accepted, at any place of a run.
+
+pub good-is-accepted : (rows : ℕ) (was : Track) (patch : Patch) → Sound rows was → Fresh rows was → Good rows patch → numberOf rows was patch ≡ 0
+unfolding numberOf valuesFine
+good-is-accepted rows was patch sound fresh good =
+    let k : patch .start ≤ rows = let h : patch .start + good .count ≤ rows = good .inside in omega arith in
+    let lengths : wholeRows (length (was .features)) rows featureWidth (patch .start) (length (patch .new)) ≡ true =
+    rw (good .whole) (whole-asked (length (was .features)) rows featureWidth (patch .start) (good .count) (lit≤ tt) (sound .whole) (good .inside)) in
+    let similarity : every similarityFine (take (pairs rows) (was .similarity)) ≡ true =
+    rw (fresh .similarity) (similarities-are-fine rows (was .features) (sound .whole) (sound .fine)) in
+    let novelty : every valueFine (take rows (was .novelty)) ≡ true =
+    rw (fresh .novelty) (novelties-are-fine rows (was .features) (sound .whole) (sound .fine)) in
+    lowest-0 _ _ _ _ (bounds-asked rows (patch .start) (record { rows-fit = sound .rows-fit; starts = k })) lengths
+    (room-asked rows (length (was .similarity)) (length (was .novelty)) (record { similarity-room = sound .similarity-room; novelty-room = sound .novelty-room }))
+    (and-both (every valueFine (was .features)) _ (sound .fine)
+    (and-both (every valueFine (patch .new)) _ (good .fine) (and-both (every similarityFine (take (pairs rows) (was .similarity))) _ similarity novelty)))
+
+-- a patch leaves a sound track sound
+mended-sound : (rows : ℕ) (was : Track) (patch : Patch) → Sound rows was → Asked rows was patch → Sound rows (mended rows was patch)
+unfolding mended edited
+mended-sound rows was patch s a =
+    let kept = mended-keeps rows was patch a in
+    record {
+      rows-fit = s .rows-fit;
+      whole = kept .features-length ∙ s .whole;
+      fine = every-over valueFine (was .features) (patch .start * featureWidth) (patch .new) (s .fine) (a .new-fine);
+      similarity-room = rw (kept .similarity-length) (s .similarity-room);
+      novelty-room = rw (kept .novelty-length) (s .novelty-room);
+    }
+
+pub run-is-sound : (rows : ℕ) (lent : Track) (patches : List Patch) → Sound rows lent → Sound rows (run rows lent patches)
+unfolding run
+run-is-sound rows lent [] s = s
+run-is-sound rows lent (patch ∷ patches) s =
+    run-is-sound rows (after rows lent patch) patches (by-outcome (Sound rows) rows lent patch s (mended-sound rows lent patch s))
+
+pub analysed-is-sound : (rows : ℕ) (lent : Track) → Sound rows lent → Sound rows (analysed rows lent)
+unfolding analysed
+analysed-is-sound rows lent s =
+    record {
+      rows-fit = s .rows-fit;
+      whole = s .whole;
+      fine = s .fine;
+      similarity-room = rw (length-filled (similarityAt (lent .features) rows) (lent .similarity) 0 (pairs rows) (omega arith) (s .similarity-room)) (s .similarity-room);
+      novelty-room = rw (length-filled (noveltyAt (similarityCurve rows (lent .features)) rows) (lent .novelty) 0 rows (omega arith) (s .novelty-room)) (s .novelty-room);
+    }
+
+pub good-is-accepted-in-a-run : (rows : ℕ) (lent : Track) (patches : List Patch) (patch : Patch) → Sound rows lent → Good rows patch
+    → numberOf rows (run rows (analysed rows lent) patches) patch ≡ 0
+good-is-accepted-in-a-run rows lent patches patch s good =
+    good-is-accepted rows (run rows (analysed rows lent) patches) patch
+    (run-is-sound rows (analysed rows lent) patches (analysed-is-sound rows lent s))
+    (run-is-fresh rows (analysed rows lent) patches (analysed-is-fresh rows lent)) good
+
+-- ---- (7) What is computed from patched curves, as the sections are, is what a full run on the edited rows gives.
+
+pub same-answer : {A : Type 0} (answer : (similarity novelty : List Float) → A) (rows : ℕ) (lent : Track) (patches : List Patch) → Fresh rows lent
+    → answer (take (pairs rows) (run rows lent patches .similarity)) (take rows (run rows lent patches .novelty))
+    ≡ answer (similarityCurve rows (run rows lent patches .features)) (noveltyCurve rows (run rows lent patches .features))
+same-answer answer rows lent patches fresh =
+    let now = run-is-fresh rows lent patches fresh in
+    rw (now .similarity, now .novelty)

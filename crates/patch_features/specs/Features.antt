@@ -1,0 +1,127 @@
+-- Document 01, "Patching (added)", for feature rows with their similarity and novelty curves: "Copy in the rows, then write .. similarity and
+-- novelty, in demand 3's slots. .. novelty from the lent similarity. The answer names first and past-last slot written per curve;
+-- similarity's range ends at 17b, an empty patch names 0 to 0." Demand 3: "only pairs that touch a replaced row, and novelty slots a-7 to b+7".
+use Prim.Native.Nat.{ℕ, zero, suc, _+_, _-_, _*_, _/_, _%_, min}
+use mathlib.Core.Path.{_≡_}
+use mathlib.Core.Bool.{Bool, _&&_, _||_}
+use mathlib.Core.List.{List}
+use lib.Dec.{leb, ltb}
+use lib.ListN.{length, getD, take}
+use lib.Ieee.{Float, nan}
+use Rattle.numbers.specs.Limits.{mostFeatures, featureWidth, valueFine, similarityFine}
+use Rattle.numbers.specs.Lists.{filled, every}
+use Rattle.numbers.specs.Refusals.{lowest, unlessRefused}
+use Rattle.numbers.specs.Rounded.{pick}
+use Rattle.patching.specs.Patches.{Patch, pastRow, wholeRows, edited, unlessEmpty}
+use Rattle.structure.specs.Similarity.{bandWidth, similarityAt}
+use Rattle.structure.specs.Novelty.{noveltyAt}
+use Rattle.patch_features.specs.declared.PatchedFeatures.{PatchedFeatures}
+use Rattle.patch_features.specs.declared.PatchedFeatures.the-variants.{Refused, Wrote}
+
+-- what is lent and kept: the features, row behind row, and their two curves
+pub record Track : Type 0 where
+  pub features : List Float
+  pub similarity : List Float
+  pub novelty : List Float
+
+abbrev pub track : (features similarity novelty : List Float) → Track
+track features similarity novelty = record { features = features; similarity = similarity; novelty = novelty }
+
+-- how many rows after its own a similarity reaches
+abbrev pub band : ℕ
+band = 16
+
+-- how many rows a novelty reaches back, and on
+abbrev pub back : ℕ
+back = 8
+
+abbrev pub on : ℕ
+on = 7
+
+-- the slots of a similarity of so many rows
+abbrev pub pairs : (rows : ℕ) → ℕ
+pairs rows = rows * bandWidth
+
+-- ---- the slots that are named, first and past-last
+
+-- the first pair that touches row a is that of rows max(0, a - 16) and a
+abbrev pub firstPair : (start : ℕ) → ℕ
+firstPair start = (start - band) * bandWidth + min start band
+
+abbrev pub similarityFirst : Patch → ℕ
+similarityFirst patch = firstPair (patch .start)
+
+abbrev pub similarityPast : Patch → ℕ
+similarityPast patch = pastRow featureWidth patch * bandWidth
+
+abbrev pub noveltyFirst : Patch → ℕ
+noveltyFirst patch = patch .start - on
+
+abbrev pub noveltyPast : (rows : ℕ) → Patch → ℕ
+noveltyPast rows patch = min (pastRow featureWidth patch + back) rows
+
+-- ---- what they hold
+
+-- row i is one of rows a up to b
+unfoldable pub replaced : (a b i : ℕ) → Bool
+replaced a b i = leb a i && ltb i b
+
+-- slot k is of a pair that touches a replaced row: of row k / 17 and the row k % 17 after it
+unfoldable pub touched : (a b k : ℕ) → Bool
+touched a b k = replaced a b (k / bandWidth) || replaced a b (k / bandWidth + k % bandWidth)
+
+-- a slot of such a pair is written from the edited rows, and any other is as it was lent
+unfoldable pub mendedAt : (features : List Float) → (rows a b : ℕ) → (lent : List Float) → ℕ → Float
+mendedAt features rows a b lent k = pick (touched a b k) (similarityAt features rows k) (getD lent k nan)
+
+unfoldable pub mendedSimilarity : (rows : ℕ) → Track → Patch → List Float
+mendedSimilarity rows was patch =
+    filled (mendedAt (edited featureWidth (was .features) patch) rows (patch .start) (pastRow featureWidth patch) (was .similarity)) (was .similarity)
+    (similarityFirst patch) (similarityPast patch)
+
+-- the novelty curve with its slots written "from the lent similarity" as it then stands, of which the first 17 F slots are the curve
+unfoldable pub mendedNovelty : (rows : ℕ) → Track → Patch → List Float
+mendedNovelty rows was patch =
+    filled (noveltyAt (take (pairs rows) (mendedSimilarity rows was patch)) rows) (was .novelty) (noveltyFirst patch) (noveltyPast rows patch)
+
+-- what a patch that has rows makes of the track
+unfoldable pub mended : (rows : ℕ) → Track → Patch → Track
+mended rows was patch = track (edited featureWidth (was .features) patch) (mendedSimilarity rows was patch) (mendedNovelty rows was patch)
+
+-- ---- refusal
+
+-- number 1 else: rows 0 to 50,000, a start of at most the row count
+unfoldable pub boundsFine : (rows start : ℕ) → Bool
+boundsFine rows start = leb rows mostFeatures && leb start rows
+
+-- number 3 else: "A lent curve too short is number 3 here, never 2"
+unfoldable pub roomFine : (rows similarity novelty : ℕ) → Bool
+roomFine rows similarity novelty = leb (pairs rows) similarity && leb rows novelty
+
+-- number 4 else: "old and new rows and .. each lent curve's slots up to its formula; slots beyond are not read"
+unfoldable pub valuesFine : (rows : ℕ) → Track → (new : List Float) → Bool
+valuesFine rows was new =
+    every valueFine (was .features)
+    && (every valueFine new && (every similarityFine (take (pairs rows) (was .similarity)) && every valueFine (take rows (was .novelty))))
+
+unfoldable pub numberOf : (rows : ℕ) → Track → Patch → ℕ
+numberOf rows was patch =
+    lowest (boundsFine rows (patch .start)) (wholeRows (length (was .features)) rows featureWidth (patch .start) (length (patch .new)))
+    (roomFine rows (length (was .similarity)) (length (was .novelty))) (valuesFine rows was (patch .new))
+
+-- ---- the call
+
+-- each case's number and slots: `Refused k` is the number k of the table alone, `Wrote` is number 0 with both ranges
+unfoldable pub answered : (number rows : ℕ) → Patch → PatchedFeatures
+answered zero rows patch =
+    unlessEmpty (patch .new) (Wrote (similarityFirst patch) (similarityPast patch) (noveltyFirst patch) (noveltyPast rows patch)) (Wrote 0 0 0 0)
+answered (suc k) rows patch = Refused (suc k)
+
+-- the track afterwards: a refusal and an empty patch change nothing
+unfoldable pub after : (rows : ℕ) → Track → Patch → Track
+after rows was patch = unlessRefused (numberOf rows was patch) (unlessEmpty (patch .new) (mended rows was patch) was) was
+
+-- What `patch_features` promises: its answer, and the track afterwards, each slot of it.
+pub record Patches (rows : ℕ) (was : Track) (patch : Patch) (answer : PatchedFeatures) (now : Track) : Type 0 where
+  pub answer-is : answer ≡ answered (numberOf rows was patch) rows patch
+  pub track-is : now ≡ after rows was patch
