@@ -9,6 +9,7 @@ use native.Mathlib.Nat.{le-trans, le-of-eq, le-refl, one-mul}
 use native.Mathlib.Omega.{arith}
 use lib.Dec.{T, lit≤, lit<}
 use lib.ListN.{length}
+use borrow.Author.Tests.{le-leb, eq-eqb}
 use lib.Pow.{pow-add}
 use lib.Ieee.{Float, nan, binary64, neg, lt, le, eq, isNan, fits, ofBits}
 use lib.Ieee.Fits.{add-fits}
@@ -16,9 +17,10 @@ use lib.Ieee.Scale.{finite}
 use Rattle.numbers.specs.Rounded.{_⊕_, _⊗_, _⊘_, nought, pick, sumFrom, sumOf, held}
 use Rattle.numbers.specs.Limits.{valueFine, similarityTop, similarityFine, sized}
 use Rattle.numbers.specs.Lists.{row, every, curve}
-use Rattle.numbers.proofs.Tests.{which, lt-or-le, true-not-false, and-both, pick-true, pick-false}
+use Rattle.numbers.proofs.Tests.{which, lt-or-le, true-not-false, lowest-0, and-both, pick-true, pick-false}
 use Rattle.numbers.proofs.Overs.{length-row}
 use Rattle.numbers.proofs.Everys.{every-tab}
+use Rattle.numbers.proofs.Tabs.{length-tab}
 use Rattle.sizes.specs.Sizes.{Within, AtLeast, Plus, Each, none, more}
 use Rattle.sizes.proofs.Sizes.{mul-within, most-finite, most-not-nan, within-weaken}
 use Rattle.sizes.proofs.Lists.{values-within, each-row}
@@ -30,8 +32,10 @@ use Rattle.sizes.proofs.Monotone.{div-mono-left}
 use Rattle.sizes.proofs.Ranges.{held-low, held-high}
 use Rattle.roots.specs.Roots.{sqrtOf}
 use Rattle.roots.proofs.Roots.{sqrt-plus, sqrt-within, sqrt-within-plus, sqrt-least-any, sqrt-above-as}
-use Rattle.structure.specs.Similarity.{featureRow, products, dotOf, normOf, isZero, settled, slotAt, similarityAt}
+use Rattle.structure.specs.Similarity.{featureRow, products, dotOf, normOf, isZero, settled, slotAt, similarityAt, similarityNumber}
+use Rattle.structure.specs.Novelty.{noveltyNumber}
 use Rattle.structure.proofs.Slots.{slot-past, slot-of, norm-is}
+use Rattle.structure.proofs.Calls.{SimilarityPassed, similarity-passed}
 
 -- ---- dot products
 
@@ -179,3 +183,12 @@ module _ (features : List Float) (rows : ℕ) (whole : length features ≡ rows 
   -- all of them
   pub similarities-fine : every similarityFine (curve (similarityAt features rows) (rows * 17)) ≡ true
   similarities-fine = every-tab similarityFine (similarityAt features rows) 0 (rows * 17) (λ k l h. similarity-fine k (omega arith))
+
+-- novelty never refuses a similarity that `similarity` has written: with room for it, its number is 0
+pub genuine-passes : (features : List Float) (rows room slots : ℕ) → similarityNumber features rows room ≡ 0 → rows ≤ slots
+    → noveltyNumber (curve (similarityAt features rows) (rows * 17)) rows slots ≡ 0
+unfolding noveltyNumber
+genuine-passes features rows room slots e h =
+    let p = similarity-passed features rows room e in
+    lowest-0 _ _ _ _ (le-leb _ _ (p .few)) (eq-eqb _ _ (length-tab (similarityAt features rows) 0 (rows * 17))) (le-leb _ _ h)
+    (similarities-fine features rows (p .whole) (p .fine))

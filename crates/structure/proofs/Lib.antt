@@ -1,4 +1,5 @@
 mod Tables
+mod Examples
 pub mod Weights
 pub mod Terms
 mod Lanes

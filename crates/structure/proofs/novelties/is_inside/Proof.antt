@@ -5,26 +5,19 @@ use borrow.Author.Tests.{le-leb, lt-leb}
 use borrow.Author.Needs.{needs}
 use Rattle.structure.proofs.novelties.is_inside.Statement.{statement}
 use Rattle.structure.proofs.novelties.is_inside.Tie as tie
-use Rattle.structure.proofs.novelties.is_inside.Reads as reads
-use Rattle.structure.proofs.novelties.is_inside.Lts as lts
 
--- src/novelties.rt:27:10
 add-if1 : tie.Need-add-if1
 add-if1 c = search needs
 
--- src/novelties.rt:27:19
 add-result : tie.Need-add-result
 add-result c = search needs
 
--- src/novelties.rt:27:27
 add-result-2 : tie.Need-add-result-2
 add-result-2 c = search needs
 
--- src/novelties.rt:23:1
 returns : tie.Need-returns
 returns c = and-held _ _ (le-leb _ _ (c .if1 .taken))
 
--- src/novelties.rt:23:1
 returns-2 : tie.Need-returns-2
 returns-2 c = and-failed _ _ (lt-leb _ _ (c .if1 .left))
 

@@ -5,34 +5,25 @@ use Rattle.structure.proofs.Terms.{slot-rising, slot-falling}
 use borrow.Author.Needs.{needs}
 use Rattle.structure.proofs.novelties.slot_of.Statement.{statement}
 use Rattle.structure.proofs.novelties.slot_of.Tie as tie
-use Rattle.structure.proofs.novelties.slot_of.Reads as reads
-use Rattle.structure.proofs.novelties.slot_of.Lts as lts
 
--- src/novelties.rt:19:17
 mul-result : tie.Need-mul-result
 mul-result c = search needs
 
--- src/novelties.rt:19:17
 add-result : tie.Need-add-result
 add-result c = search needs
 
--- src/novelties.rt:19:43
 mul-result-2 : tie.Need-mul-result-2
 mul-result-2 c = search needs
 
--- src/novelties.rt:19:53
 sub-result : tie.Need-sub-result
 sub-result c = search needs
 
--- src/novelties.rt:19:43
 add-result-2 : tie.Need-add-result-2
 add-result-2 c = search needs
 
--- src/novelties.rt:15:1
 returns : tie.Need-returns
 returns c = sym (slot-rising _ _ (c .if1 .taken))
 
--- src/novelties.rt:15:1
 returns-2 : tie.Need-returns-2
 returns-2 c = sym (slot-falling _ _ (le-of-lt (c .if1 .left)))
 

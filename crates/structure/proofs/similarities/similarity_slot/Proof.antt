@@ -39,19 +39,19 @@ sixteen c =
     )
 
 dot-requires : tie.Need-dot-requires
-dot-requires c κs = (sixteen c .0, sixteen c .0)
+dot-requires c κs = let r = sixteen c in search needs
 
 sqrt-requires : tie.Need-sqrt-requires
 sqrt-requires c κs = search needs
 
 dot-requires-2 : tie.Need-dot-requires-2
-dot-requires-2 c κs = let r = sixteen (c .before .before) in (r .1, r .1)
+dot-requires-2 c κs = let r = sixteen (c .before .before) in search needs
 
 sqrt-requires-2 : tie.Need-sqrt-requires-2
 sqrt-requires-2 c κs = search needs
 
 dot-requires-3 : tie.Need-dot-requires-3
-dot-requires-3 c κs = sixteen (c .before .before .before .before)
+dot-requires-3 c κs = let r = sixteen (c .before .before .before .before) in search needs
 
 settle-requires : tie.Need-settle-requires
 settle-requires c κs = search needs
