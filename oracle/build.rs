@@ -1,5 +1,26 @@
 //! Copies the Rust of docs/src unchanged and appends to each file the lines of open/ that let the judge call its private functions.
+//!
+//! Some of what the port answers is a local value in the middle of one of those functions. There `{{name}}` in a file of open/ stands for
+//! lines of the original, found by how they begin and by what follows them, and copied as they are.
 use std::{env, fs, path::Path};
+
+// name, the file, the first words of the lines, and the words before which they end
+const CUTS: [(&str, &str, &str, &str); 7] = [
+    ("picking", "onsets", "    let min_gap_frames =\n", "    let times_ms: Vec<f64> = accepted"),
+    ("lag range", "tempo", "    let (lo, hi) = if opts.min_bpm <= opts.max_bpm {", "    let n = flux.len();\n    if n <= max_lag + 1"),
+    ("lag curves", "tempo", "    let n = flux.len();\n    // Mean-removed", "    // Winner: best weighted"),
+    ("scores", "tempo", "    let n = flux.len();\n    if n == 0 || period_frames == 0", "    let mut end = 0;"),
+    ("frame length", "structure", "    let frame_ms = frame_len as f64", "    let features = feature_vectors"),
+    ("boundaries", "structure", "    let min_gap_frames = ((MIN_BOUNDARY_GAP_S", "    if picked.is_empty()"),
+    ("report", "structure", "    if picked.is_empty() {\n        return one_section_report();", "/// Per-frame 16-dim feature"),
+];
+
+fn cut<'a>(text: &'a str, from: &str, to: &str) -> &'a str {
+    assert_eq!(text.matches(from).count(), 1, "not once in the original: {from}");
+    let start = text.find(from).unwrap();
+    let len = text[start..].find(to).unwrap_or_else(|| panic!("not in the original: {to}"));
+    &text[start..start + len]
+}
 
 fn main() {
     let here = env::var("CARGO_MANIFEST_DIR").unwrap();
@@ -10,9 +31,16 @@ fn main() {
         let open = Path::new(&here).join("open").join(format!("{name}.rs"));
         println!("cargo:rerun-if-changed={}", given.display());
         println!("cargo:rerun-if-changed={}", open.display());
-        let text = fs::read_to_string(&given).unwrap() + "\n" + &fs::read_to_string(&open).unwrap();
+        let original = fs::read_to_string(&given).unwrap();
+        let mut opened = fs::read_to_string(&open).unwrap();
+        for (what, file, from, to) in CUTS {
+            if file == name {
+                opened = opened.replace(&format!("{{{{{what}}}}}"), cut(&original, from, to).trim());
+            }
+        }
+        assert!(!opened.contains("{{"), "{}: lines that build.rs does not know", open.display());
         let to = Path::new(&out).join(format!("{name}.rs"));
-        fs::write(&to, text).unwrap();
+        fs::write(&to, original + "\n" + &opened).unwrap();
         modules += &format!("#[allow(dead_code)]\n#[path = {:?}]\npub mod {name};\n", to);
     }
     fs::write(Path::new(&out).join("original.rs"), modules).unwrap();

@@ -19,6 +19,16 @@ pub mod open {
         super::adaptive_threshold(flux)
     }
 
+    /// The frames that `analyze_stft` accepts, from a curve and a threshold that are given: its own lines.
+    pub fn pick_onsets(flux: &[f64], threshold: &[f64], sample_rate: u32) -> Vec<usize> {
+        let (stft, frame_count) = (stft(Vec::new(), sample_rate), flux.len());
+        if frame_count < 3 {
+            return Vec::new();
+        }
+        {{picking}}
+        accepted
+    }
+
     pub fn median_of(values: &[f64]) -> f64 {
         super::median_of(values)
     }

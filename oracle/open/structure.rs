@@ -24,6 +24,23 @@ pub mod open {
         }
     }
 
+    /// What `detect_structure` reports of a novelty curve that is given, for frames of so many samples, and the rows of its boundaries: its
+    /// own lines. They end with the function's own brace.
+    pub fn sections(novelty: &[f64], frame_len: usize, sample_rate: u32, opts: &StructureOpts, rows: &mut Vec<usize>) -> StructureReport {
+        let frame_count = novelty.len();
+        if frame_count == 0 {
+            return empty_report();
+        }
+        {{frame length}}
+        {{boundaries}}
+        rows.clone_from(&picked);
+        {{report}}
+
+    /// The time of a boundary: its row times the length of a frame.
+    pub fn boundary_ms(row: usize, frame_len: usize, sample_rate: u32) -> f64 {
+        row as f64 * (frame_len as f64 / f64::from(sample_rate) * 1000.0)
+    }
+
     pub fn pick_boundaries(novelty: &[f64], min_gap_frames: usize, max_boundaries: usize) -> Vec<usize> {
         super::pick_boundaries(novelty, min_gap_frames, max_boundaries)
     }

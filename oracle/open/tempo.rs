@@ -13,12 +13,28 @@ pub mod open {
         super::estimate_from_parts(stft, onsets, sample_rate, opts)
     }
 
+    pub fn frame_rate(sample_rate: u32) -> f64 {
+        f64::from(sample_rate) / onsets::HOP as f64
+    }
+
+    /// The least and the greatest lag that `estimate_from_parts` searches: its own lines.
+    pub fn lag_range(opts: &TempoOpts, frame_rate: f64) -> (usize, usize) {
+        {{lag range}}
+        (min_lag, max_lag)
+    }
+
     pub fn pick_tempo_peaks(flux: &[f64], min_lag: usize, max_lag: usize, frame_rate: f64) -> Option<Picked> {
         super::pick_tempo_peaks(flux, min_lag, max_lag, frame_rate).map(|p| Picked {
             winner_lag: p.winner_lag,
             winner_salience: p.winner_salience,
             peaks: p.peaks,
         })
+    }
+
+    /// The two lag curves that `pick_tempo_peaks` makes, or nothing where the envelope is flat: its own lines.
+    pub fn lag_curves(flux: &[f64], min_lag: usize, max_lag: usize, frame_rate: f64) -> Option<(Vec<f64>, Vec<f64>)> {
+        {{lag curves}}
+        Some((clarity, weighted))
     }
 
     pub fn stability_of(flux: &[f64], min_lag: usize, max_lag: usize, frame_rate: f64, global_lag: usize) -> Option<f64> {
@@ -35,6 +51,19 @@ pub mod open {
 
     pub fn beat_grid(flux: &[f64], period_frames: usize) -> Vec<usize> {
         super::beat_grid(flux, period_frames, BEAT_DP_LAMBDA)
+    }
+
+    /// The scores and links that `beat_grid` walks back, or nothing where it has no beats: its own lines.
+    pub fn scores(flux: &[f64], period_frames: usize) -> Option<(Vec<f64>, Vec<Option<usize>>)> {
+        let mut made = None;
+        let _: Vec<usize> = scores_into(flux, period_frames, BEAT_DP_LAMBDA, &mut made);
+        made
+    }
+
+    fn scores_into(flux: &[f64], period_frames: usize, lambda: f64, made: &mut Option<(Vec<f64>, Vec<Option<usize>>)>) -> Vec<usize> {
+        {{scores}}
+        *made = Some((score, back));
+        Vec::new()
     }
 
     pub fn downbeat_phase(flux: &[f64], beat_frames: &[usize], beats_per_bar: usize) -> usize {
