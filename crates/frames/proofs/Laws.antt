@@ -2,7 +2,7 @@
 use mathlib.Core.Path.{_≡_, refl, sym, _∙_, ap}
 use mathlib.Core.Bool.{Bool, true, false, _&&_, not}
 use mathlib.Core.List.{List, []}
-use Prim.Native.Nat.{ℕ, _+_, _*_, _/_, _-_, _<_, _≤_}
+use Prim.Native.Nat.{ℕ, zero, suc, _+_, _*_, _/_, _-_, _<_, _≤_}
 use native.Mathlib.Nat.{le-div-iff-mul-le, suc-mul, sub-self, add-sub-cancel-left, mul-div-cancel}
 use native.Mathlib.Omega.{arith}
 use lib.Dec.{ltb, eqb}
@@ -61,11 +61,17 @@ module _ (s : List Float) (b t : ℕ) (w : isWhole (length s) b t ≡ false) whe
   unfolding rowOf
   past-holds = rw (w, drop-length s, sub-self (length s))
 
--- of a slab of n whole rows, row t below n
-pub row-of-whole : (s : List Float) (n b t : ℕ) → 0 < b → length s ≡ n * b → t < n → rowOf s b t ≡ row s b t
-row-of-whole s n b t hb e h =
+-- a slab of n rows has n whole ones
+rows-are : (s : List Float) (n b t : ℕ) → 0 < b → length s ≡ n * b → t < n → t < length s / b
+rows-are s n b t hb e h =
     let q : length s / b ≡ n = ap (λ (k : ℕ). k / b) e ∙ mul-div-cancel n hb in
-    whole-is-row s b t (is-whole (length s) b t hb (omega arith))
+    omega arith
+
+-- of a slab of n rows, row t below n, with zero bins too
+pub row-of-rows : (s : List Float) (n b t : ℕ) → length s ≡ n * b → t < n → rowOf s b t ≡ row s b t
+unfolding rowOf row
+row-of-rows s n zero t e h = rw (no-bins (length s) 0 t refl)
+row-of-rows s n (suc b) t e h = whole-is-row s (suc b) t (is-whole (length s) (suc b) t (omega arith) (rows-are s n (suc b) t (omega arith) e h))
 
 -- the same slot of the same memory
 pub same-place : (memory first a b : ℕ) → a ≡ b → _≡_ {A = ℕ × ℕ} (memory, b * 4 + first) (memory, a * 4 + first)

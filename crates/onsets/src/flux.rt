@@ -106,17 +106,16 @@ pub fn flux_slot(slab: &[f32], rows: usize, bins: usize, t: usize) -> f64
     if t == 0 {
         return 0.0;
     }
-    rise(row_of(slab, rows, bins, t - 1), row_of(slab, rows, bins, t))
+    rise(row_at(slab, rows, bins, t - 1), row_at(slab, rows, bins, t))
 }
 
-fn row_of(slab: &[f32], rows: usize, bins: usize, t: usize) -> &[f32]
+// Row t, by the frame reader.
+fn row_at(slab: &[f32], rows: usize, bins: usize, t: usize) -> &[f32]
     requires { ⌜ length (now slab) ≡ rows * bins ⌝ }
     requires { ⌜ t < rows ⌝ }
     ensures { λ r. ⌜ now r ≡ row (now (slab .entry)) bins t ⌝ }
 {
-    let start = t * bins;
-    let end = start + bins;
-    &slab[start..end]
+    frames::row_of(slab, bins, t)
 }
 
 // One row over the row before it.
@@ -161,11 +160,11 @@ fn flux_four(slab: &[f32], rows: usize, bins: usize, t: usize) -> Four
     requires { ⌜ (1 ≤ t) × (t + 4 ≤ rows) ⌝ }
     ensures { λ r. ⌜ (r .a ≡ fluxAt (now (slab .entry)) bins t) × (r .b ≡ fluxAt (now (slab .entry)) bins (t + 1)) × (r .c ≡ fluxAt (now (slab .entry)) bins (t + 2)) × (r .d ≡ fluxAt (now (slab .entry)) bins (t + 3)) ⌝ }
 {
-    let p = row_of(slab, rows, bins, t - 1);
-    let q = row_of(slab, rows, bins, t);
-    let r = row_of(slab, rows, bins, t + 1);
-    let s = row_of(slab, rows, bins, t + 2);
-    let u = row_of(slab, rows, bins, t + 3);
+    let p = row_at(slab, rows, bins, t - 1);
+    let q = row_at(slab, rows, bins, t);
+    let r = row_at(slab, rows, bins, t + 1);
+    let s = row_at(slab, rows, bins, t + 2);
+    let u = row_at(slab, rows, bins, t + 3);
     rise_four(p, q, r, s, u)
 }
 

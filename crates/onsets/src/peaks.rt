@@ -141,7 +141,8 @@ fn visit(group: Group, curve: &[f64], level: f64, gap: usize, t: usize, frames: 
     group
 }
 
-fn is_peak(curve: &[f64], level: f64, t: usize) -> bool
+// Inner: whether slot t is a peak above the level.
+pub fn is_peak(curve: &[f64], level: f64, t: usize) -> bool
     requires { ⌜ (1 ≤ t) × (t + 1 < length (now curve)) ⌝ }
     ensures { λ r. ⌜ r ≡ isPeak (now (curve .entry)) level t ⌝ }
 {

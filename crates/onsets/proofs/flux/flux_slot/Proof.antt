@@ -14,14 +14,14 @@ returns : tie.Need-returns
 unfolding fluxAt
 returns c = rw (c .if1 .taken)
 
-sub-row-of : tie.Need-sub-row-of
-sub-row-of c = search needs
+sub-row-at : tie.Need-sub-row-at
+sub-row-at c = search needs
 
-row-of-requires : tie.Need-row-of-requires
-row-of-requires c κs = search needs
+row-at-requires : tie.Need-row-at-requires
+row-at-requires c κs = search needs
 
-row-of-requires-2 : tie.Need-row-of-requires-2
-row-of-requires-2 c κs = search needs
+row-at-requires-2 : tie.Need-row-at-requires-2
+row-at-requires-2 c κs = search needs
 
 rise-requires : tie.Need-rise-requires
 rise-requires c κs =
@@ -29,16 +29,16 @@ rise-requires c κs =
     let s = now (start .args .slab) in
     let n = start .args .rows in
     let b = start .args .bins in
-    rw (c .before .row-of .ensures, c .row-of2 .ensures) (
+    rw (c .before .row-at .ensures, c .row-at2 .ensures) (
       length-row s n b _ (start .pre .0) (omega arith) ∙ sym (length-row s n b _ (start .pre .0) (omega arith)),
       (every-row magnitudeFine s b _ (start .pre .1 .0), every-row magnitudeFine s b _ (start .pre .1 .0)),
     )
 
 returns-2 : tie.Need-returns-2
 returns-2 c =
-    c .rise .ensures ∙ rw (c .before .before .row-of .ensures, c .before .row-of2 .ensures) (sym (flux-from _ _ _ _ (omega arith)))
+    c .rise .ensures ∙ rw (c .before .before .row-at .ensures, c .before .row-at2 .ensures) (sym (flux-from _ _ _ _ (omega arith)))
 
 pub flux-slot-spec : {M : Type 1} → statement M
 flux-slot-spec =
     tie.close
-    (tie.spec returns sub-row-of row-of-requires row-of-requires-2 rise-requires returns-2)
+    (tie.spec returns sub-row-at row-at-requires row-at-requires-2 rise-requires returns-2)
