@@ -1,5 +1,6 @@
--- Nothing in a lag curve is a NaN. Values of size at most 2 ^ 150, up to 2 ^ 20 of them, have a mean of at most 2 ^ 150, products about it
--- of at most 2 ^ 302 and sums of at most 2 ^ 322; the energy is above 2 ^ -52, so each quotient is finite, and held to 0..1. Assumes nothing.
+-- No clarity is a NaN: each lies within 0..1. Values of size at most 2 ^ 150, up to 2 ^ 20 of them, have a mean of at most 2 ^ 150, products
+-- about it of at most 2 ^ 302 and sums of at most 2 ^ 322; the energy is above 2 ^ -52, so each quotient is finite, and held to 0..1. What is
+-- said here of clarity alone, crate tempo's FirstGreatest says of the weights. Assumes nothing.
 use mathlib.Core.Path.{_≡_, refl, sym, _∙_}
 use mathlib.Core.Bool.{true}
 use mathlib.Core.List.{List}
@@ -9,7 +10,7 @@ use native.Mathlib.Omega.{arith}
 use lib.Dec.{lit<, lit≤}
 use lib.Ieee.{Float, nan, binary64, lt, le, ofBits}
 use lib.ListN.{length}
-use Rattle.numbers.specs.Rounded.{_⊗_, _⊘_, bits, real, nought}
+use Rattle.numbers.specs.Rounded.{_⊗_, _⊘_, real, nought}
 use Rattle.numbers.specs.Limits.{mostRows, valueFine}
 use Rattle.numbers.specs.Lists.{curve, every}
 use Rattle.numbers.proofs.Tabs.{length-tab}
@@ -22,11 +23,7 @@ use Rattle.sizes.proofs.Sums.{sum-most, sum-within}
 use Rattle.sizes.proofs.Order.{lt-is-le}
 use Rattle.sizes.proofs.Ranges.{le-least, held-low, held-high}
 use Rattle.lags.specs.Lags.{one}
-use Rattle.lags.specs.Curves.{meanOf, centred, productAt, lagSum, energyOf, clarityAt}
-
--- 2 ^ -52, which the energy of a tempo is above
-abbrev pub leastEnergy : Float
-leastEnergy = bits 0x3CB0_0000_0000_0000
+use Rattle.lags.specs.Curves.{meanOf, centred, productAt, lagSum, energyOf, leastEnergy, clarityAt}
 
 least-size : Plus leastEnergy × AtLeast 1 (2 ^ 52) leastEnergy
 unfolding ofBits isPlus

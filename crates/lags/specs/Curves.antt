@@ -31,6 +31,10 @@ unfoldable pub energyOf : List Float → Float → Float
 unfolding lagSum
 energyOf env mean = lagSum env mean 0
 
+-- 2^-52, the difference of 1 and the next float: "No tempo if .. the sum of squares about the mean ac0 is at most 2^-52"
+abbrev pub leastEnergy : Float
+leastEnergy = bits 0x3CB0_0000_0000_0000
+
 -- "Clarity at a lag: (sum·n)/(ac0·(n-lag)) .. held to 0..1", where the envelope has n slots
 unfoldable pub clarityOf : Float → Float → ℕ → ℕ → Float
 unfolding held

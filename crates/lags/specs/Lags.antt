@@ -18,7 +18,7 @@ one = bits 0x3FF0_0000_0000_0000
 abbrev pub sixty : Float
 sixty = bits 0x404E_0000_0000_0000
 
--- 256, samples of a frame
+-- 256, samples from one frame to the next
 abbrev pub hop : Float
 hop = bits 0x4070_0000_0000_0000
 

@@ -1,9 +1,9 @@
-// Pairs of lags: distinct candidates, and a window's lag that agrees with the whole lag.
+// Pairs of lags: distinct candidates, and a fold of a window's lag beside the whole lag.
 //
-// Document 01, Tempo and candidates. The Rust: tempo.rs `pick_tempo_peaks` ("distinct") and `lags_agree_mod_octave`.
+// Document 01, Tempo and candidates. The Rust: tempo.rs `pick_tempo_peaks` ("distinct") and the test in `lags_agree_mod_octave`.
 use crate::float_of;
 ghost use mathlib.Core.Path.{_≡_};
-ghost use Rattle.lags.specs.Pairs.{distance, apart, foldFits, agrees};
+ghost use Rattle.lags.specs.Pairs.{distance, apart, foldFits};
 
 // |x - y|
 fn distance_of(x: f64, y: f64) -> f64
@@ -28,19 +28,4 @@ pub fn fold_fits(whole: usize, lag: usize, fold: f64) -> bool
     let l = float_of(lag);
     let w = float_of(whole);
     distance_of(l * fold, w) / w <= 0.05
-}
-
-// Inner: whether a window's lag agrees with the whole lag, up to two octaves either way. The search ends at the first fold that fits.
-pub fn lags_agree(whole: usize, lag: usize) -> bool
-    ensures { λ r. ⌜ r ≡ agrees whole lag ⌝ }
-{
-    let folds = [0.25, 0.5, 1.0, 2.0, 4.0];
-    let mut k = 0;
-    while k < 5 {
-        if fold_fits(whole, lag, folds[k]) {
-            return true;
-        }
-        k += 1;
-    }
-    false
 }

@@ -72,9 +72,9 @@ fn no_bounds() {
 
 fn answer(yes: bool) {
     if yes {
-        show::words(b" yes\n");
+        show::words(b" yes");
     } else {
-        show::words(b" no\n");
+        show::words(b" no");
     }
 }
 
@@ -83,6 +83,7 @@ fn apart(lag: usize, accepted: usize) {
     show::count(lag);
     show::count(accepted);
     answer(lags::pairs::lags_apart(lag, accepted));
+    show::end();
 }
 
 fn pairs_apart() {
@@ -99,33 +100,43 @@ fn pairs_apart() {
     apart(40499, 45000);
 }
 
-fn agree(whole: usize, lag: usize) {
-    show::words(b"agree");
+fn fold(whole: usize, lag: usize, by: f64) {
+    answer(lags::pairs::fold_fits(whole, lag, by));
+}
+
+// whether each fold of a window's lag fits the whole lag; one that does is enough for the window to agree
+fn folds(whole: usize, lag: usize) {
+    show::words(b"folds");
     show::count(whole);
     show::count(lag);
-    answer(lags::pairs::lags_agree(whole, lag));
+    fold(whole, lag, 0.25);
+    fold(whole, lag, 0.5);
+    fold(whole, lag, 1.0);
+    fold(whole, lag, 2.0);
+    fold(whole, lag, 4.0);
+    show::end();
 }
 
-fn near_pairs_agree() {
-    agree(40, 38);
-    agree(40, 42);
-    agree(40, 19);
-    agree(40, 37);
-    agree(40, 43);
-    agree(40, 10);
-    agree(40, 21);
-    agree(40, 80);
+fn near_folds() {
+    folds(40, 38);
+    folds(40, 42);
+    folds(40, 19);
+    folds(40, 37);
+    folds(40, 43);
+    folds(40, 10);
+    folds(40, 21);
+    folds(40, 80);
 }
 
-fn far_pairs_agree() {
-    agree(40, 84);
-    agree(40, 85);
-    agree(40, 160);
-    agree(40, 9);
-    agree(1, 1);
-    agree(0, 1);
-    agree(0, 0);
-    agree(45000, 11250);
+fn far_folds() {
+    folds(40, 84);
+    folds(40, 85);
+    folds(40, 160);
+    folds(40, 9);
+    folds(1, 1);
+    folds(0, 1);
+    folds(0, 0);
+    folds(45000, 11250);
 }
 
 // Lags 3 to 20: twice eight side by side, and two more. The last two slots lent are not written.
@@ -218,8 +229,8 @@ fn main() {
     far_bounds();
     no_bounds();
     pairs_apart();
-    near_pairs_agree();
-    far_pairs_agree();
+    near_folds();
+    far_folds();
     beat();
     long_beat();
 }

@@ -17,9 +17,9 @@ use Rattle.numbers.proofs.Tests.{pick-true, pick-false}
 use Rattle.numbers.proofs.Overs.{row-end}
 use Rattle.lags.specs.Lags.{lagRoom}
 use Rattle.lags.specs.Pairs.{agrees}
-use Rattle.lags.specs.Curves.{meanOf, energyOf, clarityFrom, weightedBy}
+use Rattle.lags.specs.Curves.{meanOf, energyOf, leastEnergy, clarityFrom, weightedBy}
 use Rattle.lags.proofs.Weights.{weighted-by-is}
-use Rattle.tempo.specs.Search.{leastEnergy, winnerLag, winningLag, Searched}
+use Rattle.tempo.specs.Search.{winnerLag, winningLag, Searched}
 use Rattle.tempo.proofs.Searches.{searched-flat, searched-written}
 use Rattle.stability.specs.Windows.{windowsOf, windowAt, windowAgrees, agreeingTo, Open, WindowSearched}
 use Rattle.stability.proofs.Rooms.{open-same, open-filled}

@@ -11,18 +11,30 @@ use lib.Ieee.{Float}
 use Rattle.numbers.specs.Rounded.{pick}
 use Rattle.numbers.specs.Refusals.{unlessRefused}
 use Rattle.lags.specs.declared.TempoOpts.{TempoOpts}
+use Rattle.lags.specs.Lags.{minLag, maxLag}
 use Rattle.stability.specs.declared.Steadiness.{Steadiness}
 use Rattle.stability.specs.Windows.{windowsOf, windowAt, windowAgrees, agreeingTo}
-use Rattle.stability.specs.Answers.{Lent, Steadied}
+use Rattle.stability.specs.Answers.{stabilityRefusal, leftOpen, Lent, Steadied}
 
-pub lent-coincide : {number room : ℕ} {was xs ys : List Float} → Lent number room was xs → Lent number room was ys
-    → (length xs ≡ length ys) × (unlessRefused number (drop room xs) xs ≡ unlessRefused number (drop room ys) ys)
+-- two slices that are alike in length and in every slot that is not left open
+abbrev pub Alike : (number room : ℕ) → (xs ys : List Float) → Type 0
+Alike number room xs ys = (length xs ≡ length ys) × (unlessRefused number (drop room xs) xs ≡ unlessRefused number (drop room ys) ys)
+
+pub lent-coincide : {number room : ℕ} {was xs ys : List Float} → Lent number room was xs → Lent number room was ys → Alike number room xs ys
 lent-coincide p q = (p .same-length ∙ sym (q .same-length), p .kept ∙ sym (q .kept))
 
 pub coincide : {env : List Float} {rate : ℕ} {o : TempoOpts} {whole : ℕ} {clarity weight work : List Float}
     {r s : Steadiness} {c d w v k l : List Float}
-    → Steadied env rate o whole clarity weight work r c w k → Steadied env rate o whole clarity weight work s d v l → r ≡ s
-coincide p q = p .answered ∙ sym (q .answered)
+    → Steadied env rate o whole clarity weight work r c w k → Steadied env rate o whole clarity weight work s d v l
+    → let number = stabilityRefusal env rate o whole (length clarity) (length weight) (length work) in
+    let room = leftOpen (length env) (minLag rate o) (maxLag rate o) whole in
+    (r ≡ s) × Alike number room c d × Alike number room w v × Alike number room k l
+coincide p q = (
+  p .answered ∙ sym (q .answered),
+  lent-coincide (p .clarities) (q .clarities),
+  lent-coincide (p .weights) (q .weights),
+  lent-coincide (p .works) (q .works),
+)
 
 pub windows-most : (n maxLag : ℕ) → windowsOf n maxLag ≤ 4
 unfolding windowsOf

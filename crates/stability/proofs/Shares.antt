@@ -1,5 +1,5 @@
 -- What `stability_of` answers and leaves, by whether there is a whole lag and whether there are windows enough. Assumes nothing.
-use mathlib.Core.Path.{_≡_, refl, sym, ap, _∙_}
+use mathlib.Core.Path.{_≡_, refl, sym, ap, _∙_, subst}
 use mathlib.Core.Bool.{Bool, true, false, _||_}
 use mathlib.Core.List.{List}
 use Prim.Native.Nat.{ℕ, _+_, _*_, _/_, _≤_, _<_, min}
@@ -19,7 +19,7 @@ use Rattle.stability.specs.declared.Stability.{Stability}
 use Rattle.stability.specs.declared.Stability.the-variants.{None, Share}
 use Rattle.stability.specs.declared.Steadiness.{Steadiness}
 use Rattle.stability.specs.Windows.{windowsOf, agreeingTo, Open, Counted}
-use Rattle.stability.specs.Answers.{stabilityRefusal, shareOf, withoutStability, steadinessOf, Shared, Lent, Steadied}
+use Rattle.stability.specs.Answers.{stabilityRefusal, leftOpen, shareOf, withoutStability, steadinessOf, Shared, Lent, Steadied}
 use Rattle.stability.proofs.Rooms.{open-same}
 
 -- so many windows lie in the envelope
@@ -39,6 +39,10 @@ module _ (env : List Float) (rate minLag maxLag whole : ℕ) (clarity weight wor
   share-some : eqb whole 0 || ltb (windowsOf (length env) maxLag) 2 ≡ false → shareOf env rate minLag maxLag whole ≡ shareIn (windowsOf (length env) maxLag)
   unfolding shareOf
   share-some e = pick-false (eqb whole 0 || ltb (windowsOf (length env) maxLag) 2) None (shareIn (windowsOf (length env) maxLag)) e
+
+  open-some : eqb whole 0 || ltb (windowsOf (length env) maxLag) 2 ≡ false → lagRoom minLag maxLag ≡ leftOpen (length env) minLag maxLag whole
+  unfolding leftOpen
+  open-some e = sym (pick-false (eqb whole 0 || ltb (windowsOf (length env) maxLag) 2) 0 (lagRoom minLag maxLag) e)
 
   unsearched : shareOf env rate minLag maxLag whole ≡ None → Shared env rate minLag maxLag whole clarity weight work None clarity weight work
   unsearched e = record { answered = sym e; clarities = open-same _ clarity; weights = open-same _ weight; works = open-same _ work }
@@ -63,15 +67,16 @@ module _ (env : List Float) (rate minLag maxLag whole : ℕ) (clarity weight wor
         → Counted env rate minLag maxLag whole w clarity weight work a clarity′ weight′ work′ → top ≡ real a → bottom ≡ real w
         → Shared env rate minLag maxLag whole clarity weight work (Share (top ⊘ bottom) a w) clarity′ weight′ work′
     shared-counted clarity′ weight′ work′ a top bottom h c t u =
+        let room = open-some (test false (le-ltb w 2 h)) in
         record {
           answered =
               ap (λ (x : Float). Share (x ⊘ bottom) a w) t
               ∙ ap (λ (x : Float). Share (real a ⊘ x) a w) u
               ∙ ap (λ (x : ℕ). Share (real x ⊘ real w) x w) (c .count)
               ∙ ap shareIn windows-are ∙ sym (share-some (test false (le-ltb w 2 h)));
-          clarities = c .clarities;
-          weights = c .weights;
-          works = c .works;
+          clarities = subst (λ (k : ℕ). Open k clarity clarity′) room (c .clarities);
+          weights = subst (λ (k : ℕ). Open k weight weight′) room (c .weights);
+          works = subst (λ (k : ℕ). Open k work work′) room (c .works);
         }
 
 -- ---- every call

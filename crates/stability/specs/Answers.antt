@@ -32,14 +32,19 @@ shareOf env rate minLag maxLag whole =
     let agreeing = agreeingTo env rate minLag maxLag whole w w in
     pick (eqb whole 0 || ltb w 2) None (Share (real agreeing ⊘ real w) agreeing w)
 
+-- the slots of each lent slice that are left open: one a lag where windows are searched, and none where there is no stability
+unfoldable pub leftOpen : (n minLag maxLag whole : ℕ) → ℕ
+unfolding windowsOf
+leftOpen n minLag maxLag whole = pick (eqb whole 0 || ltb (windowsOf n maxLag) 2) 0 (lagRoom minLag maxLag)
+
 -- What an accepted call answers, and leaves of the slices that it is lent.
 pub record Shared
     (env : List Float) (rate minLag maxLag whole : ℕ) (clarity weight work : List Float)
     (answer : Stability) (clarity′ weight′ work′ : List Float) : Type 0 where
   pub answered : answer ≡ shareOf env rate minLag maxLag whole
-  pub clarities : Open (lagRoom minLag maxLag) clarity clarity′
-  pub weights : Open (lagRoom minLag maxLag) weight weight′
-  pub works : Open (lagRoom minLag maxLag) work work′
+  pub clarities : Open (leftOpen (length env) minLag maxLag whole) clarity clarity′
+  pub weights : Open (leftOpen (length env) minLag maxLag whole) weight weight′
+  pub works : Open (leftOpen (length env) minLag maxLag whole) work work′
 
 -- no stability, with the number of a refusal or 0
 abbrev pub withoutStability : ℕ → Steadiness
@@ -52,17 +57,18 @@ steadinessOf env rate o whole clarity weight work =
     let number = stabilityRefusal env rate o whole clarity weight work in
     unlessRefused number (record { number = 0; stability = shareOf env rate (minLag rate o) (maxLag rate o) whole }) (withoutStability number)
 
--- A lent slice afterwards: a refusal changes nothing, and else only the first slots, one a lag, may differ.
+-- A lent slice afterwards: a refusal changes nothing, and else only the first slots, as many as are left open, may differ.
 pub record Lent (number room : ℕ) (was now′ : List Float) : Type 0 where
   pub same-length : length now′ ≡ length was
   pub kept : unlessRefused number (drop room now′) now′ ≡ unlessRefused number (drop room was) was
 
--- The promise of `stability_of`: its answer is determined by the input. What the first slots of the lag curves' room and of the work slice hold
--- afterwards is left open: they are of the last window that was searched, and no caller can use them.
+-- The promise of `stability_of`: its answer is determined by the input. Where windows are searched, what the first slots of the lag curves' room
+-- and of the work slice hold afterwards is left open: they are of the last window that was searched, and no caller has a use for them. Where none
+-- is, every slot is as it was.
 pub record Steadied
     (env : List Float) (rate : ℕ) (o : TempoOpts) (whole : ℕ) (clarity weight work : List Float)
     (answer : Steadiness) (clarity′ weight′ work′ : List Float) : Type 0 where
   pub answered : answer ≡ steadinessOf env rate o whole (length clarity) (length weight) (length work)
-  pub clarities : Lent (stabilityRefusal env rate o whole (length clarity) (length weight) (length work)) (lagRoom (minLag rate o) (maxLag rate o)) clarity clarity′
-  pub weights : Lent (stabilityRefusal env rate o whole (length clarity) (length weight) (length work)) (lagRoom (minLag rate o) (maxLag rate o)) weight weight′
-  pub works : Lent (stabilityRefusal env rate o whole (length clarity) (length weight) (length work)) (lagRoom (minLag rate o) (maxLag rate o)) work work′
+  pub clarities : Lent (stabilityRefusal env rate o whole (length clarity) (length weight) (length work)) (leftOpen (length env) (minLag rate o) (maxLag rate o) whole) clarity clarity′
+  pub weights : Lent (stabilityRefusal env rate o whole (length clarity) (length weight) (length work)) (leftOpen (length env) (minLag rate o) (maxLag rate o) whole) weight weight′
+  pub works : Lent (stabilityRefusal env rate o whole (length clarity) (length weight) (length work)) (leftOpen (length env) (minLag rate o) (maxLag rate o) whole) work work′

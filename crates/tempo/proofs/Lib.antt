@@ -1,5 +1,6 @@
 -- The laws that other crates cite.
 pub mod Winners
+pub mod FirstGreatest
 pub mod Refusals
 pub mod Searches
 pub mod Promises

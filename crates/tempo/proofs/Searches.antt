@@ -12,8 +12,8 @@ use Rattle.numbers.specs.Lists.{curve, filled}
 use Rattle.numbers.proofs.Tests.{pick-true, pick-false}
 use Rattle.numbers.proofs.Tabs.{length-tab, filled-whole}
 use Rattle.lags.specs.Lags.{lagRoom}
-use Rattle.lags.specs.Curves.{meanOf, energyOf, clarityFrom, weightFrom}
-use Rattle.tempo.specs.Search.{leastEnergy, flat, clarityRule, weightRule, weightCurve, winnerLag, winningLag, Searched}
+use Rattle.lags.specs.Curves.{meanOf, energyOf, leastEnergy, clarityFrom, weightFrom}
+use Rattle.tempo.specs.Search.{flat, clarityRule, weightRule, weightCurve, winnerLag, winningLag, Searched}
 
 -- the first slots of a list that was filled are the curve
 pub curve-part : (f : ℕ → Float) (was now′ : List Float) (room : ℕ) → now′ ≡ filled f was 0 room → take (room - 0) (drop 0 now′) ≡ curve f room

@@ -22,16 +22,10 @@ use Rattle.tempo.specs.declared.TempoEstimate.{TempoEstimate}
 use Rattle.tempo.specs.Candidates.{winnerOf}
 use Rattle.tempo.specs.Search.{flat, clarityRule, weightRule, clarityCurve, weightCurve, winnerAbove, winnerLag, winningLag, Searched}
 use Rattle.tempo.specs.Answers.{withoutTempo, foundOf, tooLittle, unwritten, tempoOf, curveOf, Told, searchRefusal, estimateOf, Estimated}
+use Rattle.tempo.proofs.Choices.{or-right}
 use Rattle.tempo.proofs.Winners.{winner-below}
 use Rattle.tempo.proofs.Refusals.{Ranged}
 use Rattle.tempo.proofs.Searches.{curve-part}
-
-or-right : (a b : Bool) → a || b ≡ false → b ≡ false
-or-right true b e = absurd (gone e)
-  where
-    gone : true ≡ false → ⊥
-    gone e = let z : _≡_ {A = ℕ} 0 1 = cc in omega arith
-or-right false b e = e
 
 -- an envelope that is searched is longer than each lag
 pub long-enough : (n onsets maxLag : ℕ) → tooLittle n onsets maxLag ≡ false → maxLag + 1 < n

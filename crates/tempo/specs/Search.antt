@@ -5,15 +5,11 @@ use mathlib.Core.List.{List}
 use mathlib.Core.Path.{_≡_}
 use lib.ListN.{getD}
 use lib.Ieee.{Float, nan, lt, le}
-use Rattle.numbers.specs.Rounded.{bits, nought, pick}
+use Rattle.numbers.specs.Rounded.{nought, pick}
 use Rattle.numbers.specs.Lists.{curve, filled}
 use Rattle.lags.specs.Lags.{lagRoom}
-use Rattle.lags.specs.Curves.{meanOf, energyOf, clarityFrom, weightFrom}
+use Rattle.lags.specs.Curves.{meanOf, energyOf, leastEnergy, clarityFrom, weightFrom}
 use Rattle.tempo.specs.Candidates.{winnerOf}
-
--- 2^-52, the difference of 1 and the next float
-abbrev pub leastEnergy : Float
-leastEnergy = bits 0x3CB0_0000_0000_0000
 
 -- "the sum of squares about the mean ac0"
 abbrev pub ac0Of : List Float → Float

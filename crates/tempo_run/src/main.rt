@@ -120,6 +120,24 @@ fn contents() {
     four_lags(b"energy below 2^-52:", &fainter, 2);
 }
 
+// 2^-27 and its negative, twice: the sum of squares about the mean is 2^-52 itself. One value a little larger, and it is above.
+fn least_energies() {
+    let x = 0.000000007450580596923828125f64;
+    let least = [x, -x, x, -x, 0.0, 0.0, 0.0, 0.0];
+    let wider = [x, -x, x, -0.00000000745059, 0.0, 0.0, 0.0, 0.0];
+    four_lags(b"energy of 2^-52:", &least, 2);
+    four_lags(b"energy just above 2^-52:", &wider, 2);
+}
+
+// At lag 2 the one product is -2^-900, and the clarity rounds to -0, which holding to a range keeps.
+fn minus_zero() {
+    let m = 1427247692705959881058285969449495136382746624.0f64;
+    let d = 1.0 / m;
+    let faint = -(d * d * d * d * d * d * d);
+    let e = [m, 0.0, faint, 0.0, 0.0, 0.0, 0.0, -m];
+    four_lags(b"a clarity of -0:", &e, 2);
+}
+
 fn negatives() {
     let down = [0.0f64, -3.0, 0.0, -1.0, 0.0, -3.0, 0.0, -1.0];
     let large = [
@@ -758,6 +776,8 @@ fn track() {
 fn main() {
     lengths();
     contents();
+    least_energies();
+    minus_zero();
     negatives();
     values();
     rates();

@@ -17,11 +17,6 @@ use Rattle.stability.proofs.Rooms.{open-same, open-then, open-filled}
 use Rattle.stability.proofs.Parts.{window-ends, part-is, part-long, next-without, next-agrees, next-differs}
 use Rattle.stability.proofs.windows.count_agreeing.Statement.{statement}
 use Rattle.stability.proofs.windows.count_agreeing.Tie as tie
-use Rattle.stability.proofs.windows.count_agreeing.Reads as reads
-use Rattle.stability.proofs.windows.count_agreeing.Lts as lts
-use Rattle.lags.proofs.curves.fill_priors.Reads as fill-priors-reads
-use Rattle.lags.proofs.pairs.fold_fits.Reads as fold-fits-reads
-use Rattle.stability.proofs.windows.window_lag.Reads as window-lag-reads
 
 abbrev Inv-loop : tie.InvT-loop
 Inv-loop envelope rate min-lag max-lag whole-lag windows clarity weight work folds₀ slots agreeing₀ i from to lag k₀ agreeing k =
@@ -41,15 +36,12 @@ Inv-windows envelope rate min-lag max-lag whole-lag windows clarity₀ weight₀
 abbrev μ-windows : tie.MeasureT-windows
 μ-windows envelope rate min-lag max-lag whole-lag windows clarity₀ weight₀ work folds₀ slots agreeing₀ i₀ clarity weight agreeing i = windows - i
 
--- src/windows.rt:62:5
 fill-priors-requires : tie.Need-fill-priors-requires Inv-loop μ-loop Inv-windows μ-windows
 fill-priors-requires c κs = search needs
 
--- src/windows.rt:64:17
 div-slots : tie.Need-div-slots Inv-loop μ-loop Inv-windows μ-windows
 div-slots c = search needs
 
--- src/windows.rt:67:5
 windows-holds : tie.Need-windows-holds Inv-loop μ-loop Inv-windows μ-windows
 unfolding agreeingTo
 windows-holds c = (search needs, search needs, refl, open-same _ _, open-same _ _)
@@ -101,15 +93,12 @@ found c =
     c .window-lag .ensures .winner (a .rate) _ (s .pre .1 .1 .2) (c .before .before .before .before .before .before .before .before .before .fill-priors .ensures)
     ∙ ap (λ (x : List Float). winningLag x (a .rate) (a .min-lag) (a .max-lag)) (part-is (a .envelope .now) (a .windows) (c .before .before .before .before .before .before .windows .i))
 
--- src/windows.rt:71:9
 add-i : tie.Need-add-i Inv-loop μ-loop Inv-windows μ-windows
 add-i c = search needs
 
--- src/windows.rt:67:5
 windows-less : tie.Need-windows-less Inv-loop μ-loop Inv-windows μ-windows
 windows-less c = search needs
 
--- src/windows.rt:67:5
 windows-again : tie.Need-windows-again Inv-loop μ-loop Inv-windows μ-windows
 windows-again c = (
   omega arith,
@@ -119,16 +108,13 @@ windows-again c = (
   open-then _ _ _ _ (c .before .before .before .before .before .before .before .before .before .before .before .windows .inv .4) (c .before .before .before .before .before .window-lag .ensures .weights),
 )
 
--- src/windows.rt:76:9
 loop-holds : tie.Need-loop-holds Inv-loop μ-loop Inv-windows μ-windows
 unfolding agrees
 loop-holds c = (search needs, refl, refl)
 
--- src/windows.rt:67:5
 windows-less-2 : tie.Need-windows-less-2 Inv-loop μ-loop Inv-windows μ-windows
 windows-less-2 c = search needs
 
--- src/windows.rt:67:5
 windows-again-2 : tie.Need-windows-again-2 Inv-loop μ-loop Inv-windows μ-windows
 windows-again-2 c =
     let l = c .before .loop in
@@ -140,27 +126,21 @@ windows-again-2 c =
       open-then _ _ _ _ (c .before .before .before .before .before .before .before .before .before .before .before .before .before .windows .inv .4) (c .before .before .before .before .before .before .before .window-lag .ensures .weights),
     )
 
--- src/windows.rt:77:42
 mul-fold-fits : tie.Need-mul-fold-fits Inv-loop μ-loop Inv-windows μ-windows
 mul-fold-fits c = search needs
 
--- src/windows.rt:77:42
 array-read-fold-fits : tie.Need-array-read-fold-fits Inv-loop μ-loop Inv-windows μ-windows
 array-read-fold-fits c = search needs
 
--- src/windows.rt:77:16
 fold-fits-requires : tie.Need-fold-fits-requires Inv-loop μ-loop Inv-windows μ-windows
 fold-fits-requires c κs = search needs
 
--- src/windows.rt:78:17
 add-agreeing : tie.Need-add-agreeing Inv-loop μ-loop Inv-windows μ-windows
 add-agreeing c = search needs
 
--- src/windows.rt:67:5
 windows-less-3 : tie.Need-windows-less-3 Inv-loop μ-loop Inv-windows μ-windows
 windows-less-3 c = search needs
 
--- src/windows.rt:67:5
 windows-again-3 : tie.Need-windows-again-3 Inv-loop μ-loop Inv-windows μ-windows
 windows-again-3 c =
     let l = c .before .before .before .loop in
@@ -174,34 +154,27 @@ windows-again-3 c =
       open-then _ _ _ _ (c .before .before .before .before .before .before .before .before .before .before .before .before .before .before .before .windows .inv .4) (c .before .before .before .before .before .before .before .before .before .window-lag .ensures .weights),
     )
 
--- src/windows.rt:81:13
 add-k : tie.Need-add-k Inv-loop μ-loop Inv-windows μ-windows
 add-k c = search needs
 
--- src/windows.rt:76:9
 loop-less : tie.Need-loop-less Inv-loop μ-loop Inv-windows μ-windows
 loop-less c = search needs
 
--- src/windows.rt:76:9
 loop-again : tie.Need-loop-again Inv-loop μ-loop Inv-windows μ-windows
 loop-again c =
     let l = c .before .before .before .loop in
     let h : l .k < 5 = omega arith in
     (omega arith, l .inv .1, l .inv .2 ∙ some-next _ folds (l .k) nan h (sym (c .before .fold-fits .ensures) ∙ c .if2 .left))
 
--- src/windows.rt:46:1
 same-length : tie.Need-same-length Inv-loop μ-loop Inv-windows μ-windows
 same-length c = search needs
 
--- src/windows.rt:46:1
 same-length-2 : tie.Need-same-length-2 Inv-loop μ-loop Inv-windows μ-windows
 same-length-2 c = search needs
 
--- src/windows.rt:46:1
 same-length-3 : tie.Need-same-length-3 Inv-loop μ-loop Inv-windows μ-windows
 same-length-3 c = search needs
 
--- src/windows.rt:46:1
 returns : tie.Need-returns Inv-loop μ-loop Inv-windows μ-windows
 returns c =
     let l = c .before .windows in
