@@ -31,7 +31,7 @@ passing test (t ∷ ts) = let rest = passing test ts in pick (test t) (suc rest)
 unfoldable pub beatIn : ℕ → Float → List Float → List Float → ℕ
 beatIn k time downbeats beats = max 1 (passing (during (getD downbeats k nan ⊖ slack) (time ⊕ slack)) beats)
 
--- bar 0 is nowhere
+-- each case's values, bar 0 being nowhere; the number is 0 in both: `Nowhere`, or `At` with bar and beat from 1
 unfoldable pub inBar : ℕ → Float → List Float → List Float → BarBeat
 inBar zero time downbeats beats = Nowhere
 inBar (suc k) time downbeats beats = At (suc k) (beatIn k time downbeats beats)

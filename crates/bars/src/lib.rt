@@ -15,7 +15,7 @@ pub const COMMON_METER: usize = 4;
 // the most beats a bar
 pub const MOST_METER: usize = 16;
 
-// Where a time lies: before the first bar, or in a bar and at a beat of it, both counted from 1.
+// Where a time lies: in no bar, where it reaches no downbeat, or in a bar and at a beat of it, both counted from 1.
 pub enum BarBeat {
     Nowhere,
     At { bar: usize, beat: usize },

@@ -1,5 +1,5 @@
 -- What the beats of a grid are: strictly ascending frames below N, the first with no link, each other linked to the one before, the last with the
--- first greatest score.
+-- first greatest score: of the links of any frames (`Steps`), and of the beats of an envelope.
 use mathlib.Core.Path.{_≡_, refl, sym, ap, _∙_}
 use mathlib.Core.Bool.{Bool, true, false}
 use mathlib.Core.Logic.{_⊎_, inl, inr, ⊎-elim}
@@ -11,11 +11,11 @@ use lib.ListN.{length, getD, length-append, List·getD-append}
 use lib.Seq.{getD-at}
 use lib.Ieee.{Float}
 use Rattle.numbers.specs.Rounded.{pick}
-use Rattle.numbers.proofs.Tests.{which, lt-or-le, pick-true, pick-false}
+use Rattle.numbers.proofs.Tests.{lt-or-le}
 use Rattle.beats.specs.declared.Best.{Best}
 use Rattle.beats.specs.Envelopes.{beatless, scaled}
 use Rattle.beats.specs.Scores.{noLink, greatest, scores, links}
-use Rattle.beats.specs.Grids.{valueAt, linkAt, firstGreatest, walked, beatsTo, grid, gridOf}
+use Rattle.beats.specs.Grids.{valueAt, linkAt, firstGreatest, walked, beatsTo, grid, scoresOf, linksOf, gridOf}
 use Rattle.beats.specs.Inner.{Descends}
 use Rattle.beats.proofs.Greatest.{best, Outcome, kept, found, outcome}
 use Rattle.beats.proofs.Extensions.{links-descend}
@@ -118,29 +118,52 @@ module _ (period : ℕ) (flux : ℕ → Float) (n : ℕ) (some : 1 ≤ period) (
 -- ---- the grid of an envelope: what other calls ask of a list of beats
 
 module _ (envelope : List Float) (period : ℕ) where
-  -- no beats, or the grid's
-  by-grid : (P : List ℕ → Type 0) → P [] → (1 ≤ period → 1 ≤ length envelope → P (grid period (scaled envelope) (length envelope))) → P (gridOf envelope period)
-  unfolding gridOf
-  by-grid P none some =
-      ⊎-elim
-      (λ e. rw (pick-true (beatless envelope period) [] (grid period (scaled envelope) (length envelope)) e) none)
-      (λ e. let l = lively envelope period e in rw (pick-false (beatless envelope period) [] (grid period (scaled envelope) (length envelope)) e) (some (l .periods) (l .frames)))
-      (which (beatless envelope period))
+  -- no scores, links and beats, or the grid's
+  by-grid : (P : (score : List Float) (link beats : List ℕ) → Type 0) → P [] [] []
+      → (1 ≤ period → 1 ≤ length envelope
+      → P (scores period (scaled envelope) (length envelope)) (links period (scaled envelope) (length envelope)) (grid period (scaled envelope) (length envelope)))
+      → P (scoresOf envelope period) (linksOf envelope period) (gridOf envelope period)
+  unfolding scoresOf linksOf gridOf
+  by-grid P none some = go (beatless envelope period) refl
+    where
+      go : (b : Bool) → beatless envelope period ≡ b
+          → P (pick b [] (scores period (scaled envelope) (length envelope))) (pick b [] (links period (scaled envelope) (length envelope))) (pick b [] (grid period (scaled envelope) (length envelope)))
+      go true e = none
+      go false e = let l = lively envelope period e in some (l .periods) (l .frames)
+
+  -- where there are beats, they are steps of its links that end at the first greatest of its scores
+  pub envelope-steps : 1 ≤ length (gridOf envelope period)
+      → Steps (linkAt (linksOf envelope period)) (gridOf envelope period) (firstGreatest (scoresOf envelope period) (length envelope))
+  envelope-steps =
+      by-grid (λ score link beats. 1 ≤ length beats → Steps (linkAt link) beats (firstGreatest score (length envelope))) (λ h. absurd (not-suc-le-zero h))
+      (λ p n h. grid-steps period (scaled envelope) (length envelope) p n)
+
+  -- the first has no link
+  pub beats-begin : 1 ≤ length (gridOf envelope period) → linkAt (linksOf envelope period) (getD (gridOf envelope period) 0 0) ≡ noLink
+  beats-begin h = envelope-steps h .unlinked
+
+  -- each is the link of the next
+  pub beats-linked : (i : ℕ) → suc i < length (gridOf envelope period)
+      → linkAt (linksOf envelope period) (getD (gridOf envelope period) (suc i) 0) ≡ getD (gridOf envelope period) i 0
+  beats-linked i h = envelope-steps (omega arith) .linked i h
+
+  -- the last has the first greatest score
+  pub beats-end : (i : ℕ) → suc i ≡ length (gridOf envelope period)
+      → getD (gridOf envelope period) i 0 ≡ firstGreatest (scoresOf envelope period) (length envelope)
+  beats-end i h = envelope-steps (omega arith) .last i h
 
   -- they are strictly ascending
   pub beats-rise : (i : ℕ) → suc i < length (gridOf envelope period) → getD (gridOf envelope period) i 0 < getD (gridOf envelope period) (suc i) 0
-  beats-rise =
-      by-grid (λ xs. (i : ℕ) → suc i < length xs → getD xs i 0 < getD xs (suc i) 0) (λ i h. absurd (not-suc-le-zero h))
-      (λ p n. grid-steps period (scaled envelope) (length envelope) p n .rises)
+  beats-rise i h = envelope-steps (omega arith) .rises i h
 
   -- frames of the envelope
   pub beats-below : (i : ℕ) → i < length (gridOf envelope period) → getD (gridOf envelope period) i 0 < length envelope
   beats-below =
-      by-grid (λ xs. (i : ℕ) → i < length xs → getD xs i 0 < length envelope) (λ i h. absurd (not-suc-le-zero h))
+      by-grid (λ score link beats. (i : ℕ) → i < length beats → getD beats i 0 < length envelope) (λ i h. absurd (not-suc-le-zero h))
       (λ p n. grid-below period (scaled envelope) (length envelope) p n)
 
   -- and no more of them than frames
   pub beats-fit : length (gridOf envelope period) ≤ length envelope
   beats-fit =
-      by-grid (λ xs. length xs ≤ length envelope) (omega arith)
+      by-grid (λ score link beats. length beats ≤ length envelope) (omega arith)
       (λ p n. grid-few period (scaled envelope) (length envelope) p n)

@@ -111,9 +111,10 @@ fn first_reaching(
     while u < end {
         let c = tabled_at(score, table, first, lo, u);
         if value <= c {
+            let frame = u as u32;
             return Best {
                 value: c,
-                at: u as u32,
+                at: frame,
             };
         }
         u += 1;

@@ -134,7 +134,7 @@ fn zeros() {
     grid(b"variance above 2^-52:", &small, 2);
 }
 
-// Of eight values a the one and b the other, a variance of exactly 2^-52, and the next above it that such values have.
+// Of four values, two of them 2^-25 and two 0, a variance of exactly 2^-52; and the next above it that such values have.
 fn flatness() {
     let flat = [
         0.0000000298023223876953125f64,

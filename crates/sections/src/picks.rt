@@ -127,20 +127,12 @@ fn next_peak(curve: &[f64], level: f64, from: usize) -> usize
     let last = numbers::less(curve.len(), 1);
     let mut t = from;
     while t < last {
-        if is_peak(curve, level, t) {
+        if onsets::peaks::is_peak(curve, level, t) {
             return t;
         }
         t += 1;
     }
     t
-}
-
-fn is_peak(curve: &[f64], level: f64, t: usize) -> bool
-    requires { ⌜ (1 ≤ t) × (t + 1 < length (now curve)) ⌝ }
-    ensures { λ r. ⌜ r ≡ isPeak (now (curve .entry)) level t ⌝ }
-{
-    let value = curve[t];
-    value > level && (value >= curve[t - 1] && value > curve[t + 1])
 }
 
 // ---- the cut

@@ -15,15 +15,15 @@ use lib.Ieee.{Float, nan, binary64, neg, lt, le, eq, isNan, fits, ofBits}
 use lib.Ieee.Fits.{add-fits}
 use lib.Ieee.Scale.{finite}
 use Rattle.numbers.specs.Rounded.{_⊕_, _⊗_, _⊘_, nought, pick, sumFrom, sumOf, held}
-use Rattle.numbers.specs.Limits.{valueFine, similarityTop, similarityFine, sized}
+use Rattle.numbers.specs.Limits.{featureWidth, valueFine, similarityTop, similarityFine, sized}
 use Rattle.numbers.specs.Lists.{row, every, curve}
 use Rattle.numbers.proofs.Tests.{which, lt-or-le, true-not-false, lowest-0, and-both, pick-true, pick-false}
-use Rattle.numbers.proofs.Overs.{length-row}
+use Rattle.numbers.proofs.Overs.{length-row, every-row}
 use Rattle.numbers.proofs.Everys.{every-tab}
 use Rattle.numbers.proofs.Tabs.{length-tab}
 use Rattle.sizes.specs.Sizes.{Within, AtLeast, Plus, Each, none, more}
 use Rattle.sizes.proofs.Sizes.{mul-within, most-finite, most-not-nan, within-weaken}
-use Rattle.sizes.proofs.Lists.{values-within, each-row}
+use Rattle.sizes.proofs.Lists.{values-within}
 use Rattle.sizes.proofs.Sums.{sum-within}
 use Rattle.sizes.proofs.Signs.{square-plus, sum-plus, plus-from-nought}
 use Rattle.sizes.proofs.Least.{mul-above}
@@ -65,15 +65,18 @@ nought-fits : T (fits binary64 nought)
 unfolding ofBits fits
 nought-fits = tt
 
--- a row within the bounds
-record Row (xs : List Float) : Type 0 where
-  values : Each (Within 150) xs
-  width : length xs ≤ 16
+-- a row within the bounds: at most sixteen values, each finite and of size at most 2 ^ 150
+pub record Row (xs : List Float) : Type 0 where
+  pub fine : every valueFine xs ≡ true
+  pub width : length xs ≤ featureWidth
+
+values : {xs : List Float} → Row xs → Each (Within 150) xs
+values {xs} h = values-within xs (h .fine)
 
 dot-within : {xs ys : List Float} → Row xs → Row ys → Within 304 (dotOf xs ys)
 unfolding dotOf
 dot-within {xs} {ys} h k =
-    sum-within 4 300 (lit≤ tt) (lit≤ tt) (le-trans (length-products xs ys) (h .width)) (products-within (h .values) (k .values))
+    sum-within 4 300 (lit≤ tt) (lit≤ tt) (le-trans (length-products xs ys) (h .width)) (products-within (values h) (values k))
 
 dot-fits : (xs ys : List Float) → T (fits binary64 (dotOf xs ys))
 unfolding dotOf
@@ -81,7 +84,7 @@ dot-fits xs ys = sum-fits nought (products xs ys) nought-fits
 
 own-plus : {xs : List Float} → Row xs → Plus (dotOf xs xs)
 unfolding dotOf
-own-plus h = sum-plus (squares-plus (h .values))
+own-plus h = sum-plus (squares-plus (values h))
 
 -- ---- norms
 
@@ -121,16 +124,24 @@ norm-of {xs} h z =
     let f : T (fits binary64 x) = dot-fits xs xs in
     rw (← norm-is xs) (record { plus = sqrt-plus x f a; most = sqrt-within 152 f a (dot-within h h); least = sqrt-least-any x f a })
 
--- ---- the quotient is no NaN
+-- ---- two rows whose norms aren't 0
 
-quotient-not-nan : {xs ys : List Float} → Row xs → Row ys → {m n : Float} → Norm m → Norm n → T (not (isNan (dotOf xs ys ⊘ (m ⊗ n))))
-quotient-not-nan {xs} {ys} h k {m} {n} a b =
-    let dot = dotOf xs ys in
-    let over : lt nought (m ⊗ n) ≡ true =
-    mul-above (lit< tt) (lit< tt) (le-of-eq (sym (pow-add 2 537 537) ∙ sym (one-mul (2 ^ 1074)))) (most-finite (a .most)) (most-finite (b .most)) (a .plus) (b .plus) (a .least) (b .least) in
-    let w : Within 304 (m ⊗ n) = mul-within binary64 152 152 (lit≤ tt) (a .most) (b .most) in
-    le-left (dot ⊘ (m ⊗ n)) (dot ⊘ (m ⊗ n))
-    (div-mono-left binary64 dot dot (m ⊗ n) (most-finite w) over (le-self dot (most-not-nan (dot-within h k))))
+module _ {xs ys : List Float} (h : Row xs) (k : Row ys) (some : isZero (normOf xs) ≡ false) (some′ : isZero (normOf ys) ≡ false) where
+  -- the product of the norms is above 0
+  pub norms-above : lt nought (normOf xs ⊗ normOf ys) ≡ true
+  norms-above =
+      let a = norm-of h some in
+      let b = norm-of k some′ in
+      mul-above (lit< tt) (lit< tt) (le-of-eq (sym (pow-add 2 537 537) ∙ sym (one-mul (2 ^ 1074)))) (most-finite (a .most)) (most-finite (b .most)) (a .plus) (b .plus) (a .least) (b .least)
+
+  -- so the quotient is no NaN
+  pub quotient-not-nan : T (not (isNan (dotOf xs ys ⊘ (normOf xs ⊗ normOf ys))))
+  quotient-not-nan =
+      let dot = dotOf xs ys in
+      let over = normOf xs ⊗ normOf ys in
+      let w : Within 304 over = mul-within binary64 152 152 (lit≤ tt) (norm-of h some .most) (norm-of k some′ .most) in
+      le-left (dot ⊘ over) (dot ⊘ over)
+      (div-mono-left binary64 dot dot over (most-finite w) norms-above (le-self dot (most-not-nan (dot-within h k))))
 
 -- ---- held to -1..1
 
@@ -158,13 +169,13 @@ settled-fine {xs} {ys} h k = go (isZero (normOf xs)) (isZero (normOf ys)) refl r
         → similarityFine (pick (a || b) nought (held (neg similarityTop) similarityTop q)) ≡ true
     go true b e f = nought-fine
     go false true e f = nought-fine
-    go false false e f = held-fine q (quotient-not-nan h k (norm-of h e) (norm-of k f))
+    go false false e f = held-fine q (quotient-not-nan h k e f)
 
 -- ---- every slot
 
 module _ (features : List Float) (rows : ℕ) (whole : length features ≡ rows * 16) (fine : every valueFine features ≡ true) where
-  fine-row : (i : ℕ) → i < rows → Row (featureRow features i)
-  fine-row i h = record { values = each-row 16 i (values-within features fine); width = le-of-eq (length-row features rows 16 i whole h) }
+  pub fine-row : (i : ℕ) → i < rows → Row (featureRow features i)
+  fine-row i h = record { fine = every-row valueFine features 16 i fine; width = le-of-eq (length-row features rows 16 i whole h) }
 
   -- slot (i, d)
   pub slot-fine : (i d : ℕ) → i < rows → similarityFine (slotAt features rows i d) ≡ true

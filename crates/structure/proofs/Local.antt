@@ -18,7 +18,7 @@ use Rattle.numbers.proofs.Overs.{row-over}
 use Rattle.structure.specs.Kernel.{kernelAt}
 use Rattle.structure.specs.Similarity.{featureRow, dotOf, normOf, similarityOf, slotAt, similarityAt}
 use Rattle.structure.specs.Novelty.{slotOf, likeness, inside, addTerm, addRow, noveltyAt, turns}
-use Rattle.structure.proofs.Terms.{slot-rising, slot-falling, Inside, inside-is, term-added, term-skipped, term-skipped-too}
+use Rattle.structure.proofs.Terms.{turns-same, slot-rising, slot-falling, Inside, inside-is, term-added, term-skipped, term-skipped-too}
 
 -- ---- similarity
 
@@ -49,13 +49,6 @@ module _ (features new : List Float) (rows a k : ℕ) (whole : length features �
   similarity-over j h g = slot-over (j / 17) (j % 17) h g
 
 -- ---- novelty
-
-turns-same : {A : Type 0} (f g : ℕ → A → A) (s n : ℕ) (x : A) → ((p : ℕ) → s ≤ p → p < s + n → (y : A) → f p y ≡ g p y) → turns f s n x ≡ turns g s n x
-unfolding turns
-turns-same f g s zero x h = refl
-turns-same f g s (suc n) x h =
-    ap (turns f (suc s) n) (h s (omega arith) (omega arith) x)
-    ∙ turns-same f g (suc s) n (g s x) (λ p l u y. h p (omega arith) (omega arith) y)
 
 -- row p lies in the kernel around row i
 pub record Near (rows i p : ℕ) : Type 0 where

@@ -1,19 +1,21 @@
--- Novelty: the sum one step at a time, the slots of a pair, and which similarities a slot of the curve depends on.
+-- Novelty: the sum one step at a time, the slots of a pair, one term, and why the order of u and v can't be seen: kernel and likeness are symmetric,
+-- so the term of u and v is that of v and u.
 use mathlib.Core.Path.{_≡_, refl, sym, ap, _∙_}
-use mathlib.Core.Bool.{Bool, true, false, _&&_}
+use mathlib.Core.Bool.{Bool, true, false, _&&_, and-comm}
 use mathlib.Core.List.{List}
 use mathlib.Core.Logic.{⊎-elim}
 use Prim.Native.Nat.{ℕ, zero, suc, _+_, _-_, _*_, _≤_, _<_}
-use native.Mathlib.Nat.{le-of-lt, min-eq-left, min-eq-right, max-eq-left, max-eq-right}
+use native.Mathlib.Nat.{le-of-lt, min-comm, max-comm, min-eq-left, min-eq-right, max-eq-left, max-eq-right}
 use native.Mathlib.Numerals.{add-one}
 use native.Mathlib.Omega.{arith}
 use lib.Dec.{leb, ltb}
 use borrow.Author.Tests.{leb-true, ltb-true, le-leb, lt-ltb}
 use lib.Ieee.{Float}
-use Rattle.numbers.specs.Rounded.{_⊕_, _⊗_, pick}
+use Rattle.numbers.specs.Rounded.{_⊕_, _⊗_, nought, pick}
 use Rattle.numbers.proofs.Tests.{which, lt-or-le, and-left, and-right, and-both, and-held, and-failed, pick-true, pick-false}
-use Rattle.structure.specs.Kernel.{kernelAt}
-use Rattle.structure.specs.Novelty.{slotOf, likeness, inside, addTerm, turns}
+use Rattle.structure.specs.Kernel.{places, kernelAt}
+use Rattle.structure.specs.Novelty.{slotOf, likeness, inside, addTerm, addRow, noveltyAt, turns}
+use Rattle.structure.proofs.Weights.{kernel-symmetric}
 
 -- ---- steps, one after the other
 
@@ -30,6 +32,14 @@ module _ {A : Type 0} (f : ℕ → A → A) where
       let k : e - s ≡ 0 = omega arith in
       ap (λ (n : ℕ). turns f s n x) k
 
+-- where the steps do the same, so do all together
+pub turns-same : {A : Type 0} (f g : ℕ → A → A) (s n : ℕ) (x : A) → ((p : ℕ) → s ≤ p → p < s + n → (y : A) → f p y ≡ g p y) → turns f s n x ≡ turns g s n x
+unfolding turns
+turns-same f g s zero x h = refl
+turns-same f g s (suc n) x h =
+    ap (turns f (suc s) n) (h s (omega arith) (omega arith) x)
+    ∙ turns-same f g (suc s) n (g s x) (λ p l u y. h p (omega arith) (omega arith) y)
+
 -- ---- the slot of a pair
 
 pub slot-rising : (a b : ℕ) → a ≤ b → slotOf a b ≡ a * 17 + (b - a)
@@ -39,6 +49,11 @@ slot-rising a b h = rw (min-eq-left h, max-eq-right h)
 pub slot-falling : (a b : ℕ) → b ≤ a → slotOf a b ≡ b * 17 + (a - b)
 unfolding slotOf
 slot-falling a b h = rw (min-eq-right h, max-eq-left h)
+
+-- in either order
+pub slot-symmetric : (a b : ℕ) → slotOf a b ≡ slotOf b a
+unfolding slotOf
+slot-symmetric a b = rw (min-comm a b, max-comm a b)
 
 -- a pair of rows at most sixteen apart has its slot inside
 pub slot-below : (rows a b : ℕ) → a < rows → b < rows → a ≤ b + 16 → b ≤ a + 16 → slotOf a b < rows * 17
@@ -75,3 +90,20 @@ module _ (similarity : List Float) (rows i u v : ℕ) (sum : Float) where
   pub term-skipped-too : inside rows i u ≡ true → inside rows i v ≡ false → addTerm similarity rows i u v sum ≡ sum
   unfolding addTerm
   term-skipped-too h k = pick-false _ _ _ (sym (and-held (inside rows i u) (inside rows i v) h) ∙ k)
+
+-- ---- the order of u and v
+
+-- the term of places u and v is that of v and u
+pub term-symmetric : (similarity : List Float) (rows i u v : ℕ) (sum : Float) → addTerm similarity rows i u v sum ≡ addTerm similarity rows i v u sum
+unfolding addTerm likeness
+term-symmetric similarity rows i u v sum =
+    rw (and-comm (inside rows i u) (inside rows i v), kernel-symmetric u v, slot-symmetric (i + u - 8) (i + v - 8))
+
+-- so a sum that takes v first, then u, is the same sum, term by term
+pub novelty-symmetric : (similarity : List Float) (rows i : ℕ)
+    → turns (λ u sum. turns (λ v. addTerm similarity rows i v u) 0 places sum) 0 places nought ≡ noveltyAt similarity rows i
+unfolding noveltyAt addRow
+novelty-symmetric similarity rows i =
+    turns-same (λ u sum. turns (λ v. addTerm similarity rows i v u) 0 places sum) (addRow similarity rows i) 0 places nought
+    (λ u l h sum.
+    turns-same (λ v. addTerm similarity rows i v u) (addTerm similarity rows i u) 0 places sum (λ v m k x. term-symmetric similarity rows i v u x))

@@ -81,24 +81,6 @@ pub fn similarity_slot(features: &[f64], rows: usize, i: usize, d: usize) -> f64
     settle(dot(own, other) / (norm * norm2), norm, norm2)
 }
 
-// Inner: writes slots from `from` up to `past` of the similarity, each by itself: for the few slots of a patch.
-pub fn fill_similarity(
-    features: &[f64],
-    rows: usize,
-    from: usize,
-    past: usize,
-    similarity: &mut [f64],
-)
-    requires { ⌜ (length (now features) ≡ rows * 16) × (from ≤ past) × (past ≤ rows * 17) × (past ≤ length (now similarity)) ⌝ }
-    ensures { λ _. ⌜ now (similarity .exit) ≡ filled (similarityAt (now (features .entry)) rows) (now (similarity .entry)) from past ⌝ }
-{
-    let mut k = from;
-    while k < past {
-        similarity[k] = similarity_slot(features, rows, k / 17, k % 17);
-        k += 1;
-    }
-}
-
 // Value k of rows first to first + count - 1, side by side: that of row first + r stands at k * 128 + r.
 fn turn_value(
     features: &[f64],

@@ -249,7 +249,7 @@ fn zero_rows() {
     );
 }
 
-// Every row the same: no novelty but at the ends.
+// Every row the same: one novelty, not 0, wherever the kernel lies inside.
 fn same_rows() {
     let features = [3.0f64; 320];
     let mut similarity = [9.0f64; 340];

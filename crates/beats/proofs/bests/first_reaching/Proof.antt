@@ -29,8 +29,8 @@ loop-holds c = (omega arith, omega (arith, c .before .before .pre .3 .from), λ 
 tabled-at-requires : tie.Need-tabled-at-requires Inv-loop μ-loop
 tabled-at-requires c κs = search needs
 
-cast-t11 : tie.Need-cast-t11 Inv-loop μ-loop
-cast-t11 c = search needs
+cast-frame : tie.Need-cast-frame Inv-loop μ-loop
+cast-frame c = search needs
 
 returns : tie.Need-returns Inv-loop μ-loop
 returns c =
@@ -78,7 +78,7 @@ first-reaching-spec =
     μ-loop
     loop-holds
     tabled-at-requires
-    cast-t11
+    cast-frame
     returns
     add-u
     loop-less
