@@ -87,3 +87,22 @@ module _ {A : Type 0} where
     row-over t (inr u) =
         row-same s _ b t z (length-over s (a * b) new patch-fits)
         (λ i h. getD-over-out s (a * b) new patch-fits (t * b + i) z (inr (omega (arith, add-mul a k b, mul-le-mul-right b u))))
+
+    written-in : (i : ℕ) → i < length new → getD (over s (a * b) new) (a * b + i) z ≡ getD new i z
+    unfolding over
+    written-in i h =
+        let l : length (take (a * b) s) ≡ a * b = length-take-le (a * b) s (omega (arith, patch-fits)) in
+        let e : length (take (a * b) s ++ take (length new) new) ≡ a * b + length new = length-paste-head s (a * b) new (length new) (omega (arith, patch-fits)) (omega arith) in
+        List·getD-append (take (a * b) s ++ take (length new) new) (drop (a * b + length new) s) z (a * b + i) (omega arith)
+        ∙ ap (λ (m : ℕ). getD (take (a * b) s ++ take (length new) new) (m + i) z) (sym l)
+        ∙ getD-append-add (take (a * b) s) (take (length new) new) i z ∙ getD-take (length new) new i z h
+
+    -- a replaced row is the new one
+    pub row-over-in : (j : ℕ) → j < k → row (over s (a * b) new) b (a + j) ≡ row new b j
+    row-over-in j h =
+        ext-getD z _ _ (length-row _ n b (a + j) length-patched (omega arith) ∙ sym (length-row new k b j rows h))
+        (λ i u.
+        let v : i < b = omega (arith, length-row (over s (a * b) new) n b (a + j) length-patched (omega arith)) in
+        let p : (a + j) * b + i ≡ a * b + (j * b + i) = omega (arith, add-mul a j b) in
+        getD-row _ b (a + j) i z v ∙ ap (λ (m : ℕ). getD (over s (a * b) new) m z) p
+        ∙ written-in (j * b + i) (omega (arith, row-end j k b h)) ∙ sym (getD-row new b j i z v))

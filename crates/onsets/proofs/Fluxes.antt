@@ -7,7 +7,7 @@ use Prim.Native.Nat.{ℕ, zero, suc, _+_, _-_, _*_, _≤_, _<_, min}
 use native.Mathlib.Nat.{le-refl, min-le-left}
 use native.Mathlib.Numerals.{add-one}
 use native.Mathlib.Omega.{arith}
-use borrow.Author.Tests.{leb-true, eqb-true}
+use borrow.Author.Tests.{leb-true, le-leb, eqb-true, eq-eqb}
 use lib.Dec.{leb, eqb, lit≤}
 use lib.Ieee.{Float, nan, binary64}
 use lib.ListN.{length, getD, drop, drop-of-length-le, length-take}
@@ -15,7 +15,7 @@ use lib.Seq.{drop-cons}
 use Rattle.numbers.proofs.Everys.{every-tab}
 use Rattle.numbers.proofs.Overs.{row-over}
 use Rattle.numbers.proofs.Tabs.{local-curve}
-use Rattle.numbers.proofs.Tests.{and-left, and-right, lowest-zero}
+use Rattle.numbers.proofs.Tests.{and-left, and-right, and-both, lowest-zero, lowest-0}
 use Rattle.numbers.specs.Limits.{mostRows, mostBins, between, magnitudeFine, valueFine}
 use Rattle.numbers.specs.Lists.{row, every, over, curve, filled}
 use Rattle.numbers.specs.Rounded.{_⊕_, _⊖_, positivePart, sumFrom, sumOf}
@@ -147,3 +147,11 @@ flux-told s rows bins room e =
       has-room = leb-true _ _ (p .room);
       fine = p .values;
     }
+
+-- and what it asks for
+pub flux-asked : (s : List Float) (rows bins room : ℕ) → FluxFine s rows bins room → fluxRefusal s rows bins room ≡ 0
+unfolding fluxRefusal
+flux-asked s rows bins room f =
+    lowest-0 _ _ _ _
+    (and-both (leb rows mostRows) _ (le-leb _ _ (f .rows-fit)) (and-both (leb 1 bins) _ (le-leb _ _ (f .some-bins)) (le-leb _ _ (f .bins-fit))))
+    (eq-eqb _ _ (f .whole)) (le-leb _ _ (f .has-room)) (f .fine)

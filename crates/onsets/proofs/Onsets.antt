@@ -3,7 +3,7 @@
 use mathlib.Core.Bool.{Bool, true, _&&_}
 use mathlib.Core.List.{List, [], _∷_, map}
 use mathlib.Core.Path.{_≡_, refl, sym, ap, _∙_}
-use Prim.Native.Nat.{ℕ, _-_, _≤_, _<_, min}
+use Prim.Native.Nat.{ℕ, _-_, _≤_, _<_}
 use native.Mathlib.Omega.{arith}
 use borrow.Author.Tests.{leb-true, le-leb, eqb-true, eq-eqb, ltb-true, lt-ltb}
 use lib.Dec.{leb, ltb, eqb}
@@ -18,7 +18,7 @@ use Rattle.numbers.specs.Lists.{every, curve, filled, listed}
 use Rattle.onsets.specs.Flux.{fluxAt}
 use Rattle.onsets.specs.Onsets.{frameFine, gapOf, onsetsOf, onsetsRefusal, timesRefusal}
 use Rattle.onsets.specs.Peaks.{at, peaksOf, ascending, pointInto}
-use Rattle.onsets.specs.Threshold.{thresholdAt, thresholdRefusal}
+use Rattle.onsets.specs.Threshold.{thresholdAt, windowRoom, thresholdRefusal}
 use Rattle.onsets.proofs.Fluxes.{FluxFine, flux-curve-within, flux-curve-fine}
 use Rattle.onsets.proofs.Picks.{ascending-from, peaks-ascend, peaks-inside, peaks-length, suppressed-ascends, suppressed-every, suppressed-length}
 use Rattle.onsets.proofs.Thresholds.{threshold-curve-fine}
@@ -117,13 +117,13 @@ times-told frames rate room e =
 
 -- the flux of magnitudes that `spectral_flux` took
 module _ (s : List Float) (rows bins had : ℕ) (f : FluxFine s rows bins had) where
-  pub threshold-takes : (room work : ℕ) → rows ≤ room → min 21 rows ≤ work → thresholdRefusal (curve (fluxAt s bins) rows) room work ≡ 0
+  pub threshold-takes : (room work : ℕ) → rows ≤ room → windowRoom rows ≤ work → thresholdRefusal (curve (fluxAt s bins) rows) room work ≡ 0
   unfolding thresholdRefusal
   threshold-takes room work r w =
       let l : length (curve (fluxAt s bins) rows) ≡ rows = length-tab (fluxAt s bins) 0 rows in
       let n : length (curve (fluxAt s bins) rows) ≤ mostRows = omega (arith, f .rows-fit) in
       let r′ : length (curve (fluxAt s bins) rows) ≤ room = omega arith in
-      let w′ : min 21 (length (curve (fluxAt s bins) rows)) ≤ work = rw l w in
+      let w′ : windowRoom (length (curve (fluxAt s bins) rows)) ≤ work = rw l w in
       lowest-0 _ _ _ _ (le-leb _ _ n) refl (and-both _ _ (le-leb _ _ r′) (le-leb _ _ w′)) (flux-curve-fine s rows bins (f .fine) (f .bins-fit))
 
   -- and its threshold

@@ -16,6 +16,7 @@ use Rattle.numbers.proofs.Tests.{and-left, and-right, lowest-zero}
 use Rattle.numbers.proofs.Windows.{length-around, around-same, windowed-local}
 use Rattle.numbers.specs.Limits.{mostRows, valueFine}
 use Rattle.numbers.specs.Lists.{every, around, curve, filled}
+use Rattle.numbers.specs.Refusals.{unlessRefused}
 use Rattle.numbers.specs.Rounded.{_⊗_}
 use Rattle.sizes.proofs.Lists.{each-around}
 use Rattle.sizes.proofs.Sizes.{add-within, mul-within, value-most, within-weaken}
@@ -116,7 +117,11 @@ threshold-told flux room work e =
 
 -- any two outcomes that the call permits coincide, but for the slots that it sorts in
 pub thresholds-unique : {flux threshold work : List Float} {a b : ℕ} {x y u v : List Float} → Thresholds flux threshold work a x u → Thresholds flux threshold work b y v
-    → (a ≡ b) × (x ≡ y) × (length u ≡ length v)
-thresholds-unique p q =
-    let same = written-unique _ _ _ (p .curve) (q .curve) in
-    (same .0, same .1, p .work-length ∙ sym (q .work-length))
+    → (a ≡ b) × (x ≡ y) × (length u ≡ length v) × (drop (unlessRefused a (sortingRoom flux) 0) u ≡ drop (unlessRefused a (sortingRoom flux) 0) v)
+thresholds-unique {flux} {threshold} {work} {a} {b} {x} {y} {u} {v} p q =
+    let same = written-unique _ _ _ (p .curve) (q .curve) in (
+      same .0,
+      same .1,
+      p .work-length ∙ sym (q .work-length),
+      p .work-keeps ∙ rw (same .0) (sym (q .work-keeps)),
+    )

@@ -1,5 +1,5 @@
 -- Document 01, Onsets: "Each threshold is med + 8·mad + 0.000001 over slots t-10 to t+10, cut at the ends."
-use Prim.Native.Nat.{ℕ, min}
+use Prim.Native.Nat.{ℕ, _+_, _*_, min}
 use mathlib.Core.Path.{_≡_}
 use mathlib.Core.Bool.{Bool, true, _&&_}
 use mathlib.Core.List.{List}
@@ -33,9 +33,12 @@ thresholdOf window = let med = medianOf window in med ⊕ madScale ⊗ madOf win
 unfoldable pub thresholdAt : List Float → ℕ → Float
 thresholdAt flux t = thresholdOf (around reach flux t)
 
--- the room to sort a window in: min(21, N)
+-- the room to sort a window in, of a curve of N slots: min(21, N)
+abbrev pub windowRoom : (slots : ℕ) → ℕ
+windowRoom slots = min (2 * reach + 1) slots
+
 abbrev pub sortingRoom : List Float → ℕ
-sortingRoom flux = min 21 (length flux)
+sortingRoom flux = windowRoom (length flux)
 
 -- 1: the flux has 0 to 1,048,576 slots. 3: room for each threshold, and for sorting. 4: each flux value is fine.
 unfoldable pub thresholdRefusal : List Float → (room work : ℕ) → ℕ

@@ -14,8 +14,8 @@ ghost use Rattle.onsets.specs.Outcomes.{Written};
 ghost use Rattle.onsets.specs.Flux.{rises, fluxAt, fluxRefusal};
 
 // Writes flux[0..rows], the onset strength of each row of magnitudes; slots past them stay. Room: rows slots.
-// Refuses: 1 rows above 1,048,576 or bins outside 1..4,096; 2 magnitudes that aren't rows times bins; 3 flux shorter than rows;
-// 4 a magnitude that isn't finite or is larger than 2^126. A refusal writes nothing.
+// Refuses: 1 rows above 1,048,576 or bins outside 1 to 4,096; 2 magnitudes that aren't rows times bins; 3 flux shorter than rows;
+// 4 a magnitude that isn't finite or is of size above 2^126. A refusal writes nothing.
 pub fn spectral_flux(magnitudes: &[f32], rows: usize, bins: usize, flux: &mut [f64]) -> u32
     ensures { λ r. ⌜ Written (fluxRefusal (now (magnitudes .entry)) rows bins (length (now (flux .entry)))) (filled (fluxAt (now (magnitudes .entry)) bins) (now (flux .entry)) 0 rows) (now (flux .entry)) r (now (flux .exit)) ⌝ }
 {

@@ -22,8 +22,8 @@ const HOP: f64 = 256.0;
 const CENTRE: f64 = 512.0;
 
 // Lists the frames of the onsets of a flux with its threshold, at a sample rate. Room: one slot for each slot of flux.
-// Refuses: 1 a flux longer than 1,048,576 or a rate outside 1..192,000; 2 a threshold of another length; 3 frames shorter than
-// flux; 4 a value of either that isn't finite or is larger than 2^150. Slots past the count stay, all of them at a refusal.
+// Refuses: 1 a flux longer than 1,048,576 or a rate outside 1 to 192,000; 2 a threshold of another length; 3 frames shorter than
+// flux; 4 a value of either that isn't finite or is of size above 2^150. Slots past the count stay, all of them at a refusal.
 pub fn pick_onsets(flux: &[f64], threshold: &[f64], rate: u32, frames: &mut [u32]) -> Listing
     ensures { λ r. ⌜ Lists (onsetsRefusal (now (flux .entry)) (now (threshold .entry)) rate (length (now (frames .entry)))) (onsetsOf (now (flux .entry)) (now (threshold .entry)) rate) (now (frames .entry)) r (now (frames .exit)) ⌝ }
 {
@@ -68,7 +68,7 @@ pub fn gap_of(rate: u32) -> usize
 }
 
 // Writes the time in milliseconds of each frame's centre, at a sample rate, in the frames' order. Room: one slot for each frame.
-// Refuses: 1 a rate outside 1..192,000 or a frame above 1,048,575; 3 ms shorter than frames. A refusal writes nothing.
+// Refuses: 1 a rate outside 1 to 192,000 or a frame above 1,048,575; 3 ms shorter than frames. A refusal writes nothing.
 // The frames need not ascend. Slots past them stay.
 pub fn frame_times(frames: &[u32], rate: u32, ms: &mut [f64]) -> u32
     ensures { λ r. ⌜ Written (timesRefusal (now (frames .entry)) rate (length (now (ms .entry)))) (listed (map (frameTime rate) (now (frames .entry))) (now (ms .entry))) (now (ms .entry)) r (now (ms .exit)) ⌝ }

@@ -17,7 +17,7 @@ ghost use Rattle.onsets.specs.Steps.{one, Picked, Stepped, Closed};
 
 // Lists the best of each group of peaks: a peak joins a group while it is at most gap past its best. Room: one slot for each peak.
 // Refuses: 1 a curve longer than 1,048,576, or peaks that aren't strictly ascending or point past the curve; 3 frames shorter than
-// peaks; 4 a curve value that isn't finite or is larger than 2^150. Slots past the count stay, all of them at a refusal.
+// peaks; 4 a curve value that isn't finite or is of size above 2^150. Slots past the count stay, all of them at a refusal.
 pub fn suppress_close_peaks(peaks: &[u32], curve: &[f64], gap: usize, frames: &mut [u32]) -> Listing
     ensures { λ r. ⌜ Lists (suppressionRefusal (now (peaks .entry)) (now (curve .entry)) (length (now (frames .entry)))) (suppressed (now (curve .entry)) gap (now (peaks .entry))) (now (frames .entry)) r (now (frames .exit)) ⌝ }
 {

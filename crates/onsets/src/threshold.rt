@@ -8,9 +8,9 @@ ghost use Rattle.numbers.specs.Lists.{filled};
 ghost use Rattle.onsets.specs.Threshold.{thresholdOf, thresholdAt, sortingRoom, thresholdRefusal, Thresholds};
 
 // the most slots of a window
-const MEDIAN_WINDOW: usize = 21;
+pub const MEDIAN_WINDOW: usize = 21;
 // how many of them lie to each side
-const REACH: usize = 10;
+pub const REACH: usize = 10;
 // a flux counts from so many times the distance of its neighbours from their median
 const DELTA_SCALE: f64 = 8.0;
 // and from so little more, so that silence has no onset
@@ -18,7 +18,7 @@ const DELTA_MIN: f64 = 0.000001;
 
 // Writes threshold[0..N], N the length of flux; slots past them stay. Room: N slots, and min(21, N) of work to sort in.
 // Refuses: 1 a flux longer than 1,048,576; 3 threshold or work shorter than their room; 4 a flux value that isn't finite or is
-// larger than 2^150. A refusal writes nothing. Work's slots past min(21, N) stay; a threshold may be larger than 2^150.
+// of size above 2^150. A refusal writes nothing. Work's slots past min(21, N) stay; a threshold may be of size above 2^150.
 pub fn adaptive_threshold(flux: &[f64], threshold: &mut [f64], work: &mut [f64]) -> u32
     ensures { λ r. ⌜ Thresholds (now (flux .entry)) (now (threshold .entry)) (now (work .entry)) r (now (threshold .exit)) (now (work .exit)) ⌝ }
 {

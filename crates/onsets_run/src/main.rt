@@ -1,6 +1,6 @@
-// Runs each call of the crate onsets on both sides of each boundary of document 01, and on small inputs, and prints the number, the
-// count and each slot that is promised, those that were not lent too. The file stdout holds what must come out: numbers by
-// document 01, values by the Rust.
+// Runs each call of the crate onsets on both sides of each boundary of document 01, but for a curve of 1,048,577 slots, which no stack
+// holds: that is proved only. Small inputs too. Prints the number, the count and each slot that is promised, those that were not lent
+// too. The file stdout holds what must come out: numbers by document 01, values by the Rust.
 ghost use Prim.Native.Nat.{_≤_};
 ghost use lib.ListN.{length};
 use numbers::Listing;

@@ -4,20 +4,22 @@ use mathlib.Core.Bool.{true, false}
 use mathlib.Core.List.{List, [], _∷_}
 use mathlib.Core.Logic.{_⊎_, inl, inr, ⊎-elim}
 use mathlib.Core.Path.{_≡_, refl, sym, ap, _∙_}
-use Prim.Native.Nat.{ℕ, zero, suc, _+_, _-_, _*_, _/_, _≤_, _<_, min}
+use Prim.Native.Nat.{ℕ, zero, suc, _+_, _-_, _*_, _/_, _≤_, _<_}
 use native.Mathlib.Omega.{arith}
+use borrow.Author.Tests.{le-leb, eq-eqb}
 use lib.Dec.{lit≤}
 use lib.Ieee.{Float, nan}
 use lib.ListN.{length, getD, take, drop}
-use Rattle.numbers.proofs.Overs.{length-over, every-over, patch-fits, row-over}
-use Rattle.numbers.proofs.Tabs.{length-tab, length-filled, filled-outside, getD-filled-in}
+use Rattle.numbers.proofs.Overs.{length-over, every-over, patch-fits, row-over, row-over-in, over-none}
+use Rattle.numbers.proofs.Tabs.{length-filled, filled-outside, getD-filled-in}
 use Rattle.numbers.proofs.Tests.{lt-or-le, pick-false, passed-does, and-both, lowest-0}
 use Rattle.numbers.specs.Limits.{featureWidth, valueFine, similarityFine}
-use Rattle.numbers.specs.Lists.{curve, every, filled}
+use Rattle.numbers.specs.Lists.{curve, every, filled, row}
 use Rattle.numbers.specs.Refusals.{unlessRefused}
 use Rattle.patching.proofs.Parts.{filled-first, filled-rest, filled-by}
 use Rattle.patching.proofs.Wholes.{whole-asked}
 use Rattle.patching.specs.Patches.{Patch, patchOf, pastRow, wholeRows, edited, unlessEmpty}
+use Rattle.structure.proofs.Fine.{genuine-passes}
 use Rattle.structure.specs.Novelty.{noveltyAt, noveltyNumber, NoveltyDone}
 use Rattle.structure.specs.Similarity.{similarityAt, similarityNumber, SimilarityDone}
 use Rattle.patch_features.specs.declared.PatchedFeatures.{PatchedFeatures}
@@ -41,7 +43,7 @@ use Rattle.patch_features.specs.Features.{
   after,
   Patches,
 }
-use Rattle.patch_features.specs.Runs.{similarityCurve, noveltyCurve, Fresh, Kept, Sound, Good, analysed, run}
+use Rattle.patch_features.specs.Runs.{similarityCurve, noveltyCurve, Fresh, Kept, Sound, Good, analysed, run, Ran, stays, patches, refuses}
 use Rattle.patch_features.proofs.Asked.{Asked, asked, bounds-asked, room-asked}
 use Rattle.patch_features.proofs.Fine.{similarities-are-fine, novelties-are-fine}
 use Rattle.patch_features.proofs.Mended.{similarity-mends, novelty-mends, similarity-rest, novelty-rest}
@@ -69,7 +71,39 @@ mends rows was patch fresh a =
 pub patched-is-fresh : (rows : ℕ) (was : Track) (patch : Patch) → Fresh rows was → Fresh rows (after rows was patch)
 patched-is-fresh rows was patch fresh = by-outcome (Fresh rows) rows was patch fresh (mends rows was patch fresh)
 
--- ---- (2) Outside the rows replaced, the pairs that touch one and the slots that the answer names nothing differs.
+-- what `patch_features` promises of one call, whatever it answers
+pub call-is-fresh : (rows : ℕ) (was : Track) (patch : Patch) (answer : PatchedFeatures) (now : Track) → Fresh rows was → Patches rows was patch answer now → Fresh rows now
+call-is-fresh rows was patch answer now fresh done = rw (done .track-is) (patched-is-fresh rows was patch fresh)
+
+-- ---- (2) An accepted patch leaves the edited rows. Outside them, the pairs that touch one and the slots that the answer names nothing differs.
+
+module _ (rows : ℕ) (was : Track) (f g t u : ℕ) (now : Track) where
+  accepted-passes : (n : ℕ) (patch : Patch) → Wrote f g t u ≡ answered n rows patch → n ≡ 0
+  unfolding answered
+  accepted-passes zero patch h = refl
+  accepted-passes (suc n) patch h = let z : _≡_ {A = ℕ} 0 1 = cc in absurd (omega arith)
+
+  edited-by : (n start : ℕ) (new : List Float) → Wrote f g t u ≡ answered n rows (patchOf start new)
+      → now ≡ unlessRefused n (unlessEmpty new (mended rows was (patchOf start new)) was) was → now .features ≡ edited featureWidth (was .features) (patchOf start new)
+  unfolding answered mended edited
+  edited-by (suc n) start new h k = let z : _≡_ {A = ℕ} 0 1 = cc in absurd (omega arith)
+  edited-by zero start [] h k = ap (λ (s : Track). s .features) k ∙ sym (over-none (was .features) (start * featureWidth))
+  edited-by zero start (x ∷ xs) h k = ap (λ (s : Track). s .features) k
+
+pub accepted-is-edited : (rows : ℕ) (was : Track) (patch : Patch) (f g t u : ℕ) (now : Track)
+    → Patches rows was patch (Wrote f g t u) now → now .features ≡ edited featureWidth (was .features) patch
+unfolding after
+accepted-is-edited rows was patch f g t u now done =
+    edited-by rows was f g t u now (numberOf rows was patch) (patch .start) (patch .new) (done .answer-is) (done .track-is)
+
+-- row a + j is then the patch's row j
+pub replaced-are-new : (rows : ℕ) (was : Track) (patch : Patch) (f g t u : ℕ) (now : Track) → Patches rows was patch (Wrote f g t u) now
+    → (j : ℕ) → j < length (patch .new) / featureWidth → row (now .features) featureWidth (patch .start + j) ≡ row (patch .new) featureWidth j
+unfolding edited
+replaced-are-new rows was patch f g t u now done j h =
+    let w = asked rows was patch (accepted-passes rows was f g t u now (numberOf rows was patch) patch (done .answer-is)) .lengths in
+    ap (λ (m : List Float). row m featureWidth (patch .start + j)) (accepted-is-edited rows was patch f g t u now done)
+    ∙ row-over-in (was .features) (patch .new) rows featureWidth (patch .start) (length (patch .new) / featureWidth) nan (w .whole) (w .new-whole) (w .inside) j h
 
 unmoved : (patch : Patch) (f g t u : ℕ) (was : Track) → Kept patch f g t u was was
 unmoved patch f g t u was =
@@ -171,11 +205,12 @@ going-on rows lent st patch h a =
       novelty-rest = novelty-rest rows st patch a ∙ h .novelty-rest;
     }
 
-run-going : (rows : ℕ) (lent st : Track) (patches : List Patch) → Going rows lent st → Going rows lent (run rows st patches)
-unfolding run
-run-going rows lent st [] h = h
-run-going rows lent st (patch ∷ patches) h =
-    run-going rows lent (after rows st patch) patches (by-outcome (Going rows lent) rows st patch h (going-on rows lent st patch h))
+-- what a mended patch keeps, calls one after the other keep
+calls-keep : (P : Track → Type 0) (rows : ℕ) → ((was : Track) (patch : Patch) → P was → Asked rows was patch → P (mended rows was patch))
+    → {was now : Track} → P was → Ran rows was now → P now
+calls-keep P rows keeps h stays = h
+calls-keep P rows keeps h (patches p ran) = calls-keep P rows keeps (rw (p .track-is) (by-outcome P rows _ _ h (keeps _ _ h))) ran
+calls-keep P rows keeps h (refuses p ran) = calls-keep P rows keeps (rw (refused-changes-nothing _ _ _ _ _ p) h) ran
 
 module _ (rows : ℕ) (lent : Track) where
   pub analysed-is-fresh : Fresh rows (analysed rows lent)
@@ -199,16 +234,26 @@ module _ (rows : ℕ) (lent : Track) where
       ∙ ap (λ (n : List Float). track (st .features) (filled (similarityAt (st .features) rows) (lent .similarity) 0 (pairs rows)) n)
       (filled-by (noveltyAt (similarityCurve rows (st .features)) rows) (lent .novelty) (st .novelty) rows (h .fresh .novelty) (h .novelty-rest))
 
-pub run-is-one-analysis : (rows : ℕ) (lent : Track) (patches : List Patch)
-    → run rows (analysed rows lent) patches
-    ≡ analysed rows (track (run rows (analysed rows lent) patches .features) (lent .similarity) (lent .novelty))
-run-is-one-analysis rows lent patches =
-    going-is-analysed rows lent (run rows (analysed rows lent) patches) (run-going rows lent (analysed rows lent) patches (analysed-going rows lent))
+  -- calls one after the other, refused ones of any rows among them
+  pub calls-are-one-analysis : {now : Track} → Ran rows (analysed rows lent) now → now ≡ analysed rows (track (now .features) (lent .similarity) (lent .novelty))
+  calls-are-one-analysis {now} ran = going-is-analysed now (calls-keep (Going rows lent) rows (going-on rows lent) analysed-going ran)
 
 -- the same of curves that were fresh to begin with, wherever they came from
-pub run-is-fresh : (rows : ℕ) (lent : Track) (patches : List Patch) → Fresh rows lent → Fresh rows (run rows lent patches)
-run-is-fresh rows lent patches fresh =
-    run-going rows lent lent patches (record { fresh = fresh; similarity-rest = refl; novelty-rest = refl }) .fresh
+pub calls-end-fresh : (rows : ℕ) {was now : Track} → Fresh rows was → Ran rows was now → Fresh rows now
+calls-end-fresh rows fresh ran = calls-keep (Fresh rows) rows (mends rows) fresh ran
+
+-- the calls of a list, all of these rows, are such calls
+pub run-is-calls : (rows : ℕ) (lent : Track) (calls : List Patch) → Ran rows lent (run rows lent calls)
+unfolding run
+run-is-calls rows lent [] = stays
+run-is-calls rows lent (patch ∷ calls) = patches {patch = patch} (record { answer-is = refl; track-is = refl }) (run-is-calls rows (after rows lent patch) calls)
+
+pub run-is-one-analysis : (rows : ℕ) (lent : Track) (calls : List Patch)
+    → run rows (analysed rows lent) calls ≡ analysed rows (track (run rows (analysed rows lent) calls .features) (lent .similarity) (lent .novelty))
+run-is-one-analysis rows lent calls = calls-are-one-analysis rows lent (run-is-calls rows (analysed rows lent) calls)
+
+pub run-is-fresh : (rows : ℕ) (lent : Track) (calls : List Patch) → Fresh rows lent → Fresh rows (run rows lent calls)
+run-is-fresh rows lent calls fresh = calls-end-fresh rows fresh (run-is-calls rows lent calls)
 
 -- what the two calls of the analysis write, where neither refuses, is `analysed`
 pub calls-analyse : (rows : ℕ) (lent : Track) (similarity novelty : List Float)
@@ -224,6 +269,22 @@ calls-analyse rows lent similarity novelty s n =
     ap (λ (x : List Float). track (lent .features) x novelty) f
     ∙ ap (track (lent .features) (filled (similarityAt (lent .features) rows) (lent .similarity) 0 (pairs rows)))
     (e ∙ ap (λ (x : List Float). filled (noveltyAt x rows) (lent .novelty) 0 rows) c)
+
+-- and neither refuses a sound track: there is one fresh analysis of it
+pub sound-is-analysed : (rows : ℕ) (lent : Track) (similarity novelty : List Float) (n m : ℕ) → Sound rows lent
+    → SimilarityDone (lent .features) rows (lent .similarity) n similarity → NoveltyDone (take (pairs rows) similarity) rows (lent .novelty) m novelty
+    → (n ≡ 0) × (m ≡ 0) × (track (lent .features) similarity novelty ≡ analysed rows lent)
+unfolding similarityNumber
+sound-is-analysed rows lent similarity novelty n m s done next =
+    let ok : similarityNumber (lent .features) rows (length (lent .similarity)) ≡ 0 =
+    lowest-0 _ _ _ _ (le-leb _ _ (s .rows-fit)) (eq-eqb _ _ (s .whole)) (le-leb _ _ (s .similarity-room)) (s .fine) in
+    let z : n ≡ 0 = done .answer ∙ ok in
+    let c : take (pairs rows) similarity ≡ curve (similarityAt (lent .features) rows) (pairs rows) =
+    ap (take (pairs rows)) (done .slots ∙ passed-does _ _ _ ok) ∙ filled-first (similarityAt (lent .features) rows) (lent .similarity) (pairs rows) in
+    let y : m ≡ 0 =
+    next .answer ∙ ap (λ (x : List Float). noveltyNumber x rows (length (lent .novelty))) c
+    ∙ genuine-passes (lent .features) rows (length (lent .similarity)) (length (lent .novelty)) ok (s .novelty-room) in
+    (z, y, calls-analyse rows lent similarity novelty (rw z at done) (rw y at next))
 
 -- ---- (6) A good patch on fresh curves is accepted, at any place of a run.
 
@@ -255,11 +316,11 @@ mended-sound rows was patch s a =
       novelty-room = rw (kept .novelty-length) (s .novelty-room);
     }
 
-pub run-is-sound : (rows : ℕ) (lent : Track) (patches : List Patch) → Sound rows lent → Sound rows (run rows lent patches)
-unfolding run
-run-is-sound rows lent [] s = s
-run-is-sound rows lent (patch ∷ patches) s =
-    run-is-sound rows (after rows lent patch) patches (by-outcome (Sound rows) rows lent patch s (mended-sound rows lent patch s))
+pub calls-keep-sound : (rows : ℕ) {was now : Track} → Sound rows was → Ran rows was now → Sound rows now
+calls-keep-sound rows sound ran = calls-keep (Sound rows) rows (mended-sound rows) sound ran
+
+pub run-is-sound : (rows : ℕ) (lent : Track) (calls : List Patch) → Sound rows lent → Sound rows (run rows lent calls)
+run-is-sound rows lent calls s = calls-keep-sound rows s (run-is-calls rows lent calls)
 
 pub analysed-is-sound : (rows : ℕ) (lent : Track) → Sound rows lent → Sound rows (analysed rows lent)
 unfolding analysed
@@ -272,18 +333,20 @@ analysed-is-sound rows lent s =
       novelty-room = rw (length-filled (noveltyAt (similarityCurve rows (lent .features)) rows) (lent .novelty) 0 rows (omega arith) (s .novelty-room)) (s .novelty-room);
     }
 
-pub good-is-accepted-in-a-run : (rows : ℕ) (lent : Track) (patches : List Patch) (patch : Patch) → Sound rows lent → Good rows patch
-    → numberOf rows (run rows (analysed rows lent) patches) patch ≡ 0
-good-is-accepted-in-a-run rows lent patches patch s good =
-    good-is-accepted rows (run rows (analysed rows lent) patches) patch
-    (run-is-sound rows (analysed rows lent) patches (analysed-is-sound rows lent s))
-    (run-is-fresh rows (analysed rows lent) patches (analysed-is-fresh rows lent)) good
+pub good-is-accepted-after-calls : (rows : ℕ) (lent : Track) {now : Track} (patch : Patch) → Sound rows lent → Ran rows (analysed rows lent) now → Good rows patch
+    → numberOf rows now patch ≡ 0
+good-is-accepted-after-calls rows lent {now} patch s ran good =
+    good-is-accepted rows now patch (calls-keep-sound rows (analysed-is-sound rows lent s) ran) (calls-end-fresh rows (analysed-is-fresh rows lent) ran) good
+
+pub good-is-accepted-in-a-run : (rows : ℕ) (lent : Track) (calls : List Patch) (patch : Patch) → Sound rows lent → Good rows patch
+    → numberOf rows (run rows (analysed rows lent) calls) patch ≡ 0
+good-is-accepted-in-a-run rows lent calls patch s = good-is-accepted-after-calls rows lent patch s (run-is-calls rows (analysed rows lent) calls)
 
 -- ---- (7) What is computed from patched curves, as the sections are, is what a full run on the edited rows gives.
 
-pub same-answer : {A : Type 0} (answer : (similarity novelty : List Float) → A) (rows : ℕ) (lent : Track) (patches : List Patch) → Fresh rows lent
-    → answer (take (pairs rows) (run rows lent patches .similarity)) (take rows (run rows lent patches .novelty))
-    ≡ answer (similarityCurve rows (run rows lent patches .features)) (noveltyCurve rows (run rows lent patches .features))
-same-answer answer rows lent patches fresh =
-    let now = run-is-fresh rows lent patches fresh in
+pub same-answer : {A : Type 0} (answer : (similarity novelty : List Float) → A) (rows : ℕ) (lent : Track) (calls : List Patch) → Fresh rows lent
+    → answer (take (pairs rows) (run rows lent calls .similarity)) (take rows (run rows lent calls .novelty))
+    ≡ answer (similarityCurve rows (run rows lent calls .features)) (noveltyCurve rows (run rows lent calls .features))
+same-answer answer rows lent calls fresh =
+    let now = run-is-fresh rows lent calls fresh in
     rw (now .similarity, now .novelty)

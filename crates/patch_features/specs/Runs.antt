@@ -12,7 +12,9 @@ use Rattle.numbers.specs.Lists.{curve, filled, row, every}
 use Rattle.structure.specs.Similarity.{similarityAt}
 use Rattle.structure.specs.Novelty.{noveltyAt}
 use Rattle.patching.specs.Patches.{Patch, pastRow}
-use Rattle.patch_features.specs.Features.{Track, track, pairs, touched, after}
+use Rattle.patch_features.specs.declared.PatchedFeatures.{PatchedFeatures}
+use Rattle.patch_features.specs.declared.PatchedFeatures.the-variants.{Refused}
+use Rattle.patch_features.specs.Features.{Track, track, pairs, touched, after, Patches}
 
 -- the curves that demand 2 gives rows of features
 unfoldable pub similarityCurve : (rows : ℕ) → (features : List Float) → List Float
@@ -60,4 +62,10 @@ analysed rows lent =
 -- the track after one patch after the other, whatever each answers
 unfoldable pub run : (rows : ℕ) → Track → List Patch → Track
 run rows lent [] = lent
-run rows lent (patch ∷ patches) = run rows (after rows lent patch) patches
+run rows lent (patch ∷ rest) = run rows (after rows lent patch) rest
+
+-- Calls one after the other, by what each promises: a patch of the track, whatever it answers, or a call of any rows that is refused.
+pub data Ran (rows : ℕ) : (was now : Track) → Type 0 where
+  stays : {was : Track} → Ran rows was was
+  patches : {was mid now : Track} {patch : Patch} {answer : PatchedFeatures} → Patches rows was patch answer mid → Ran rows mid now → Ran rows was now
+  refuses : {was mid now : Track} {rows′ k : ℕ} {patch : Patch} → Patches rows′ was patch (Refused k) mid → Ran rows mid now → Ran rows was now

@@ -7,6 +7,7 @@ ghost use mathlib.Core.Path.{_≡_};
 ghost use Prim.Native.Nat.{_+_, _-_, _*_, _≤_, _<_, min};
 ghost use lib.ListN.{length, getD};
 ghost use lib.Ieee.{nan};
+ghost use Rattle.numbers.specs.Limits.{mostFeatures};
 ghost use Rattle.numbers.specs.Lists.{filled};
 ghost use Rattle.numbers.specs.Rounded.{pick};
 ghost use Rattle.patching.specs.Patches.{patchOf};
@@ -37,7 +38,7 @@ pub enum PatchedFeatures {
 // Replaces rows a = start up to b by the new ones, then writes the similarity of each pair that touches one of them and novelty slots a - 7
 // to b + 7, cut at the ends, and names the slots. Room: 17 rows slots of similarity, rows of novelty. Refuses: 1 rows above 50,000 or start
 // above rows; 2 features that aren't 16 rows, new ones that aren't whole rows or run past the end; 3 a curve below its room; 4 a feature, old
-// or new, or one of novelty's first rows values not finite or above 2^150 in size, one of similarity's first 17 rows values outside -1..1.
+// or new, or one of novelty's first rows values not finite or of size above 2^150, one of similarity's first 17 rows values outside -1 to 1.
 // A refusal and an empty patch change nothing; slots past the curves stay.
 pub fn patch_features(
     features: &mut [f64],
@@ -86,7 +87,7 @@ pub fn patch_features(
 
 // the slot of the first pair that touches row `start`
 fn first_pair(start: usize) -> usize
-    requires { ⌜ start ≤ 50000 ⌝ }
+    requires { ⌜ start ≤ mostFeatures ⌝ }
     ensures { λ r. ⌜ r ≡ firstPair start ⌝ }
 {
     numbers::less(start, BAND) * BAND_WIDTH + numbers::least(start, BAND)
@@ -94,7 +95,7 @@ fn first_pair(start: usize) -> usize
 
 // Writes the pairs that touch rows start up to past: those of rows before them slot by slot, as only some touch, and their own rows whole.
 fn mend_similarity(features: &[f64], rows: usize, start: usize, past: usize, similarity: &mut [f64])
-    requires { ⌜ (length (now features) ≡ rows * 16) × (rows ≤ 50000) × (start ≤ past) × (past ≤ rows) × (rows * 17 ≤ length (now similarity)) ⌝ }
+    requires { ⌜ (length (now features) ≡ rows * 16) × (rows ≤ mostFeatures) × (start ≤ past) × (past ≤ rows) × (rows * 17 ≤ length (now similarity)) ⌝ }
     ensures { λ _. ⌜ now (similarity .exit) ≡ filled (mendedAt (now (features .entry)) rows start past (now (similarity .entry))) (now (similarity .entry)) (firstPair start) (past * 17) ⌝ }
 {
     mend_before(features, rows, start, past, first_pair(start), similarity);
@@ -109,7 +110,7 @@ fn mend_before(
     from: usize,
     similarity: &mut [f64],
 )
-    requires { ⌜ (length (now features) ≡ rows * 16) × (rows ≤ 50000) × (from ≤ start * 17) × (start ≤ rows) × (rows * 17 ≤ length (now similarity)) ⌝ }
+    requires { ⌜ (length (now features) ≡ rows * 16) × (rows ≤ mostFeatures) × (from ≤ start * 17) × (start ≤ rows) × (rows * 17 ≤ length (now similarity)) ⌝ }
     ensures { λ _. ⌜ now (similarity .exit) ≡ filled (mendedAt (now (features .entry)) rows start past (now (similarity .entry))) (now (similarity .entry)) from (start * 17) ⌝ }
 {
     let to = start * BAND_WIDTH;
@@ -183,7 +184,7 @@ fn bounds_fine(rows: usize, start: usize) -> bool
 }
 
 fn room_fine(rows: usize, similarity: usize, novelty: usize) -> bool
-    requires { ⌜ rows ≤ 50000 ⌝ }
+    requires { ⌜ rows ≤ mostFeatures ⌝ }
     ensures { λ r. ⌜ r ≡ roomFine rows similarity novelty ⌝ }
 {
     rows * BAND_WIDTH <= similarity && rows <= novelty
@@ -196,7 +197,7 @@ fn values_fine(
     similarity: &[f64],
     novelty: &[f64],
 ) -> bool
-    requires { ⌜ (rows ≤ 50000) × (rows * 17 ≤ length (now similarity)) × (rows ≤ length (now novelty)) ⌝ }
+    requires { ⌜ (rows ≤ mostFeatures) × (rows * 17 ≤ length (now similarity)) × (rows ≤ length (now novelty)) ⌝ }
     ensures { λ r. ⌜ r ≡ valuesFine rows (track (now (features .entry)) (now (similarity .entry)) (now (novelty .entry))) (now (new .entry)) ⌝ }
 {
     if !numbers::values_fine(features) {

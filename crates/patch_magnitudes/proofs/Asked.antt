@@ -11,9 +11,10 @@ use lib.ListN.{length, take}
 use Rattle.numbers.proofs.Tests.{and-left, and-right, and-both, lowest-zero, lowest-0}
 use Rattle.numbers.specs.Limits.{mostRows, mostBins, between, magnitudeFine, valueFine}
 use Rattle.numbers.specs.Lists.{every}
+use Rattle.onsets.specs.Threshold.{windowRoom}
 use Rattle.patching.proofs.Wholes.{Whole, whole-told}
 use Rattle.patching.specs.Patches.{Patch, pastRow, wholeRows}
-use Rattle.patch_magnitudes.specs.Magnitudes.{Track, sortingRoom, boundsFine, roomFine, valuesFine, numberOf}
+use Rattle.patch_magnitudes.specs.Magnitudes.{Track, boundsFine, roomFine, valuesFine, numberOf}
 
 pub record Bounds (rows bins start : ℕ) : Type 0 where
   pub rows-fit : rows ≤ mostRows
@@ -42,7 +43,7 @@ bounds-asked rows bins start b =
 pub record Room (rows flux threshold room : ℕ) : Type 0 where
   pub flux-room : rows ≤ flux
   pub threshold-room : rows ≤ threshold
-  pub work-room : sortingRoom rows ≤ room
+  pub work-room : windowRoom rows ≤ room
 
 pub room-told : (rows flux threshold room : ℕ) → roomFine rows flux threshold room ≡ true → Room rows flux threshold room
 unfolding roomFine
@@ -51,14 +52,14 @@ room-told rows flux threshold room e =
     record {
       flux-room = leb-true rows flux (and-left (leb rows flux) _ e);
       threshold-room = leb-true rows threshold (and-left (leb rows threshold) _ t);
-      work-room = leb-true (sortingRoom rows) room (and-right (leb rows threshold) _ t);
+      work-room = leb-true (windowRoom rows) room (and-right (leb rows threshold) _ t);
     }
 
 pub room-asked : (rows flux threshold room : ℕ) → Room rows flux threshold room → roomFine rows flux threshold room ≡ true
 unfolding roomFine
 room-asked rows flux threshold room r =
     and-both (leb rows flux) _ (le-leb rows flux (r .flux-room))
-    (and-both (leb rows threshold) _ (le-leb rows threshold (r .threshold-room)) (le-leb (sortingRoom rows) room (r .work-room)))
+    (and-both (leb rows threshold) _ (le-leb rows threshold (r .threshold-room)) (le-leb (windowRoom rows) room (r .work-room)))
 
 -- what number 0 says
 pub record Asked (rows bins : ℕ) (was : Track) (patch : Patch) (room : ℕ) : Type 0 where

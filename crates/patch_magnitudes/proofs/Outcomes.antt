@@ -7,7 +7,7 @@ use lib.ListN.{length, take, drop}
 use Rattle.numbers.proofs.Tests.{refused-keeps, passed-does}
 use Rattle.numbers.specs.Lists.{filled}
 use Rattle.onsets.specs.Flux.{fluxAt}
-use Rattle.onsets.specs.Threshold.{thresholdAt}
+use Rattle.onsets.specs.Threshold.{thresholdAt, windowRoom}
 use Rattle.patching.proofs.Wholes.{empty-keeps, full-does}
 use Rattle.patching.specs.Patches.{Patch, patchOf, edited, unlessEmpty}
 use Rattle.patch_magnitudes.specs.declared.Patched.{Patched}
@@ -15,7 +15,6 @@ use Rattle.patch_magnitudes.specs.declared.Patched.the-variants.{Refused
 use Rattle.patch_magnitudes.specs.Magnitudes.{
   Track,
   track,
-  sortingRoom,
   fluxFirst,
   fluxPast,
   thresholdFirst,
@@ -63,7 +62,7 @@ module _ (rows bins : ℕ) (was : Track) (patch : Patch) (work : List Float) whe
     -- the slots and curves are given as the code finds them
     pub wrote : (length (patch .new) ≡ 0 → ⊥) → (fp tf tp : ℕ) → fp ≡ fluxPast rows bins patch → tf ≡ thresholdFirst patch → tp ≡ thresholdPast rows bins patch
         → (m f t work′ : List Float) → m ≡ edited bins (was .magnitudes) patch → f ≡ filled (fluxAt m bins) (was .flux) (patch .start) fp
-        → t ≡ filled (thresholdAt (take rows f)) (was .threshold) tf tp → length work′ ≡ length work → drop (sortingRoom rows) work′ ≡ drop (sortingRoom rows) work
+        → t ≡ filled (thresholdAt (take rows f)) (was .threshold) tf tp → length work′ ≡ length work → drop (windowRoom rows) work′ ≡ drop (windowRoom rows) work
         → Patches rows bins was patch work (Wrote (patch .start) fp tf tp) (track m f t) work′
     unfolding answered after mended mendedFlux mendedThreshold sortedIn
     wrote some fp tf tp a b c m f t work′ em ef et l k =
@@ -71,9 +70,11 @@ module _ (rows bins : ℕ) (was : Track) (patch : Patch) (work : List Float) whe
           answer-is = rw (none, a, b, c) (sym (full-does _ _ (patch .new) some));
           track-is = rw (none, et, ef, em, a, b, c) (sym (full-does _ was (patch .new) some));
           work-length = l;
-          work-keeps = rw (none, full-does (sortingRoom rows) 0 (patch .new) some) k;
+          work-keeps = rw (none, full-does (windowRoom rows) 0 (patch .new) some) k;
         }
 
   -- any two outcomes coincide, but for the slots that are sorted in
-  pub unique : {a b : Patched} {x y : Track} {v w : List Float} → Patches rows bins was patch work a x v → Patches rows bins was patch work b y w → (a ≡ b) × (x ≡ y)
-  unique p q = (p .answer-is ∙ sym (q .answer-is), p .track-is ∙ sym (q .track-is))
+  pub unique : {a b : Patched} {x y : Track} {v w : List Float} → Patches rows bins was patch work a x v → Patches rows bins was patch work b y w
+      → (a ≡ b) × (x ≡ y) × (length v ≡ length w) × (drop (sortedIn number rows patch) v ≡ drop (sortedIn number rows patch) w)
+  unique p q =
+      (p .answer-is ∙ sym (q .answer-is), p .track-is ∙ sym (q .track-is), p .work-length ∙ sym (q .work-length), p .work-keeps ∙ sym (q .work-keeps))

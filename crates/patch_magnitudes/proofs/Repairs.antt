@@ -3,29 +3,30 @@
 use mathlib.Core.Bool.{true}
 use mathlib.Core.List.{List, [], _∷_}
 use mathlib.Core.Path.{_≡_, refl, sym, ap, _∙_}
-use Prim.Native.Nat.{ℕ, zero, suc, _+_, _-_, _*_, _/_, _≤_, _<_, min}
+use Prim.Native.Nat.{ℕ, zero, suc, _+_, _-_, _*_, _/_, _≤_, _<_}
 use native.Mathlib.Omega.{arith}
 use lib.Ieee.{Float, nan}
 use lib.ListN.{length, take, drop}
-use Rattle.numbers.proofs.Overs.{length-over, every-over, patch-fits, row-over}
+use Rattle.numbers.proofs.Overs.{length-over, every-over, patch-fits, row-over, row-over-in, over-none}
 use Rattle.numbers.proofs.Tabs.{length-tab, length-filled, filled-outside}
 use Rattle.numbers.proofs.Tests.{passed-does, and-both, lowest-0}
 use Rattle.numbers.specs.Limits.{magnitudeFine, valueFine}
-use Rattle.numbers.specs.Lists.{curve, every, filled}
+use Rattle.numbers.specs.Lists.{curve, every, filled, row}
 use Rattle.numbers.specs.Refusals.{unlessRefused}
-use Rattle.onsets.specs.Flux.{fluxAt}
+use Rattle.onsets.proofs.Fluxes.{FluxFine, flux-asked}
+use Rattle.onsets.proofs.Onsets.{threshold-takes}
+use Rattle.onsets.specs.Flux.{fluxAt, fluxRefusal}
 use Rattle.onsets.specs.Onsets.{onsetsOf}
 use Rattle.onsets.specs.Outcomes.{Written}
-use Rattle.onsets.specs.Threshold.{thresholdAt, thresholdRefusal, Thresholds}
+use Rattle.onsets.specs.Threshold.{thresholdAt, windowRoom, thresholdRefusal, Thresholds}
 use Rattle.patching.proofs.Parts.{filled-first, filled-rest, filled-by}
 use Rattle.patching.proofs.Wholes.{whole-asked}
-use Rattle.patching.specs.Patches.{Patch, patchOf, pastRow, wholeRows, edited, unlessEmpty}
+use Rattle.patching.specs.Patches.{Patch, patchOf, wholeRows, edited, unlessEmpty}
 use Rattle.patch_magnitudes.specs.declared.Patched.{Patched}
 use Rattle.patch_magnitudes.specs.declared.Patched.the-variants.{Refused, Wrote}
 use Rattle.patch_magnitudes.specs.Magnitudes.{
   Track,
   track,
-  sortingRoom,
   fluxFirst,
   fluxPast,
   thresholdFirst,
@@ -40,7 +41,7 @@ use Rattle.patch_magnitudes.specs.Magnitudes.{
   sortedIn,
   Patches,
 }
-use Rattle.patch_magnitudes.specs.Runs.{fluxCurve, thresholdCurve, Fresh, Kept, Sound, Good, analysed, Call, run}
+use Rattle.patch_magnitudes.specs.Runs.{fluxCurve, thresholdCurve, Fresh, Kept, Sound, Good, analysed, Call, run, Ran, stays, patches, refuses}
 use Rattle.patch_magnitudes.proofs.Asked.{Asked, asked, bounds-asked, room-asked}
 use Rattle.patch_magnitudes.proofs.Mended.{flux-mends, threshold-mends, flux-rest, threshold-rest, fluxes-fine, thresholds-fine}
 
@@ -69,7 +70,41 @@ pub patched-is-fresh : (rows bins : ℕ) (was : Track) (patch : Patch) (room : �
 patched-is-fresh rows bins was patch room fresh =
     by-outcome (Fresh rows bins) rows bins was patch room fresh (mends rows bins was patch room fresh)
 
--- ---- (2) Outside the rows replaced and the slots that the answer names nothing differs.
+-- what `patch_magnitudes` promises of one call, whatever it answers
+pub call-is-fresh : (rows bins : ℕ) (was : Track) (patch : Patch) (work : List Float) (answer : Patched) (now : Track) (work′ : List Float) → Fresh rows bins was
+    → Patches rows bins was patch work answer now work′ → Fresh rows bins now
+call-is-fresh rows bins was patch work answer now work′ fresh done = rw (done .track-is) (patched-is-fresh rows bins was patch (length work) fresh)
+
+-- ---- (2) An accepted patch leaves the edited rows. Outside them and the slots that the answer names nothing differs.
+
+module _ (rows bins : ℕ) (was : Track) (f g t u : ℕ) (now : Track) where
+  accepted-passes : (n : ℕ) (patch : Patch) → Wrote f g t u ≡ answered n rows bins patch → n ≡ 0
+  unfolding answered
+  accepted-passes zero patch h = refl
+  accepted-passes (suc n) patch h = let z : _≡_ {A = ℕ} 0 1 = cc in absurd (omega arith)
+
+  edited-by : (n start : ℕ) (new : List Float) → Wrote f g t u ≡ answered n rows bins (patchOf start new)
+      → now ≡ unlessRefused n (unlessEmpty new (mended rows bins was (patchOf start new)) was) was → now .magnitudes ≡ edited bins (was .magnitudes) (patchOf start new)
+  unfolding answered mended edited
+  edited-by (suc n) start new h k = let z : _≡_ {A = ℕ} 0 1 = cc in absurd (omega arith)
+  edited-by zero start [] h k = ap (λ (s : Track). s .magnitudes) k ∙ sym (over-none (was .magnitudes) (start * bins))
+  edited-by zero start (x ∷ xs) h k = ap (λ (s : Track). s .magnitudes) k
+
+pub accepted-is-edited : (rows bins : ℕ) (was : Track) (patch : Patch) (work : List Float) (f g t u : ℕ) (now : Track) (work′ : List Float)
+    → Patches rows bins was patch work (Wrote f g t u) now work′ → now .magnitudes ≡ edited bins (was .magnitudes) patch
+unfolding after
+accepted-is-edited rows bins was patch work f g t u now work′ done =
+    edited-by rows bins was f g t u now (numberOf rows bins was patch (length work)) (patch .start) (patch .new) (done .answer-is) (done .track-is)
+
+-- row a + j is then the patch's row j
+pub replaced-are-new : (rows bins : ℕ) (was : Track) (patch : Patch) (work : List Float) (f g t u : ℕ) (now : Track) (work′ : List Float)
+    → Patches rows bins was patch work (Wrote f g t u) now work′
+    → (j : ℕ) → j < length (patch .new) / bins → row (now .magnitudes) bins (patch .start + j) ≡ row (patch .new) bins j
+unfolding edited
+replaced-are-new rows bins was patch work f g t u now work′ done j h =
+    let w = asked rows bins was patch (length work) (accepted-passes rows bins was f g t u now (numberOf rows bins was patch (length work)) patch (done .answer-is)) .lengths in
+    ap (λ (m : List Float). row m bins (patch .start + j)) (accepted-is-edited rows bins was patch work f g t u now work′ done)
+    ∙ row-over-in (was .magnitudes) (patch .new) rows bins (patch .start) (length (patch .new) / bins) nan (w .whole) (w .new-whole) (w .inside) j h
 
 unmoved : (bins : ℕ) (patch : Patch) (f g t u : ℕ) (was : Track) → Kept bins patch f g t u was was
 unmoved bins patch f g t u was =
@@ -120,17 +155,17 @@ outside-stays rows bins was patch work f g t u now work′ done =
 
 -- ---- (3) An empty patch changes nothing. (4) A refused one changes nothing.
 
-empty-keeps-all : (n rows start : ℕ) (done was now : Track) (work work′ : List Float) → now ≡ unlessRefused n was was
+empty-keeps-all : (n rows start : ℕ) (was now : Track) (work work′ : List Float) → now ≡ unlessRefused n was was
     → drop (sortedIn n rows (patchOf start [])) work′ ≡ drop (sortedIn n rows (patchOf start [])) work → (now ≡ was) × (work′ ≡ work)
 unfolding sortedIn
-empty-keeps-all zero rows start done was now work work′ e h = (e, h)
-empty-keeps-all (suc n) rows start done was now work work′ e h = (e, h)
+empty-keeps-all zero rows start was now work work′ e h = (e, h)
+empty-keeps-all (suc n) rows start was now work work′ e h = (e, h)
 
 pub empty-changes-nothing : (rows bins : ℕ) (was : Track) (start : ℕ) (work : List Float) (answer : Patched) (now : Track) (work′ : List Float)
     → Patches rows bins was (patchOf start []) work answer now work′ → (now ≡ was) × (work′ ≡ work)
 unfolding after
 empty-changes-nothing rows bins was start work answer now work′ done =
-    empty-keeps-all (numberOf rows bins was (patchOf start []) (length work)) rows start was was now work work′ (done .track-is) (done .work-keeps)
+    empty-keeps-all (numberOf rows bins was (patchOf start []) (length work)) rows start was now work work′ (done .track-is) (done .work-keeps)
 
 module _ (rows bins : ℕ) (was now : Track) (work work′ : List Float) (k : ℕ) where
   refused-keeps-all : (n start : ℕ) (new : List Float) → Refused k ≡ answered n rows bins (patchOf start new)
@@ -165,12 +200,14 @@ going-on rows bins lent st patch room h a =
       threshold-rest = threshold-rest rows bins st patch room a ∙ h .threshold-rest;
     }
 
-run-going : (rows bins : ℕ) (lent st : Track) (calls : List Call) → Going rows bins lent st → Going rows bins lent (run rows bins st calls)
-unfolding run
-run-going rows bins lent st [] h = h
-run-going rows bins lent st (call ∷ calls) h =
-    run-going rows bins lent (after rows bins st (call .patch) (call .room)) calls
-    (by-outcome (Going rows bins lent) rows bins st (call .patch) (call .room) h (going-on rows bins lent st (call .patch) (call .room) h))
+-- what a mended patch keeps, calls one after the other keep
+calls-keep : (P : Track → Type 0) (rows bins : ℕ)
+    → ((was : Track) (patch : Patch) (room : ℕ) → P was → Asked rows bins was patch room → P (mended rows bins was patch))
+    → {was now : Track} → P was → Ran rows bins was now → P now
+calls-keep P rows bins keeps h stays = h
+calls-keep P rows bins keeps h (patches p ran) =
+    calls-keep P rows bins keeps (rw (p .track-is) (by-outcome P rows bins _ _ _ h (keeps _ _ _ h))) ran
+calls-keep P rows bins keeps h (refuses p ran) = calls-keep P rows bins keeps (rw (refused-changes-nothing _ _ _ _ _ _ _ _ p .0) h) ran
 
 module _ (rows bins : ℕ) (lent : Track) where
   pub analysed-is-fresh : Fresh rows bins (analysed rows bins lent)
@@ -189,32 +226,80 @@ module _ (rows bins : ℕ) (lent : Track) where
       ∙ ap (λ (t : List Float). track (st .magnitudes) (filled (fluxAt (st .magnitudes) bins) (lent .flux) 0 rows) t)
       (filled-by (thresholdAt (fluxCurve rows bins (st .magnitudes))) (lent .threshold) (st .threshold) rows (h .fresh .threshold) (h .threshold-rest))
 
+  -- calls one after the other, refused ones of any rows and bins among them
+  pub calls-are-one-analysis : {now : Track} → Ran rows bins (analysed rows bins lent) now
+      → now ≡ analysed rows bins (track (now .magnitudes) (lent .flux) (lent .threshold))
+  calls-are-one-analysis {now} ran = going-is-analysed now (calls-keep (Going rows bins lent) rows bins (going-on rows bins lent) analysed-going ran)
+
+-- the same of curves that were fresh to begin with, wherever they came from
+pub calls-end-fresh : (rows bins : ℕ) {was now : Track} → Fresh rows bins was → Ran rows bins was now → Fresh rows bins now
+calls-end-fresh rows bins fresh ran = calls-keep (Fresh rows bins) rows bins (mends rows bins) fresh ran
+
+-- the calls of a list, all of these rows and bins, are such calls
+pub run-is-calls : (rows bins : ℕ) (lent : Track) (calls : List Call) → Ran rows bins lent (run rows bins lent calls)
+unfolding run
+run-is-calls rows bins lent [] = stays
+run-is-calls rows bins lent (call ∷ calls) =
+    patches {patch = call .patch} {work = curve (λ i. nan) (call .room)} {work′ = curve (λ i. nan) (call .room)}
+    (record {
+      answer-is = refl;
+      track-is = ap (after rows bins lent (call .patch)) (sym (length-tab (λ i. nan) 0 (call .room)));
+      work-length = refl;
+      work-keeps = refl;
+    })
+    (run-is-calls rows bins (after rows bins lent (call .patch) (call .room)) calls)
+
 pub run-is-one-analysis : (rows bins : ℕ) (lent : Track) (calls : List Call)
     → run rows bins (analysed rows bins lent) calls
     ≡ analysed rows bins (track (run rows bins (analysed rows bins lent) calls .magnitudes) (lent .flux) (lent .threshold))
-run-is-one-analysis rows bins lent calls =
-    going-is-analysed rows bins lent (run rows bins (analysed rows bins lent) calls)
-    (run-going rows bins lent (analysed rows bins lent) calls (analysed-going rows bins lent))
+run-is-one-analysis rows bins lent calls = calls-are-one-analysis rows bins lent (run-is-calls rows bins (analysed rows bins lent) calls)
 
--- the same of curves that were fresh to begin with, wherever they came from
 pub run-is-fresh : (rows bins : ℕ) (lent : Track) (calls : List Call) → Fresh rows bins lent → Fresh rows bins (run rows bins lent calls)
-run-is-fresh rows bins lent calls fresh =
-    run-going rows bins lent lent calls (record { fresh = fresh; flux-rest = refl; threshold-rest = refl }) .fresh
+run-is-fresh rows bins lent calls fresh = calls-end-fresh rows bins fresh (run-is-calls rows bins lent calls)
 
 -- what the two calls of the analysis write, where neither refuses, is `analysed`
-pub calls-analyse : (rows bins : ℕ) (lent : Track) (flux threshold work work′ : List Float)
-    → Written 0 (filled (fluxAt (lent .magnitudes) bins) (lent .flux) 0 rows) (lent .flux) 0 flux
-    → thresholdRefusal (take rows flux) (length (lent .threshold)) (length work) ≡ 0
-    → Thresholds (take rows flux) (lent .threshold) work 0 threshold work′ → track (lent .magnitudes) flux threshold ≡ analysed rows bins lent
-unfolding analysed fluxCurve
-calls-analyse rows bins lent flux threshold work work′ w z t =
-    let f : flux ≡ filled (fluxAt (lent .magnitudes) bins) (lent .flux) 0 rows = w .slots-are in
-    let c : take rows flux ≡ curve (fluxAt (lent .magnitudes) bins) rows = ap (take rows) f ∙ filled-first (fluxAt (lent .magnitudes) bins) (lent .flux) rows in
-    let l : length (take rows flux) ≡ rows = ap length c ∙ length-tab (fluxAt (lent .magnitudes) bins) 0 rows in
-    let e : threshold ≡ filled (thresholdAt (take rows flux)) (lent .threshold) 0 (length (take rows flux)) = t .curve .slots-are ∙ passed-does _ _ _ z in
-    ap (λ (x : List Float). track (lent .magnitudes) x threshold) f
-    ∙ ap (track (lent .magnitudes) (filled (fluxAt (lent .magnitudes) bins) (lent .flux) 0 rows))
-    (e ∙ ap (filled (thresholdAt (take rows flux)) (lent .threshold) 0) l ∙ ap (λ (x : List Float). filled (thresholdAt x) (lent .threshold) 0 rows) c)
+module _ (rows bins : ℕ) (lent : Track) (flux threshold work work′ : List Float) where
+  flux-written : Written (fluxRefusal (lent .magnitudes) rows bins (length (lent .flux))) (filled (fluxAt (lent .magnitudes) bins) (lent .flux) 0 rows) (lent .flux) 0 flux
+      → flux ≡ filled (fluxAt (lent .magnitudes) bins) (lent .flux) 0 rows
+  flux-written w = w .slots-are ∙ passed-does _ _ _ (sym (w .number-is))
+
+  curve-written : flux ≡ filled (fluxAt (lent .magnitudes) bins) (lent .flux) 0 rows → take rows flux ≡ curve (fluxAt (lent .magnitudes) bins) rows
+  curve-written f = ap (take rows) f ∙ filled-first (fluxAt (lent .magnitudes) bins) (lent .flux) rows
+
+  pub calls-analyse :
+      Written (fluxRefusal (lent .magnitudes) rows bins (length (lent .flux))) (filled (fluxAt (lent .magnitudes) bins) (lent .flux) 0 rows) (lent .flux) 0 flux
+      → Thresholds (take rows flux) (lent .threshold) work 0 threshold work′ → track (lent .magnitudes) flux threshold ≡ analysed rows bins lent
+  unfolding analysed fluxCurve
+  calls-analyse w t =
+      let f = flux-written w in
+      let c = curve-written f in
+      let l : length (take rows flux) ≡ rows = ap length c ∙ length-tab (fluxAt (lent .magnitudes) bins) 0 rows in
+      let e : threshold ≡ filled (thresholdAt (take rows flux)) (lent .threshold) 0 (length (take rows flux)) =
+      t .curve .slots-are ∙ passed-does _ _ _ (sym (t .curve .number-is)) in
+      ap (λ (x : List Float). track (lent .magnitudes) x threshold) f
+      ∙ ap (track (lent .magnitudes) (filled (fluxAt (lent .magnitudes) bins) (lent .flux) 0 rows))
+      (e ∙ ap (filled (thresholdAt (take rows flux)) (lent .threshold) 0) l ∙ ap (λ (x : List Float). filled (thresholdAt x) (lent .threshold) 0 rows) c)
+
+  -- and neither refuses a sound track with room to sort in: there is one fresh analysis of it
+  pub sound-is-analysed : (n m : ℕ) → Sound rows bins lent → windowRoom rows ≤ length work
+      → Written (fluxRefusal (lent .magnitudes) rows bins (length (lent .flux))) (filled (fluxAt (lent .magnitudes) bins) (lent .flux) 0 rows) (lent .flux) n flux
+      → Thresholds (take rows flux) (lent .threshold) work m threshold work′
+      → (n ≡ 0) × (m ≡ 0) × (track (lent .magnitudes) flux threshold ≡ analysed rows bins lent)
+  sound-is-analysed n m s r w t =
+      let ok : FluxFine (lent .magnitudes) rows bins (length (lent .flux)) = record {
+        rows-fit = s .rows-fit;
+        some-bins = s .some-bins;
+        bins-fit = s .bins-fit;
+        whole = s .whole;
+        has-room = s .flux-room;
+        fine = s .fine;
+      } in
+      let z : n ≡ 0 = w .number-is ∙ flux-asked (lent .magnitudes) rows bins (length (lent .flux)) ok in
+      let w′ = rw z at w in
+      let y : m ≡ 0 =
+      t .curve .number-is ∙ ap (λ (x : List Float). thresholdRefusal x (length (lent .threshold)) (length work)) (curve-written (flux-written w′))
+      ∙ threshold-takes (lent .magnitudes) rows bins (length (lent .flux)) ok (length (lent .threshold)) (length work) (s .threshold-room) r in
+      (z, y, calls-analyse w′ (rw y at t))
 
 -- ---- (6) A good patch on fresh curves is accepted, at any place of a run.
 
@@ -251,12 +336,11 @@ mended-sound rows bins was patch room s a =
       threshold-room = rw (kept .threshold-length) (s .threshold-room);
     }
 
+pub calls-keep-sound : (rows bins : ℕ) {was now : Track} → Sound rows bins was → Ran rows bins was now → Sound rows bins now
+calls-keep-sound rows bins sound ran = calls-keep (Sound rows bins) rows bins (mended-sound rows bins) sound ran
+
 pub run-is-sound : (rows bins : ℕ) (lent : Track) (calls : List Call) → Sound rows bins lent → Sound rows bins (run rows bins lent calls)
-unfolding run
-run-is-sound rows bins lent [] s = s
-run-is-sound rows bins lent (call ∷ calls) s =
-    run-is-sound rows bins (after rows bins lent (call .patch) (call .room)) calls
-    (by-outcome (Sound rows bins) rows bins lent (call .patch) (call .room) s (mended-sound rows bins lent (call .patch) (call .room) s))
+run-is-sound rows bins lent calls s = calls-keep-sound rows bins s (run-is-calls rows bins lent calls)
 
 pub analysed-is-sound : (rows bins : ℕ) (lent : Track) → Sound rows bins lent → Sound rows bins (analysed rows bins lent)
 unfolding analysed
@@ -271,12 +355,16 @@ analysed-is-sound rows bins lent s =
       threshold-room = rw (length-filled (thresholdAt (fluxCurve rows bins (lent .magnitudes))) (lent .threshold) 0 rows (omega arith) (s .threshold-room)) (s .threshold-room);
     }
 
+pub good-is-accepted-after-calls : (rows bins : ℕ) (lent : Track) {now : Track} (patch : Patch) (room : ℕ) → Sound rows bins lent → Ran rows bins (analysed rows bins lent) now
+    → Good rows bins patch room → numberOf rows bins now patch room ≡ 0
+good-is-accepted-after-calls rows bins lent {now} patch room s ran good =
+    good-is-accepted rows bins now patch room (calls-keep-sound rows bins (analysed-is-sound rows bins lent s) ran)
+    (calls-end-fresh rows bins (analysed-is-fresh rows bins lent) ran) good
+
 pub good-is-accepted-in-a-run : (rows bins : ℕ) (lent : Track) (calls : List Call) (patch : Patch) (room : ℕ) → Sound rows bins lent → Good rows bins patch room
     → numberOf rows bins (run rows bins (analysed rows bins lent) calls) patch room ≡ 0
-good-is-accepted-in-a-run rows bins lent calls patch room s good =
-    good-is-accepted rows bins (run rows bins (analysed rows bins lent) calls) patch room
-    (run-is-sound rows bins (analysed rows bins lent) calls (analysed-is-sound rows bins lent s))
-    (run-is-fresh rows bins (analysed rows bins lent) calls (analysed-is-fresh rows bins lent)) good
+good-is-accepted-in-a-run rows bins lent calls patch room s =
+    good-is-accepted-after-calls rows bins lent patch room s (run-is-calls rows bins (analysed rows bins lent) calls)
 
 -- ---- (7) What is computed from patched curves, be it onsets, a tempo or a beat grid, is what a full run on the edited rows gives.
 

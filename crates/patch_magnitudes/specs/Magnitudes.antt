@@ -12,7 +12,7 @@ use Rattle.numbers.specs.Limits.{mostRows, mostBins, between, magnitudeFine, va
 use Rattle.numbers.specs.Lists.{filled, every}
 use Rattle.numbers.specs.Refusals.{lowest, unlessRefused}
 use Rattle.onsets.specs.Flux.{fluxAt}
-use Rattle.onsets.specs.Threshold.{reach, thresholdAt}
+use Rattle.onsets.specs.Threshold.{reach, thresholdAt, windowRoom}
 use Rattle.patching.specs.Patches.{Patch, pastRow, wholeRows, edited, unlessEmpty}
 use Rattle.patch_magnitudes.specs.declared.Patched.{Patched}
 use Rattle.patch_magnitudes.specs.declared.Patched.the-variants.{Refused, Wrote}
@@ -25,10 +25,6 @@ pub record Track : Type 0 where
 
 abbrev pub track : (magnitudes flux threshold : List Float) → Track
 track magnitudes flux threshold = record { magnitudes = magnitudes; flux = flux; threshold = threshold }
-
--- the room to sort in: min(21, N)
-abbrev pub sortingRoom : (rows : ℕ) → ℕ
-sortingRoom rows = min 21 rows
 
 -- ---- the slots that are written, first and past-last
 
@@ -69,7 +65,7 @@ boundsFine rows bins start = leb rows mostRows && (between 1 mostBins bins && le
 
 -- number 3 else: "A lent curve too short is number 3 here, never 2"
 unfoldable pub roomFine : (rows flux threshold room : ℕ) → Bool
-roomFine rows flux threshold room = leb rows flux && (leb rows threshold && leb (sortingRoom rows) room)
+roomFine rows flux threshold room = leb rows flux && (leb rows threshold && leb (windowRoom rows) room)
 
 -- number 4 else: "old and new rows and .. each lent curve's slots up to its formula; slots beyond are not read"
 unfoldable pub valuesFine : (rows : ℕ) → Track → (new : List Float) → Bool
@@ -99,7 +95,7 @@ after rows bins was patch room =
 
 -- how many slots of the work slice, from its start on, may differ afterwards
 unfoldable pub sortedIn : (number rows : ℕ) → Patch → ℕ
-sortedIn number rows patch = unlessRefused number (unlessEmpty (patch .new) (sortingRoom rows) 0) 0
+sortedIn number rows patch = unlessRefused number (unlessEmpty (patch .new) (windowRoom rows) 0) 0
 
 -- What `patch_magnitudes` promises: its answer, and the track afterwards, each slot of it. Of the work slice, which is left open: it
 -- keeps its length and its slots past the sorting room, and all of them where nothing is written.

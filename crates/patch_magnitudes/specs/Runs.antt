@@ -10,9 +10,11 @@ use lib.Ieee.{Float, nan}
 use Rattle.numbers.specs.Limits.{mostRows, mostBins, magnitudeFine}
 use Rattle.numbers.specs.Lists.{curve, filled, row, every}
 use Rattle.onsets.specs.Flux.{fluxAt}
-use Rattle.onsets.specs.Threshold.{thresholdAt}
+use Rattle.onsets.specs.Threshold.{thresholdAt, windowRoom}
 use Rattle.patching.specs.Patches.{Patch, pastRow}
-use Rattle.patch_magnitudes.specs.Magnitudes.{Track, track, sortingRoom, after}
+use Rattle.patch_magnitudes.specs.declared.Patched.{Patched}
+use Rattle.patch_magnitudes.specs.declared.Patched.the-variants.{Refused}
+use Rattle.patch_magnitudes.specs.Magnitudes.{Track, track, after, Patches}
 
 -- the curves that demand 2 gives rows of magnitudes
 unfoldable pub fluxCurve : (rows bins : ℕ) → (magnitudes : List Float) → List Float
@@ -51,7 +53,7 @@ pub record Good (rows bins : ℕ) (patch : Patch) (room : ℕ) : Type 0 where
   pub whole : length (patch .new) ≡ count * bins
   pub inside : patch .start + count ≤ rows
   pub fine : every magnitudeFine (patch .new) ≡ true
-  pub work-room : sortingRoom rows ≤ room
+  pub work-room : windowRoom rows ≤ room
 
 -- one analysis from nothing: what `spectral_flux` and then `adaptive_threshold` write into lent curves
 unfoldable pub analysed : (rows bins : ℕ) → Track → Track
@@ -68,3 +70,11 @@ pub record Call : Type 0 where
 unfoldable pub run : (rows bins : ℕ) → Track → List Call → Track
 run rows bins lent [] = lent
 run rows bins lent (call ∷ calls) = run rows bins (after rows bins lent (call .patch) (call .room)) calls
+
+-- Calls one after the other, by what each promises: a patch of the track, whatever it answers, or a call of any rows and bins that is refused.
+pub data Ran (rows bins : ℕ) : (was now : Track) → Type 0 where
+  stays : {was : Track} → Ran rows bins was was
+  patches : {was mid now : Track} {patch : Patch} {work work′ : List Float} {answer : Patched}
+      → Patches rows bins was patch work answer mid work′ → Ran rows bins mid now → Ran rows bins was now
+  refuses : {was mid now : Track} {rows′ bins′ k : ℕ} {patch : Patch} {work work′ : List Float}
+      → Patches rows′ bins′ was patch work (Refused k) mid work′ → Ran rows bins mid now → Ran rows bins was now

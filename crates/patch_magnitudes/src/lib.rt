@@ -1,17 +1,14 @@
 // A repair of a track: some magnitude rows are replaced, and the flux and threshold curves are mended where that can change them.
 //
 // Document 01, Patching (added). The curves are then, bit for bit, those of a full run on the edited rows: proofs/Repairs.antt.
+use onsets::threshold::MEDIAN_WINDOW;
+use onsets::threshold::REACH;
 ghost use mathlib.Core.Path.{_≡_};
 ghost use mathlib.Core.Bool.{true};
 ghost use Prim.Native.Nat.{_+_, _*_, _/_, _≤_, _<_};
 ghost use lib.ListN.{length};
 ghost use Rattle.patching.specs.Patches.{patchOf};
 ghost use Rattle.patch_magnitudes.specs.Magnitudes.{track, boundsFine, roomFine, valuesFine, numberOf, Patches};
-
-// how many slots a threshold's window reaches to each side
-const REACH: usize = 10;
-// the most slots of a window
-const WINDOW: usize = 21;
 
 // What a patch did: the number of its refusal, or the slots that it wrote of each curve, first and past-last.
 pub enum Patched {
@@ -26,9 +23,9 @@ pub enum Patched {
 
 // Replaces rows a = start up to b by the new ones, then writes flux slots a to b and threshold slots a - 10 to b + 10, cut at the
 // ends, and names them. Room: rows slots for each curve, min(21, rows) of work to sort in. Refuses: 1 rows above 1,048,576, bins
-// outside 1..4,096, start above rows; 2 magnitudes that aren't rows times bins, new ones that aren't whole rows or run past the end;
-// 3 a curve or work below its room; 4 a magnitude, old or new, not finite or above 2^126 in size, a value of either curve's first
-// rows slots not finite or above 2^150. A refusal and an empty patch change nothing; slots past rows stay.
+// outside 1 to 4,096, start above rows; 2 magnitudes that aren't rows times bins, new ones that aren't whole rows or run past the end;
+// 3 a curve or work below its room; 4 a magnitude, old or new, not finite or of size above 2^126, a value of either curve's first
+// rows slots not finite or of size above 2^150. A refusal and an empty patch change nothing; slots past rows stay.
 pub fn patch_magnitudes(
     magnitudes: &mut [f32],
     rows: usize,
@@ -119,7 +116,7 @@ fn bounds_fine(rows: usize, bins: usize, start: usize) -> bool
 fn room_fine(rows: usize, flux: usize, threshold: usize, room: usize) -> bool
     ensures { λ r. ⌜ r ≡ roomFine rows flux threshold room ⌝ }
 {
-    rows <= flux && (rows <= threshold && numbers::least(WINDOW, rows) <= room)
+    rows <= flux && (rows <= threshold && numbers::least(MEDIAN_WINDOW, rows) <= room)
 }
 
 fn values_fine(
