@@ -1,6 +1,6 @@
 // Repairs of the features of a track of 36 rows, one after the other, refused and empty ones among them. After each, the curves are compared with those of
 // an analysis from nothing of the edited rows, and with those before it outside the slots that the answer names and at pairs that touch no replaced row:
-// no slot may differ, those behind the curves neither. The file stdout holds what must come out.
+// no slot may differ, those behind the curves neither, and the rows replaced must be the new ones. The file stdout holds what must come out.
 ghost use Prim.Native.Nat.{_≤_, _<_};
 ghost use lib.ListN.{length};
 use patch_features::PatchedFeatures;
@@ -164,7 +164,7 @@ fn compared(features: &[f64; 576], similarity: &[f64; 614], novelty: &[f64; 38])
 
 // One patch and its line; rows a up to b are those that it should replace, 0 and 0 where it should replace none.
 fn step(label: &[u8], was: State, start: usize, new: &[f64], a: usize, b: usize) -> State
-    requires { ⌜ (a ≤ 36) × (b ≤ 36) ⌝ }
+    requires { ⌜ (a ≤ b) × (b ≤ 36) ⌝ }
 {
     let first = a * 16;
     let past = b * 16;
@@ -186,6 +186,8 @@ fn step(label: &[u8], was: State, start: usize, new: &[f64], a: usize, b: usize)
     told(answer, &old_similarity, &similarity, &old_novelty, &novelty);
     show::words(b", untouched");
     show::count(untouched_changed(&old_similarity, &similarity, a, b));
+    show::words(b", not new");
+    show::count(changed(&features[first..past], new, 0, 0));
     show::words(b", features");
     show::count(changed(&old_features, &features, first, past));
     compared(&features, &similarity, &novelty);
@@ -224,6 +226,62 @@ fn empty_ones(was: State) -> State {
     let s2 = step(b"none at 36:", s1, 36, &[], 0, 0);
     let s3 = step(b"none at 37:", s2, 37, &[], 0, 0);
     s3
+}
+
+fn names_none(answer: PatchedFeatures) -> bool {
+    match answer {
+        PatchedFeatures::Refused(number) => false,
+        PatchedFeatures::Wrote {
+            similarity_first,
+            similarity_past,
+            novelty_first,
+            novelty_past,
+        } => {
+            similarity_first == 0
+                && (similarity_past == 0 && (novelty_first == 0 && novelty_past == 0))
+        }
+    }
+}
+
+// Prints the place where an empty patch there names 0 to 0 and leaves all as it was.
+fn none_at(was: State, start: usize) {
+    let mut features = was.features;
+    let mut similarity = was.similarity;
+    let mut novelty = was.novelty;
+    let answer = patch_features::patch_features(
+        &mut features,
+        36,
+        start,
+        &[],
+        &mut similarity,
+        &mut novelty,
+    );
+    if names_none(answer) && unchanged(was, features, similarity, novelty) {
+        show::count(start);
+    }
+}
+
+fn unchanged(was: State, features: [f64; 576], similarity: [f64; 614], novelty: [f64; 38]) -> bool {
+    let old_features = was.features;
+    let old_similarity = was.similarity;
+    let old_novelty = was.novelty;
+    if changed(&old_features, &features, 0, 0) != 0 {
+        return false;
+    }
+    if changed(&old_similarity, &similarity, 0, 0) != 0 {
+        return false;
+    }
+    changed(&old_novelty, &novelty, 0, 0) == 0
+}
+
+fn none_anywhere(was: State) {
+    show::words(b"none, nothing changed at");
+    let mut start = 0;
+    while start < 37 {
+        none_at(was, start);
+        start += 1;
+    }
+    show::end();
 }
 
 fn one_after_the_other(was: State) -> State {
@@ -502,6 +560,18 @@ fn values() {
         },
     );
     line(
+        b"similarity no number:",
+        1,
+        0,
+        &row,
+        0.0f64 / 0.0,
+        0.5,
+        Room {
+            similarity: 17,
+            novelty: 1,
+        },
+    );
+    line(
         b"novelty 2^150:",
         1,
         0,
@@ -539,11 +609,75 @@ fn values() {
     );
 }
 
+// One row replaced by ones, whose first old feature is x: the answer, and how many features changed.
+fn old(label: &[u8], x: f64) {
+    let mut was = [1.0f64; 16];
+    was[0] = x;
+    let mut features = was;
+    let new = [1.0f64; 16];
+    let mut similarity = [0.0f64; 17];
+    let mut novelty = [0.0f64; 1];
+    show::words(label);
+    let answer = patch_features::patch_features(
+        &mut features,
+        1,
+        0,
+        &new,
+        &mut similarity,
+        &mut novelty,
+    );
+    told_alone(answer);
+    show::words(b", features changed");
+    show::count(changed(&was, &features, 0, 0));
+    show::end();
+}
+
+// The row replaced by one whose first feature is x.
+fn new(label: &[u8], x: f64) {
+    let mut row = [1.0f64; 16];
+    row[0] = x;
+    line(
+        label,
+        1,
+        0,
+        &row,
+        0.0,
+        0.5,
+        Room {
+            similarity: 17,
+            novelty: 1,
+        },
+    );
+}
+
+fn features_lent() {
+    old(b"old no number:", 0.0f64 / 0.0);
+    old(
+        b"old -2^150:",
+        -1427247692705959881058285969449495136382746624.0,
+    );
+    old(
+        b"old below -2^150:",
+        -1427247692705960197970936026506845510558547968.0,
+    );
+    new(b"new no number:", 0.0f64 / 0.0);
+    new(
+        b"new 2^150:",
+        1427247692705959881058285969449495136382746624.0,
+    );
+    new(
+        b"new above 2^150:",
+        1427247692705960197970936026506845510558547968.0,
+    );
+}
+
 fn main() {
     let a = ends_and_middle(analysed());
     let b = empty_ones(a);
+    none_anywhere(b);
     let c = one_after_the_other(b);
     refused_between(c);
     rooms();
     values();
+    features_lent();
 }

@@ -1,6 +1,7 @@
 // Repairs of a track of 30 rows of 2 bins, one after the other, refused and empty ones among them. After each, the curves are compared with
 // those of an analysis from nothing of the edited rows, and with those before it outside the slots that the answer names: all 32 slots of
-// each curve must be alike, the two behind the curve too, and none may have changed outside. The file stdout holds what must come out.
+// each curve must be alike, the two behind the curve too, none may have changed outside, and the rows replaced must be the new ones. The file
+// stdout holds what must come out.
 ghost use Prim.Native.Nat.{_≤_};
 ghost use lib.ListN.{length};
 use patch_magnitudes::Patched;
@@ -69,10 +70,11 @@ fn changed(old: &[f64; 32], new: &[f64; 32], first: usize, past: usize) -> usize
     count
 }
 
-fn magnitudes_changed(old: &[f32; 60], new: &[f32; 60], first: usize, past: usize) -> usize {
+fn magnitudes_changed(old: &[f32], new: &[f32], first: usize, past: usize) -> usize {
+    let most = numbers::least(old.len(), new.len());
     let mut count = 0;
     let mut i = 0;
-    while i < 60 {
+    while i < most {
         let same = old[i] == new[i];
         count += differ_outside(i, first, past, same);
         i += 1;
@@ -142,7 +144,9 @@ fn compared(
 }
 
 // One patch and its line; `at` and `past` are the slots of the rows that it replaces, 0 and 0 where it should replace none.
-fn step(label: &[u8], was: State, start: usize, new: &[f32], at: usize, past: usize) -> State {
+fn step(label: &[u8], was: State, start: usize, new: &[f32], at: usize, past: usize) -> State
+    requires { ⌜ (at ≤ past) × (past ≤ 60) ⌝ }
+{
     let old_magnitudes = was.magnitudes;
     let old_flux = was.flux;
     let old_threshold = was.threshold;
@@ -162,6 +166,8 @@ fn step(label: &[u8], was: State, start: usize, new: &[f32], at: usize, past: us
         &mut work,
     );
     told(answer, &old_flux, &flux, &old_threshold, &threshold);
+    show::words(b", not new");
+    show::count(magnitudes_changed(&magnitudes[at..past], new, 0, 0));
     compared(&old_magnitudes, &magnitudes, at, past, &flux, &threshold);
     State {
         magnitudes,
@@ -276,6 +282,62 @@ fn empty_ones(was: State) -> State {
     let s4 = step(b"none at 30:", s3, 30, &[], 0, 0);
     let s5 = step(b"none at 31:", s4, 31, &[], 0, 0);
     s5
+}
+
+fn names_none(answer: Patched) -> bool {
+    match answer {
+        Patched::Refused(number) => false,
+        Patched::Wrote {
+            flux_first,
+            flux_past,
+            threshold_first,
+            threshold_past,
+        } => flux_first == 0 && (flux_past == 0 && (threshold_first == 0 && threshold_past == 0)),
+    }
+}
+
+// Prints the place where an empty patch there names 0 to 0 and leaves all as it was.
+fn none_at(was: State, start: usize) {
+    let mut magnitudes = was.magnitudes;
+    let mut flux = was.flux;
+    let mut threshold = was.threshold;
+    let mut work = [0.0f64; 21];
+    let answer = patch_magnitudes::patch_magnitudes(
+        &mut magnitudes,
+        30,
+        2,
+        start,
+        &[],
+        &mut flux,
+        &mut threshold,
+        &mut work,
+    );
+    if names_none(answer) && unchanged(was, magnitudes, flux, threshold) {
+        show::count(start);
+    }
+}
+
+fn unchanged(was: State, magnitudes: [f32; 60], flux: [f64; 32], threshold: [f64; 32]) -> bool {
+    let old_magnitudes = was.magnitudes;
+    let old_flux = was.flux;
+    let old_threshold = was.threshold;
+    if magnitudes_changed(&old_magnitudes, &magnitudes, 0, 0) != 0 {
+        return false;
+    }
+    if changed(&old_flux, &flux, 0, 0) != 0 {
+        return false;
+    }
+    changed(&old_threshold, &threshold, 0, 0) == 0
+}
+
+fn none_anywhere(was: State) {
+    show::words(b"none, nothing changed at");
+    let mut start = 0;
+    while start < 31 {
+        none_at(was, start);
+        start += 1;
+    }
+    show::end();
 }
 
 fn one_after_the_other(was: State) -> State {
@@ -728,13 +790,99 @@ fn values() {
     );
 }
 
+// Row 1 of three rows of 1 bin replaced by 2, lent curves of zeros but for the first threshold, and five slots to sort in: the answer, how
+// many rows changed, and the work slots behind the three that are sorted in.
+fn replaced(label: &[u8], was: [f32; 3], first: f64) {
+    let mut magnitudes = was;
+    let mut flux = [0.0f64; 3];
+    let mut threshold = [0.0f64; 3];
+    threshold[0] = first;
+    let mut work = [7.0f64; 5];
+    show::words(label);
+    let answer = patch_magnitudes::patch_magnitudes(
+        &mut magnitudes,
+        3,
+        1,
+        1,
+        &[2.0f32],
+        &mut flux,
+        &mut threshold,
+        &mut work,
+    );
+    told_alone(answer);
+    show::words(b", rows changed");
+    show::count(magnitudes_changed(&was, &magnitudes, 0, 0));
+    show::words(b", work behind");
+    show::floats(&work[3..5]);
+    show::end();
+}
+
+fn old_values() {
+    replaced(b"fine:", [0.0, 0.0, 5.0], 0.0);
+    replaced(b"threshold no number:", [0.0, 0.0, 5.0], 0.0f64 / 0.0);
+    replaced(
+        b"threshold -2^150:",
+        [0.0, 0.0, 5.0],
+        -1427247692705959881058285969449495136382746624.0,
+    );
+    replaced(
+        b"threshold below -2^150:",
+        [0.0, 0.0, 5.0],
+        -1427247692705960197970936026506845510558547968.0,
+    );
+    replaced(b"old infinite:", [0.0, 1.0f32 / 0.0, 5.0], 0.0);
+    replaced(
+        b"old 2^126:",
+        [0.0, 85070591730234615865843651857942052864.0f32, 5.0],
+        0.0,
+    );
+    replaced(
+        b"old above 2^126:",
+        [0.0, 85070601871439417999505073614676459520.0f32, 5.0],
+        0.0,
+    );
+}
+
+// Two rows of 4,096 bins, the second replaced by ones.
+fn widest() {
+    let mut magnitudes = [0.0f32; 8192];
+    let new = [1.0f32; 4096];
+    let mut flux = [0.0f64; 2];
+    let mut threshold = [0.0f64; 2];
+    let mut work = [0.0f64; 2];
+    show::words(b"4,096 bins:");
+    let answer = patch_magnitudes::patch_magnitudes(
+        &mut magnitudes,
+        2,
+        4096,
+        1,
+        &new,
+        &mut flux,
+        &mut threshold,
+        &mut work,
+    );
+    told_alone(answer);
+    show::words(b", not new");
+    show::count(magnitudes_changed(&magnitudes[4096..8192], &new, 0, 0));
+    show::words(b", flux");
+    show::floats(&flux);
+    show::end();
+}
+
+fn alone() {
+    room_lent();
+    bounds();
+    values();
+    old_values();
+    widest();
+}
+
 fn main() {
     let a = analysed(track());
     let b = first_and_last(a);
     let c = empty_ones(b);
+    none_anywhere(c);
     let d = one_after_the_other(c);
     refused_between(d);
-    room_lent();
-    bounds();
-    values();
+    alone();
 }

@@ -29,7 +29,7 @@ const LEAST_ROWS: usize = 16;
 
 // Lists the rows of a novelty curve at which a section begins, at most max_sections - 1, given a feature row's length in samples and the
 // sample rate. Room: a slot of rows and of work for each slot of novelty. Refuses: 1 a novelty longer than 50,000, a length outside
-// 1..2^31 or a rate outside 1..192,000; 3 rows or work shorter than novelty; 4 a value that isn't finite or is larger than 2^150.
+// 1 to 2^31 or a rate outside 1 to 192,000; 3 rows or work shorter than novelty; 4 a value that isn't finite or is larger than 2^150.
 // Slots of rows past the count stay, all of them at a refusal. Work's first slots, one for each slot of novelty, then hold anything;
 // the others, and all of them at a refusal, are unchanged.
 pub fn boundaries(
@@ -131,7 +131,7 @@ pub fn section_gap(length: u64, rate: u32) -> usize
 }
 
 // Writes the time in milliseconds at which each row begins, in the rows' order. Room: one slot for each row.
-// Refuses: 1 a length outside 1..2^31, a rate outside 1..192,000 or a row of 50,000 and above; 3 ms shorter than rows. A refusal
+// Refuses: 1 a length outside 1 to 2^31, a rate outside 1 to 192,000 or a row of 50,000 and above; 3 ms shorter than rows. A refusal
 // writes nothing. The rows need not ascend. Slots past them stay.
 pub fn boundary_times(rows: &[u32], length: u64, rate: u32, ms: &mut [f64]) -> u32
     ensures { λ r. ⌜ TimesPromise (now (rows .entry)) length rate (now (ms .entry)) r (now (ms .exit)) ⌝ }

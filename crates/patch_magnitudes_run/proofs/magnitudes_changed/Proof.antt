@@ -1,14 +1,17 @@
--- `patch_magnitudes_run::magnitudes_changed` is safe and ends: the index stays within the list, the count below it, and the measure is what is left. Assumes nothing.
+-- `patch_magnitudes_run::magnitudes_changed` is safe and ends: the index stays within the lists, the count below it, and the measure is what is left. Assumes nothing.
 use Prim.Native.Nat.{_≤_, _-_}
 use borrow.Author.Needs.{needs}
 use Rattle.patch_magnitudes_run.proofs.magnitudes_changed.Statement.{statement}
 use Rattle.patch_magnitudes_run.proofs.magnitudes_changed.Tie as tie
 
 abbrev Inv-loop : tie.InvT-loop
-Inv-loop old new first past count₀ i₀ count i = (i ≤ 60) × (count ≤ i)
+Inv-loop old new first past most count₀ i₀ count i = (i ≤ most) × (count ≤ i)
 
 abbrev μ-loop : tie.MeasureT-loop
-μ-loop old new first past count₀ i₀ count i = 60 - i
+μ-loop old new first past most count₀ i₀ count i = most - i
+
+least-requires : tie.Need-least-requires Inv-loop μ-loop
+least-requires c κs = search needs
 
 loop-holds : tie.Need-loop-holds Inv-loop μ-loop
 loop-holds c = search needs
@@ -16,14 +19,14 @@ loop-holds c = search needs
 mul-same : tie.Need-mul-same Inv-loop μ-loop
 mul-same c = search needs
 
-element-copy-out-same : tie.Need-element-copy-out-same Inv-loop μ-loop
-element-copy-out-same c = search needs
+shared-slice-read-same : tie.Need-shared-slice-read-same Inv-loop μ-loop
+shared-slice-read-same c = search needs
 
 mul-same-2 : tie.Need-mul-same-2 Inv-loop μ-loop
 mul-same-2 c = search needs
 
-element-copy-out-same-2 : tie.Need-element-copy-out-same-2 Inv-loop μ-loop
-element-copy-out-same-2 c = search needs
+shared-slice-read-same-2 : tie.Need-shared-slice-read-same-2 Inv-loop μ-loop
+shared-slice-read-same-2 c = search needs
 
 differ-outside-requires : tie.Need-differ-outside-requires Inv-loop μ-loop
 differ-outside-requires c κs = search needs
@@ -49,11 +52,12 @@ magnitudes-changed-spec =
     (tie.spec
     Inv-loop
     μ-loop
+    least-requires
     loop-holds
     mul-same
-    element-copy-out-same
+    shared-slice-read-same
     mul-same-2
-    element-copy-out-same-2
+    shared-slice-read-same-2
     differ-outside-requires
     add-count
     add-i

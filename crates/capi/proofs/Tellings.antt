@@ -1,0 +1,199 @@
+-- What each exported function promises, from what the proved call behind it promises of its answer and from how that answer is handed over.
+-- Assumes nothing.
+use Prim.Native.Nat.{ℕ, zero, suc}
+use mathlib.Core.Path.{_≡_, refl, sym, ap, _∙_}
+use mathlib.Core.List.{List, [], _∷_}
+use lib.ListN.{length, drop}
+use lib.Ieee.{Float}
+use Rattle.numbers.specs.Lists.{listed}
+use Rattle.numbers.specs.Refusals.{unlessRefused}
+use Rattle.numbers.specs.Rounded.{nought}
+use Rattle.numbers.specs.declared.Listing.{Listing}
+use Rattle.median.specs.Answers.{answered, Answered}
+use Rattle.median.specs.declared.Answer.{Answer}
+use Rattle.onsets.specs.Outcomes.{Lists}
+use Rattle.lags.specs.declared.TempoOpts.{TempoOpts}
+use Rattle.tempo.specs.declared.TempoEstimate.{TempoEstimate}
+use Rattle.tempo.specs.Answers.{estimateOf, Estimated}
+use Rattle.stability.specs.declared.Steadiness.{Steadiness}
+use Rattle.stability.specs.Answers.{steadinessOf, Steadied}
+use Rattle.beats.specs.Grids.{gridOf, Gridded}
+use Rattle.bars.specs.Downbeats.{Downbeats, downbeatRefusal, downbeatsOf}
+use Rattle.sections.specs.Boundaries.{sectionsOf}
+use Rattle.sections.specs.Confidence.{confidenceOf}
+use Rattle.sections.specs.Outcomes.{Found}
+use Rattle.sections.specs.declared.Sections.{Sections}
+use Rattle.patching.specs.Patches.{Patch, unlessEmpty}
+use Rattle.patch_magnitudes.specs.declared.Patched as rows-done
+use Rattle.patch_magnitudes.specs.declared.Patched.the-variants as rows-case
+use Rattle.patch_magnitudes.specs.Magnitudes as magnitudes
+use Rattle.patch_features.specs.declared.PatchedFeatures as features-done
+use Rattle.patch_features.specs.declared.PatchedFeatures.the-variants as features-case
+use Rattle.patch_features.specs.Features as features
+use Rattle.capi.specs.Handed.{Handed, Listed}
+use Rattle.capi.specs.Medians.{Valued, numberIn, valueIn}
+use Rattle.capi.specs.Tempos.{TempoLent, tempoParts, EstimateTold, EstimatePromise, ShareLent, shareParts, StabilityTold, StabilityPromise}
+use Rattle.capi.specs.Grids.{BeatsTold}
+use Rattle.capi.specs.Forms.{SectionsLent, sectionsLent, sectionParts, partsIn, BoundariesTold}
+use Rattle.capi.specs.Repairs as repairs
+use Rattle.capi.proofs.Hands.{handed-on}
+
+-- ---- lists
+
+pub listed-told : {number : ℕ} {entries was : List ℕ} {listing : Listing} {after : List ℕ} {count₀ answer count : ℕ}
+    → Lists number entries was listing after → Handed (listing .number) (listing .count) count₀ answer count → Listed number entries was count₀ answer after count
+listed-told {number} {entries} p h =
+    record { handed = handed-on number (length entries) 0 (p .number-is) (p .count-is) h; frames-are = p .frames-are }
+
+pub downbeats-told : {envelope : List Float} {beats : List ℕ} {meter : ℕ} {was : List ℕ} {own part : ℕ} {after : List ℕ} {count₀ answer count : ℕ}
+    → Downbeats envelope beats meter was own part after → Handed own part count₀ answer count
+    → Listed (downbeatRefusal envelope beats meter (length was)) (downbeatsOf envelope beats meter) was count₀ answer after count
+downbeats-told {envelope} {beats} {meter} {was} p h =
+    record {
+      handed = handed-on (downbeatRefusal envelope beats meter (length was)) (length (downbeatsOf envelope beats meter)) 0 (p .number-is) (p .count-is) h;
+      frames-are = p .frames-are;
+    }
+
+pub beats-told : {envelope : List Float} {period : ℕ} {score₀ : List Float} {back₀ beats₀ : List ℕ} {own part : ℕ} {score : List Float} {back beats : List ℕ} {count₀ answer count : ℕ}
+    → Gridded envelope period score₀ back₀ beats₀ own part score back beats → Handed own part count₀ answer count
+    → BeatsTold envelope period score₀ back₀ beats₀ count₀ answer score back beats count
+beats-told {envelope} {period} {own = own} {part = part} {count₀ = count₀} {answer = answer} {count = count} p h =
+    let q : Handed own (length (gridOf envelope period)) count₀ answer count = handed-on own (length (gridOf envelope period)) 0 refl (p .count-is) h in
+    record {
+      handed = rw (p .number-is) at q;
+      slices =
+          rw (h .number-is)
+          (record { number-is = p .number-is; count-is = refl; score-is = p .score-is; back-is = p .back-is; beats-are = p .beats-are });
+    }
+
+-- ---- medians
+
+number-answered : (n : ℕ) (v : Float) → numberIn (answered n v) ≡ n
+number-answered zero v = refl
+number-answered (suc k) v = refl
+
+value-answered : (n : ℕ) (v value₀ : Float) → valueIn (answered n v) value₀ ≡ unlessRefused n v value₀
+value-answered zero v value₀ = refl
+value-answered (suc k) v value₀ = refl
+
+pub value-told : {number : ℕ} {v : Float} {xs was : List Float} {own : Answer} {work : List Float} {value₀ : Float} {answer : ℕ} {value : Float}
+    → Answered number v xs was own work → (answer ≡ numberIn own) × (value ≡ valueIn own value₀) → Valued number v xs was value₀ answer work value
+value-told {number} {v} {own = own} {value₀ = value₀} {answer = answer} {value = value} p h =
+    record {
+      handed =
+          record {
+            number-is = h .0 ∙ rw (p .answer) (number-answered number v);
+            parts-are = h .1 ∙ rw (p .answer) (value-answered number v value₀);
+          };
+      slices = record { answer = refl; room = p .room; rest = p .rest };
+    }
+
+-- ---- tempo and stability
+
+pub estimate-told : {env : List Float} {onsets rate : ℕ} {o : TempoOpts} {clarity weight work : List Float} {own : TempoEstimate} {clarity′ weight′ work′ : List Float}
+    {lent₀ : TempoLent} {answer : ℕ} {lent : TempoLent}
+    → Estimated env onsets rate o clarity weight work own clarity′ weight′ work′ → Handed (own .number) (tempoParts own) lent₀ answer lent
+    → EstimatePromise env onsets rate o clarity weight work lent₀ answer clarity′ weight′ work′ lent
+estimate-told p h = rw (← p .answered) (record { handed = h; slices = p })
+
+pub stability-told : {env : List Float} {rate : ℕ} {o : TempoOpts} {whole : ℕ} {clarity weight work : List Float} {own : Steadiness} {clarity′ weight′ work′ : List Float}
+    {lent₀ : ShareLent} {answer : ℕ} {lent : ShareLent}
+    → Steadied env rate o whole clarity weight work own clarity′ weight′ work′ → Handed (own .number) (shareParts (own .stability)) lent₀ answer lent
+    → StabilityPromise env rate o whole clarity weight work lent₀ answer clarity′ weight′ work′ lent
+stability-told p h = rw (← p .answered) (record { handed = h; slices = p })
+
+-- ---- sections
+
+parts-kept : (n : ℕ) (novelty : List Float) (bounds : List ℕ) (own : Sections) → own .sections ≡ unlessRefused n (sectionsOf (length novelty) (length bounds)) 0
+    → own .count ≡ unlessRefused n (length bounds) 0 → own .confidence ≡ unlessRefused n (confidenceOf novelty bounds) nought
+    → partsIn own ≡ unlessRefused n (sectionParts novelty bounds) (sectionsLent 0 0 nought)
+parts-kept zero novelty bounds own s c f = rw (s, c, f)
+parts-kept (suc k) novelty bounds own s c f = rw (s, c, f)
+
+pub boundaries-told : {number : ℕ} {novelty : List Float} {bounds rows : List ℕ} {work : List Float} {own : Sections} {rows′ : List ℕ} {work′ : List Float}
+    {lent₀ : SectionsLent} {answer : ℕ} {lent : SectionsLent}
+    → Found number novelty bounds rows work own rows′ work′ → Handed (own .number) (partsIn own) lent₀ answer lent
+    → BoundariesTold number novelty bounds rows work lent₀ answer rows′ work′ lent
+boundaries-told {number} {novelty} {bounds} {own = own} p h =
+    record {
+      handed =
+          handed-on number (sectionParts novelty bounds) (sectionsLent 0 0 nought) (p .number-is)
+          (parts-kept number novelty bounds own (p .sections-are) (p .count-is) (p .confidence-is)) h;
+      rows-are = p .rows-are;
+      work-length = p .work-length;
+      work-keeps = p .work-keeps;
+    }
+
+-- ---- patches
+
+module _ (a b c d : ℕ) where
+  rows-number : (new : List Float) → repairs.numberIn (unlessEmpty new (rows-case.Wrote a b c d) (rows-case.Wrote 0 0 0 0)) ≡ 0
+  rows-number [] = refl
+  rows-number (x ∷ xs) = refl
+
+  rows-ranges : (new : List Float) (lent₀ : repairs.Ranges)
+      → repairs.rangesIn (unlessEmpty new (rows-case.Wrote a b c d) (rows-case.Wrote 0 0 0 0)) lent₀ ≡ unlessEmpty new (repairs.ranges a b c d) (repairs.ranges 0 0 0 0)
+  rows-ranges [] lent₀ = refl
+  rows-ranges (x ∷ xs) lent₀ = refl
+
+  features-number : (new : List Float) → repairs.featuresNumberIn (unlessEmpty new (features-case.Wrote a b c d) (features-case.Wrote 0 0 0 0)) ≡ 0
+  features-number [] = refl
+  features-number (x ∷ xs) = refl
+
+  features-ranges : (new : List Float) (lent₀ : repairs.Ranges)
+      → repairs.featuresRangesIn (unlessEmpty new (features-case.Wrote a b c d) (features-case.Wrote 0 0 0 0)) lent₀
+      ≡ unlessEmpty new (repairs.ranges a b c d) (repairs.ranges 0 0 0 0)
+  features-ranges [] lent₀ = refl
+  features-ranges (x ∷ xs) lent₀ = refl
+
+rows-answered : (n rows bins : ℕ) (patch : Patch) → repairs.numberIn (magnitudes.answered n rows bins patch) ≡ n
+unfolding magnitudes.answered
+rows-answered zero rows bins patch = rows-number _ _ _ _ (patch .new)
+rows-answered (suc k) rows bins patch = refl
+
+rows-named : (n rows bins : ℕ) (patch : Patch) (lent₀ : repairs.Ranges)
+    → repairs.rangesIn (magnitudes.answered n rows bins patch) lent₀ ≡ unlessRefused n (repairs.rowsNamed rows bins patch) lent₀
+unfolding magnitudes.answered
+rows-named zero rows bins patch lent₀ = rows-ranges _ _ _ _ (patch .new) lent₀
+rows-named (suc k) rows bins patch lent₀ = refl
+
+features-answered : (n rows : ℕ) (patch : Patch) → repairs.featuresNumberIn (features.answered n rows patch) ≡ n
+unfolding features.answered
+features-answered zero rows patch = features-number _ _ _ _ (patch .new)
+features-answered (suc k) rows patch = refl
+
+features-named : (n rows : ℕ) (patch : Patch) (lent₀ : repairs.Ranges)
+    → repairs.featuresRangesIn (features.answered n rows patch) lent₀ ≡ unlessRefused n (repairs.featuresNamed rows patch) lent₀
+unfolding features.answered
+features-named zero rows patch lent₀ = features-ranges _ _ _ _ (patch .new) lent₀
+features-named (suc k) rows patch lent₀ = refl
+
+pub rows-told : {rows bins : ℕ} {was : magnitudes.Track} {patch : Patch} {work : List Float} {own : rows-done.Patched} {now : magnitudes.Track} {work′ : List Float}
+    {lent₀ : repairs.Ranges} {answer : ℕ} {lent : repairs.Ranges}
+    → magnitudes.Patches rows bins was patch work own now work′ → (answer ≡ repairs.numberIn own) × (lent ≡ repairs.rangesIn own lent₀)
+    → repairs.RowsPromise rows bins was patch work lent₀ answer now work′ lent
+rows-told {rows} {bins} {was} {patch} {work} {lent₀ = lent₀} p h =
+    let n = magnitudes.numberOf rows bins was patch (length work) in
+    record {
+      handed =
+          record {
+            number-is = h .0 ∙ rw (p .answer-is) (rows-answered n rows bins patch);
+            parts-are = h .1 ∙ rw (p .answer-is) (rows-named n rows bins patch lent₀);
+          };
+      slices = record { answer-is = refl; track-is = p .track-is; work-length = p .work-length; work-keeps = p .work-keeps };
+    }
+
+pub features-told : {rows : ℕ} {was : features.Track} {patch : Patch} {own : features-done.PatchedFeatures} {now : features.Track}
+    {lent₀ : repairs.Ranges} {answer : ℕ} {lent : repairs.Ranges}
+    → features.Patches rows was patch own now → (answer ≡ repairs.featuresNumberIn own) × (lent ≡ repairs.featuresRangesIn own lent₀)
+    → repairs.FeaturesPromise rows was patch lent₀ answer now lent
+features-told {rows} {was} {patch} {lent₀ = lent₀} p h =
+    let n = features.numberOf rows was patch in
+    record {
+      handed =
+          record {
+            number-is = h .0 ∙ rw (p .answer-is) (features-answered n rows patch);
+            parts-are = h .1 ∙ rw (p .answer-is) (features-named n rows patch lent₀);
+          };
+      slices = record { answer-is = refl; track-is = p .track-is };
+    }

@@ -1,0 +1,44 @@
+-- The C interface to `boundaries`. That to `similarity`, `novelty` and `boundary_times` is their own promise.
+use Prim.Native.Nat.{ℕ}
+use mathlib.Core.Path.{_≡_}
+use mathlib.Core.List.{List}
+use lib.ListN.{length, drop}
+use lib.Ieee.{Float}
+use Rattle.numbers.specs.Lists.{listed}
+use Rattle.numbers.specs.Refusals.{unlessRefused}
+use Rattle.sections.specs.Boundaries.{sectionsOf, boundariesOf, boundariesRefusal}
+use Rattle.sections.specs.Confidence.{confidenceOf}
+use Rattle.sections.specs.declared.Sections.{Sections}
+use Rattle.capi.specs.Handed.{Handed}
+
+-- the lent numbers of `ph_boundaries`
+pub record SectionsLent : Type 0 where
+  pub sections : ℕ
+  pub count : ℕ
+  pub confidence : Float
+
+abbrev pub sectionsLent : (sections count : ℕ) (confidence : Float) → SectionsLent
+sectionsLent sections count confidence = record { sections = sections; count = count; confidence = confidence }
+
+-- what they hold of a novelty curve with these boundaries
+abbrev pub sectionParts : (novelty : List Float) (bounds : List ℕ) → SectionsLent
+sectionParts novelty bounds = sectionsLent (sectionsOf (length novelty) (length bounds)) (length bounds) (confidenceOf novelty bounds)
+
+-- A call that finds these boundaries in a novelty curve, as `Found` of crate sections has it, but that lent numbers hold the parts of the answer.
+pub record BoundariesTold
+    (number : ℕ) (novelty : List Float) (bounds rows : List ℕ) (work : List Float) (lent₀ : SectionsLent)
+    (answer : ℕ) (rows′ : List ℕ) (work′ : List Float) (lent : SectionsLent) : Type 0 where
+  pub handed : Handed number (sectionParts novelty bounds) lent₀ answer lent
+  pub rows-are : rows′ ≡ unlessRefused number (listed bounds rows) rows
+  pub work-length : length work′ ≡ length work
+  pub work-keeps : drop (unlessRefused number (length novelty) 0) work′ ≡ drop (unlessRefused number (length novelty) 0) work
+
+-- what `ph_boundaries` promises
+abbrev pub BoundariesPromise : (novelty : List Float) (samples rate maxSections : ℕ) (rows : List ℕ) (work : List Float) (lent₀ : SectionsLent)
+    (answer : ℕ) (rows′ : List ℕ) (work′ : List Float) (lent : SectionsLent) → Type 0
+BoundariesPromise novelty samples rate maxSections rows work =
+    BoundariesTold (boundariesRefusal novelty samples rate (length rows) (length work)) novelty (boundariesOf novelty samples rate maxSections) rows work
+
+-- Inner: the parts of an answer
+abbrev pub partsIn : Sections → SectionsLent
+partsIn answer = sectionsLent (answer .sections) (answer .count) (answer .confidence)

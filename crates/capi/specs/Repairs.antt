@@ -1,0 +1,83 @@
+-- The C interface to `patch_magnitudes` and `patch_features`.
+use Prim.Native.Nat.{ℕ}
+use mathlib.Core.List.{List}
+use lib.ListN.{length}
+use lib.Ieee.{Float}
+use Rattle.patching.specs.Patches.{Patch, unlessEmpty}
+use Rattle.patch_magnitudes.specs.declared.Patched as rows-done
+use Rattle.patch_magnitudes.specs.declared.Patched.the-variants as rows-case
+use Rattle.patch_magnitudes.specs.Magnitudes as magnitudes
+use Rattle.patch_features.specs.declared.PatchedFeatures as features-done
+use Rattle.patch_features.specs.declared.PatchedFeatures.the-variants as features-case
+use Rattle.patch_features.specs.Features as features
+use Rattle.capi.specs.Handed.{Handed}
+
+-- the four lent numbers: first and past-last slot written, of one curve and of the curve that follows from it
+pub record Ranges : Type 0 where
+  pub first : ℕ
+  pub past : ℕ
+  pub first-then : ℕ
+  pub past-then : ℕ
+
+abbrev pub ranges : (first past first-then past-then : ℕ) → Ranges
+ranges first past first-then past-then = record { first = first; past = past; first-then = first-then; past-then = past-then }
+
+-- ---- magnitudes
+
+-- the slots that a patch names: those that it writes of flux and threshold, and zeros where it is empty
+abbrev pub rowsNamed : (rows bins : ℕ) → Patch → Ranges
+rowsNamed rows bins patch =
+    unlessEmpty (patch .new)
+    (ranges (magnitudes.fluxFirst patch) (magnitudes.fluxPast rows bins patch) (magnitudes.thresholdFirst patch) (magnitudes.thresholdPast rows bins patch))
+    (ranges 0 0 0 0)
+
+-- What `ph_patch_magnitudes` promises, of the number of `patch_magnitudes`: the lent numbers are the slots named, and the slices are as that call
+-- leaves them.
+pub record RowsTold
+    (number rows bins : ℕ) (was : magnitudes.Track) (patch : Patch) (work : List Float) (lent₀ : Ranges)
+    (answer : ℕ) (now : magnitudes.Track) (work′ : List Float) (lent : Ranges) : Type 0 where
+  pub handed : Handed number (rowsNamed rows bins patch) lent₀ answer lent
+  pub slices : magnitudes.Patches rows bins was patch work (magnitudes.answered number rows bins patch) now work′
+
+abbrev pub RowsPromise : (rows bins : ℕ) (was : magnitudes.Track) (patch : Patch) (work : List Float) (lent₀ : Ranges)
+    (answer : ℕ) (now : magnitudes.Track) (work′ : List Float) (lent : Ranges) → Type 0
+RowsPromise rows bins was patch work = RowsTold (magnitudes.numberOf rows bins was patch (length work)) rows bins was patch work
+
+-- the track that is lent
+abbrev pub rowsLent : (slab flux threshold : List Float) → magnitudes.Track
+rowsLent slab flux threshold = magnitudes.track slab flux threshold
+
+-- Inner: each case's number, and what the lent numbers, which held `lent₀`, then hold
+abbrev pub numberIn : rows-done.Patched → ℕ
+numberIn (rows-case.Refused k) = k
+numberIn (rows-case.Wrote a b c d) = 0
+
+abbrev pub rangesIn : rows-done.Patched → (lent₀ : Ranges) → Ranges
+rangesIn (rows-case.Refused k) lent₀ = lent₀
+rangesIn (rows-case.Wrote a b c d) lent₀ = ranges a b c d
+
+-- ---- features, in the same words
+
+abbrev pub featuresNamed : (rows : ℕ) → Patch → Ranges
+featuresNamed rows patch =
+    unlessEmpty (patch .new)
+    (ranges (features.similarityFirst patch) (features.similarityPast patch) (features.noveltyFirst patch) (features.noveltyPast rows patch)) (ranges 0 0 0 0)
+
+pub record FeaturesTold
+    (number rows : ℕ) (was : features.Track) (patch : Patch) (lent₀ : Ranges) (answer : ℕ) (now : features.Track) (lent : Ranges) : Type 0 where
+  pub handed : Handed number (featuresNamed rows patch) lent₀ answer lent
+  pub slices : features.Patches rows was patch (features.answered number rows patch) now
+
+abbrev pub FeaturesPromise : (rows : ℕ) (was : features.Track) (patch : Patch) (lent₀ : Ranges) (answer : ℕ) (now : features.Track) (lent : Ranges) → Type 0
+FeaturesPromise rows was patch = FeaturesTold (features.numberOf rows was patch) rows was patch
+
+abbrev pub featuresLent : (slab similarity novelty : List Float) → features.Track
+featuresLent slab similarity novelty = features.track slab similarity novelty
+
+abbrev pub featuresNumberIn : features-done.PatchedFeatures → ℕ
+featuresNumberIn (features-case.Refused k) = k
+featuresNumberIn (features-case.Wrote a b c d) = 0
+
+abbrev pub featuresRangesIn : features-done.PatchedFeatures → (lent₀ : Ranges) → Ranges
+featuresRangesIn (features-case.Refused k) lent₀ = lent₀
+featuresRangesIn (features-case.Wrote a b c d) lent₀ = ranges a b c d

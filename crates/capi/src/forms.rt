@@ -1,0 +1,68 @@
+// The calls of crates structure and sections, for C.
+use sections::Sections;
+ghost use Rattle.structure.specs.Similarity.{SimilarityDone};
+ghost use Rattle.structure.specs.Novelty.{NoveltyDone};
+ghost use Rattle.sections.specs.Outcomes.{TimesPromise};
+ghost use Rattle.capi.specs.Handed.{Handed};
+ghost use Rattle.capi.specs.Forms.{sectionsLent, partsIn, BoundariesPromise};
+
+// `structure::similarity`, for C.
+#[no_mangle]
+pub extern "C" fn ph_similarity(features: &[f64], rows: usize, similarity: &mut [f64]) -> u32
+    ensures { λ r. ⌜ SimilarityDone (now (features .entry)) rows (now (similarity .entry)) r (now (similarity .exit)) ⌝ }
+{
+    structure::similarity(features, rows, similarity)
+}
+
+// `structure::novelty`, for C.
+#[no_mangle]
+pub extern "C" fn ph_novelty(similarity: &[f64], rows: usize, novelty: &mut [f64]) -> u32
+    ensures { λ r. ⌜ NoveltyDone (now (similarity .entry)) rows (now (novelty .entry)) r (now (novelty .exit)) ⌝ }
+{
+    structure::novelty(similarity, rows, novelty)
+}
+
+// Stores the parts of an answer unless the call refused, and answers its number.
+fn put_sections(
+    answer: Sections,
+    sections: &mut usize,
+    count: &mut usize,
+    confidence: &mut f64,
+) -> u32
+    ensures { λ r. ⌜ Handed (answer .number) (partsIn answer) (sectionsLent (now (sections .entry)) (now (count .entry)) (now (confidence .entry))) r (sectionsLent (now (sections .exit)) (now (count .exit)) (now (confidence .exit))) ⌝ }
+{
+    if answer.number != 0 {
+        return answer.number;
+    }
+    *sections = answer.sections;
+    *count = answer.count;
+    *confidence = answer.confidence;
+    0
+}
+
+// `sections::boundaries`, for C.
+#[no_mangle]
+pub extern "C" fn ph_boundaries(
+    novelty: &[f64],
+    length: u64,
+    rate: u32,
+    max_sections: usize,
+    rows: &mut [u32],
+    work: &mut [f64],
+    sections: &mut usize,
+    count: &mut usize,
+    confidence: &mut f64,
+) -> u32
+    ensures { λ r. ⌜ BoundariesPromise (now (novelty .entry)) length rate «max_sections» (now (rows .entry)) (now (work .entry)) (sectionsLent (now (sections .entry)) (now (count .entry)) (now (confidence .entry))) r (now (rows .exit)) (now (work .exit)) (sectionsLent (now (sections .exit)) (now (count .exit)) (now (confidence .exit))) ⌝ }
+{
+    let answer = sections::boundaries(novelty, length, rate, max_sections, rows, work);
+    put_sections(answer, sections, count, confidence)
+}
+
+// `sections::boundary_times`, for C.
+#[no_mangle]
+pub extern "C" fn ph_boundary_times(rows: &[u32], length: u64, rate: u32, ms: &mut [f64]) -> u32
+    ensures { λ r. ⌜ TimesPromise (now (rows .entry)) length rate (now (ms .entry)) r (now (ms .exit)) ⌝ }
+{
+    sections::boundary_times(rows, length, rate, ms)
+}

@@ -1,0 +1,78 @@
+// `beat_grid`, `downbeats` and `bar_beat_at`, for C.
+use crate::counts::counted;
+use bars::BarBeat;
+ghost use mathlib.Core.Path.{_≡_};
+ghost use lib.ListN.{length};
+ghost use Rattle.bars.specs.Downbeats.{downbeatRefusal, downbeatsOf, commonMeter};
+ghost use Rattle.bars.specs.BarBeats.{barBeatOf};
+ghost use Rattle.capi.specs.Handed.{Listed};
+ghost use Rattle.capi.specs.Grids.{BeatsTold, Placed};
+
+// `beats::beat_grid`, for C.
+#[no_mangle]
+pub extern "C" fn ph_beat_grid(
+    envelope: &[f64],
+    period: usize,
+    score: &mut [f64],
+    back: &mut [u32],
+    beats: &mut [u32],
+    count: &mut usize,
+) -> u32
+    ensures { λ r. ⌜ BeatsTold (now (envelope .entry)) period (now (score .entry)) (now (back .entry)) (now (beats .entry)) (now (count .entry)) r (now (score .exit)) (now (back .exit)) (now (beats .exit)) (now (count .exit)) ⌝ }
+{
+    counted(
+        beats::beat_grid(envelope, period, score, back, beats),
+        count,
+    )
+}
+
+// `bars::downbeats`, for C.
+#[no_mangle]
+pub extern "C" fn ph_downbeats(
+    envelope: &[f64],
+    beats: &[u32],
+    frames: &mut [u32],
+    count: &mut usize,
+) -> u32
+    ensures { λ r. ⌜ Listed (downbeatRefusal (now (envelope .entry)) (now (beats .entry)) commonMeter (length (now (frames .entry)))) (downbeatsOf (now (envelope .entry)) (now (beats .entry)) commonMeter) (now (frames .entry)) (now (count .entry)) r (now (frames .exit)) (now (count .exit)) ⌝ }
+{
+    counted(bars::downbeats(envelope, beats, frames), count)
+}
+
+// Stores the kind of a place, and its values, zeros for nowhere.
+fn put_place(place: BarBeat, found: &mut u32, bar: &mut usize, beat: &mut usize) -> u32
+    ensures { λ r. ⌜ Placed place r (now (found .exit)) (now (bar .exit)) (now (beat .exit)) ⌝ }
+{
+    match place {
+        BarBeat::Nowhere => {
+            *found = 0;
+            *bar = 0;
+            *beat = 0;
+            0
+        }
+        BarBeat::At {
+            bar: in_bar,
+            beat: at_beat,
+        } => {
+            *found = 1;
+            *bar = in_bar;
+            *beat = at_beat;
+            0
+        }
+    }
+}
+
+// `bars::bar_beat_at`, for C.
+#[no_mangle]
+pub extern "C" fn ph_bar_beat_at(
+    time: f64,
+    downbeats: &[f64],
+    beats: &[f64],
+    found: &mut u32,
+    bar: &mut usize,
+    beat: &mut usize,
+) -> u32
+    ensures { λ r. ⌜ Placed (barBeatOf time (now (downbeats .entry)) (now (beats .entry))) r (now (found .exit)) (now (bar .exit)) (now (beat .exit)) ⌝ }
+{
+    put_place(bars::bar_beat_at(time, downbeats, beats), found, bar, beat)
+}

@@ -1,0 +1,36 @@
+// `median_of` and `mad_of`, for C.
+use median::Answer;
+ghost use mathlib.Core.Path.{_≡_};
+ghost use lib.ListN.{length};
+ghost use Rattle.median.specs.Median.{medianOf, madOf};
+ghost use Rattle.median.specs.Answers.{medianRefusal, madRefusal};
+ghost use Rattle.capi.specs.Medians.{Valued, numberIn, valueIn};
+
+// Stores the value unless the call refused, and answers its number.
+fn told(answer: Answer, value: &mut f64) -> u32
+    ensures { λ r. ⌜ (r ≡ numberIn answer) × (now (value .exit) ≡ valueIn answer (now (value .entry))) ⌝ }
+{
+    match answer {
+        Answer::Value(median) => {
+            *value = median;
+            0
+        }
+        Answer::Refused(number) => number,
+    }
+}
+
+// `median::median_of`, for C.
+#[no_mangle]
+pub extern "C" fn ph_median_of(values: &[f64], work: &mut [f64], median: &mut f64) -> u32
+    ensures { λ r. ⌜ Valued (medianRefusal (now (values .entry)) (length (now (work .entry)))) (medianOf (now (values .entry))) (now (values .entry)) (now (work .entry)) (now (median .entry)) r (now (work .exit)) (now (median .exit)) ⌝ }
+{
+    told(median::median_of(values, work), median)
+}
+
+// `median::mad_of`, for C.
+#[no_mangle]
+pub extern "C" fn ph_mad_of(values: &[f64], median: f64, work: &mut [f64], mad: &mut f64) -> u32
+    ensures { λ r. ⌜ Valued (madRefusal (now (values .entry)) median (length (now (work .entry)))) (madOf (now (values .entry)) median) (now (values .entry)) (now (work .entry)) (now (mad .entry)) r (now (work .exit)) (now (mad .exit)) ⌝ }
+{
+    told(median::mad_of(values, median, work), mad)
+}

@@ -1,0 +1,140 @@
+// `patch_magnitudes` and `patch_features`, for C.
+use patch_features::PatchedFeatures;
+use patch_magnitudes::Patched;
+ghost use mathlib.Core.Path.{_≡_};
+ghost use Rattle.patching.specs.Patches.{patchOf};
+ghost use Rattle.capi.specs.Repairs.{
+  ranges,
+  numberIn,
+  rangesIn,
+  rowsLent,
+  RowsPromise,
+  featuresNumberIn,
+  featuresRangesIn,
+  featuresLent,
+  FeaturesPromise,
+};
+
+// Stores the ranges unless the call refused, and answers its number.
+fn put_rows(
+    answer: Patched,
+    flux_first: &mut usize,
+    flux_past: &mut usize,
+    threshold_first: &mut usize,
+    threshold_past: &mut usize,
+) -> u32
+    ensures { λ r. ⌜ (r ≡ numberIn answer) × (ranges (now («flux_first» .exit)) (now («flux_past» .exit)) (now («threshold_first» .exit)) (now («threshold_past» .exit)) ≡ rangesIn answer (ranges (now («flux_first» .entry)) (now («flux_past» .entry)) (now («threshold_first» .entry)) (now («threshold_past» .entry)))) ⌝ }
+{
+    match answer {
+        Patched::Refused(number) => number,
+        Patched::Wrote {
+            flux_first: first,
+            flux_past: past,
+            threshold_first: first_then,
+            threshold_past: past_then,
+        } => {
+            *flux_first = first;
+            *flux_past = past;
+            *threshold_first = first_then;
+            *threshold_past = past_then;
+            0
+        }
+    }
+}
+
+// `patch_magnitudes::patch_magnitudes`, for C.
+#[no_mangle]
+pub extern "C" fn ph_patch_magnitudes(
+    magnitudes: &mut [f32],
+    rows: usize,
+    bins: usize,
+    start: usize,
+    new_rows: &[f32],
+    flux: &mut [f64],
+    threshold: &mut [f64],
+    work: &mut [f64],
+    flux_first: &mut usize,
+    flux_past: &mut usize,
+    threshold_first: &mut usize,
+    threshold_past: &mut usize,
+) -> u32
+    ensures { λ r. ⌜ RowsPromise rows bins (rowsLent (now (magnitudes .entry)) (now (flux .entry)) (now (threshold .entry))) (patchOf start (now («new_rows» .entry))) (now (work .entry)) (ranges (now («flux_first» .entry)) (now («flux_past» .entry)) (now («threshold_first» .entry)) (now («threshold_past» .entry))) r (rowsLent (now (magnitudes .exit)) (now (flux .exit)) (now (threshold .exit))) (now (work .exit)) (ranges (now («flux_first» .exit)) (now («flux_past» .exit)) (now («threshold_first» .exit)) (now («threshold_past» .exit))) ⌝ }
+{
+    let answer = patch_magnitudes::patch_magnitudes(
+        magnitudes,
+        rows,
+        bins,
+        start,
+        new_rows,
+        flux,
+        threshold,
+        work,
+    );
+    put_rows(
+        answer,
+        flux_first,
+        flux_past,
+        threshold_first,
+        threshold_past,
+    )
+}
+
+// Stores the ranges unless the call refused, and answers its number.
+fn put_features(
+    answer: PatchedFeatures,
+    similarity_first: &mut usize,
+    similarity_past: &mut usize,
+    novelty_first: &mut usize,
+    novelty_past: &mut usize,
+) -> u32
+    ensures { λ r. ⌜ (r ≡ featuresNumberIn answer) × (ranges (now («similarity_first» .exit)) (now («similarity_past» .exit)) (now («novelty_first» .exit)) (now («novelty_past» .exit)) ≡ featuresRangesIn answer (ranges (now («similarity_first» .entry)) (now («similarity_past» .entry)) (now («novelty_first» .entry)) (now («novelty_past» .entry)))) ⌝ }
+{
+    match answer {
+        PatchedFeatures::Refused(number) => number,
+        PatchedFeatures::Wrote {
+            similarity_first: first,
+            similarity_past: past,
+            novelty_first: first_then,
+            novelty_past: past_then,
+        } => {
+            *similarity_first = first;
+            *similarity_past = past;
+            *novelty_first = first_then;
+            *novelty_past = past_then;
+            0
+        }
+    }
+}
+
+// `patch_features::patch_features`, for C.
+#[no_mangle]
+pub extern "C" fn ph_patch_features(
+    features: &mut [f64],
+    rows: usize,
+    start: usize,
+    new_rows: &[f64],
+    similarity: &mut [f64],
+    novelty: &mut [f64],
+    similarity_first: &mut usize,
+    similarity_past: &mut usize,
+    novelty_first: &mut usize,
+    novelty_past: &mut usize,
+) -> u32
+    ensures { λ r. ⌜ FeaturesPromise rows (featuresLent (now (features .entry)) (now (similarity .entry)) (now (novelty .entry))) (patchOf start (now («new_rows» .entry))) (ranges (now («similarity_first» .entry)) (now («similarity_past» .entry)) (now («novelty_first» .entry)) (now («novelty_past» .entry))) r (featuresLent (now (features .exit)) (now (similarity .exit)) (now (novelty .exit))) (ranges (now («similarity_first» .exit)) (now («similarity_past» .exit)) (now («novelty_first» .exit)) (now («novelty_past» .exit))) ⌝ }
+{
+    let answer = patch_features::patch_features(
+        features,
+        rows,
+        start,
+        new_rows,
+        similarity,
+        novelty,
+    );
+    put_features(
+        answer,
+        similarity_first,
+        similarity_past,
+        novelty_first,
+        novelty_past,
+    )
+}

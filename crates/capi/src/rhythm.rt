@@ -1,0 +1,75 @@
+// The calls of crate onsets, for C.
+use crate::counts::counted;
+ghost use mathlib.Core.List.{map};
+ghost use lib.ListN.{length};
+ghost use Rattle.numbers.specs.Lists.{filled, listed};
+ghost use Rattle.onsets.specs.Outcomes.{Written};
+ghost use Rattle.onsets.specs.Flux.{fluxAt, fluxRefusal};
+ghost use Rattle.onsets.specs.Threshold.{Thresholds};
+ghost use Rattle.onsets.specs.Peaks.{suppressed, suppressionRefusal};
+ghost use Rattle.onsets.specs.Onsets.{onsetsOf, onsetsRefusal, frameTime, timesRefusal};
+ghost use Rattle.capi.specs.Handed.{Listed};
+
+// `onsets::flux::spectral_flux`, for C.
+#[no_mangle]
+pub extern "C" fn ph_spectral_flux(
+    magnitudes: &[f32],
+    rows: usize,
+    bins: usize,
+    flux: &mut [f64],
+) -> u32
+    ensures { λ r. ⌜ Written (fluxRefusal (now (magnitudes .entry)) rows bins (length (now (flux .entry)))) (filled (fluxAt (now (magnitudes .entry)) bins) (now (flux .entry)) 0 rows) (now (flux .entry)) r (now (flux .exit)) ⌝ }
+{
+    onsets::flux::spectral_flux(magnitudes, rows, bins, flux)
+}
+
+// `onsets::threshold::adaptive_threshold`, for C.
+#[no_mangle]
+pub extern "C" fn ph_adaptive_threshold(
+    flux: &[f64],
+    threshold: &mut [f64],
+    work: &mut [f64],
+) -> u32
+    ensures { λ r. ⌜ Thresholds (now (flux .entry)) (now (threshold .entry)) (now (work .entry)) r (now (threshold .exit)) (now (work .exit)) ⌝ }
+{
+    onsets::threshold::adaptive_threshold(flux, threshold, work)
+}
+
+// `onsets::pick_onsets`, for C.
+#[no_mangle]
+pub extern "C" fn ph_pick_onsets(
+    flux: &[f64],
+    threshold: &[f64],
+    rate: u32,
+    frames: &mut [u32],
+    count: &mut usize,
+) -> u32
+    ensures { λ r. ⌜ Listed (onsetsRefusal (now (flux .entry)) (now (threshold .entry)) rate (length (now (frames .entry)))) (onsetsOf (now (flux .entry)) (now (threshold .entry)) rate) (now (frames .entry)) (now (count .entry)) r (now (frames .exit)) (now (count .exit)) ⌝ }
+{
+    counted(onsets::pick_onsets(flux, threshold, rate, frames), count)
+}
+
+// `onsets::peaks::suppress_close_peaks`, for C.
+#[no_mangle]
+pub extern "C" fn ph_suppress_close_peaks(
+    peaks: &[u32],
+    curve: &[f64],
+    gap: usize,
+    frames: &mut [u32],
+    count: &mut usize,
+) -> u32
+    ensures { λ r. ⌜ Listed (suppressionRefusal (now (peaks .entry)) (now (curve .entry)) (length (now (frames .entry)))) (suppressed (now (curve .entry)) gap (now (peaks .entry))) (now (frames .entry)) (now (count .entry)) r (now (frames .exit)) (now (count .exit)) ⌝ }
+{
+    counted(
+        onsets::peaks::suppress_close_peaks(peaks, curve, gap, frames),
+        count,
+    )
+}
+
+// `onsets::frame_times`, for C.
+#[no_mangle]
+pub extern "C" fn ph_frame_times(frames: &[u32], rate: u32, ms: &mut [f64]) -> u32
+    ensures { λ r. ⌜ Written (timesRefusal (now (frames .entry)) rate (length (now (ms .entry)))) (listed (map (frameTime rate) (now (frames .entry))) (now (ms .entry))) (now (ms .entry)) r (now (ms .exit)) ⌝ }
+{
+    onsets::frame_times(frames, rate, ms)
+}

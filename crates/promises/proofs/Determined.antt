@@ -1,0 +1,161 @@
+-- Document 01, "For each input, refused or not, a promise determines the result and each lent slot afterwards; prove that any two outcomes it
+-- permits coincide." One statement for each promise, named by its call. Slots that are sorted in, and stability's lag curves, are the
+-- exceptions: of those slices two outcomes have one length and agree past the slots that the formula names, or in all where a call refuses.
+-- Assumes nothing.
+use mathlib.Core.List.{List}
+use mathlib.Core.Path.{_≡_, sym, ap, _∙_}
+use Prim.Native.Nat.{ℕ}
+use denote.Ref.{RefT, now}
+use lib.Ieee.{Float}
+use lib.ListN.{length, drop}
+use Rattle.numbers.specs.Lists.{listed}
+use Rattle.numbers.specs.Refusals.{unlessRefused}
+use Rattle.numbers.specs.declared.Listing.{Listing}
+use Rattle.frames.specs.Frames.{RowOf}
+use Rattle.frames.proofs.Laws.{one-part}
+use Rattle.median.specs.Answers.{Answered, sortedIn}
+use Rattle.median.specs.declared.Answer.{Answer}
+use Rattle.onsets.specs.Outcomes.{Written, Lists}
+use Rattle.onsets.specs.Threshold.{sortingRoom, Thresholds}
+use Rattle.onsets.proofs.Outcomes.{written-unique, lists-unique}
+use Rattle.onsets.proofs.Thresholds.{thresholds-unique}
+use Rattle.lags.specs.Lags.{minLag, maxLag}
+use Rattle.lags.specs.declared.TempoOpts.{TempoOpts}
+use Rattle.tempo.specs.Answers.{Estimated}
+use Rattle.tempo.specs.declared.TempoEstimate.{TempoEstimate}
+use Rattle.tempo.proofs.Promises as tempo
+use Rattle.stability.specs.Answers.{stabilityRefusal, leftOpen, Steadied}
+use Rattle.stability.specs.declared.Steadiness.{Steadiness}
+use Rattle.stability.proofs.Promises as stability
+use Rattle.beats.specs.Grids.{scoresOf, linksOf, gridOf, Gridded}
+use Rattle.bars.specs.Downbeats.{Downbeats}
+use Rattle.structure.specs.Similarity.{SimilarityDone}
+use Rattle.structure.specs.Novelty.{NoveltyDone}
+use Rattle.sections.specs.Outcomes.{Found}
+use Rattle.sections.specs.declared.Sections.{Sections}
+use Rattle.sections.proofs.Outcomes.{found-unique}
+use Rattle.patching.specs.Patches.{Patch}
+use Rattle.patch_magnitudes.specs.Magnitudes as magnitudes
+use Rattle.patch_magnitudes.specs.declared.Patched.{Patched}
+use Rattle.patch_magnitudes.proofs.Outcomes as magnitude-outcomes
+use Rattle.patch_features.specs.Features as features
+use Rattle.patch_features.specs.declared.PatchedFeatures.{PatchedFeatures}
+use Rattle.patch_features.proofs.Outcomes as feature-outcomes
+use Rattle.analysis.specs.Rooms.{Results, Spare}
+use Rattle.analysis.specs.Analyses.{openLags, openWork, Analysed, AnalysedMagnitudes}
+use Rattle.analysis.specs.declared.Analysis.{Analysis}
+use Rattle.analysis.proofs.Promises as analyses
+
+-- `lag_range`, `bar_beat_at`, and the constructors and setters of the options: the answer equals a value of the inputs
+pub equation : {A : Type 0} {value a b : A} → a ≡ value → b ≡ value → a ≡ b
+equation p q = p ∙ sym q
+
+-- `spectral_flux`, `frame_times`, `boundary_times`: a number, and one lent list
+pub written : {A : Type 0} (number : ℕ) (done was : List A) {a b : ℕ} {x y : List A} → Written number done was a x → Written number done was b y
+    → (a ≡ b) × (x ≡ y)
+written number done was = written-unique number done was
+
+-- `pick_onsets`, `suppress_close_peaks`: a number, a count, and one lent list
+pub listing : (number : ℕ) (entries was : List ℕ) {a b : Listing} {x y : List ℕ} → Lists number entries was a x → Lists number entries was b y
+    → (a .number ≡ b .number) × (a .count ≡ b .count) × (x ≡ y)
+listing number entries was = lists-unique number entries was
+
+-- the frame reader: one place in memory, and what it holds
+pub row : {slab p q : RefT (List Float)} {bins t : ℕ} → RowOf slab bins t p → RowOf slab bins t q → (p .ptr ≡ q .ptr) × (now p ≡ now q)
+row = one-part
+
+-- `median_of`, `mad_of`
+pub median : {number : ℕ} {value : Float} {xs work : List Float} {a b : Answer} {v w : List Float}
+    → Answered number value xs work a v → Answered number value xs work b w
+    → (a ≡ b) × (length v ≡ length w) × (drop (sortedIn number xs) v ≡ drop (sortedIn number xs) w)
+median p q = (p .answer ∙ sym (q .answer), p .room ∙ sym (q .room), p .rest ∙ sym (q .rest))
+
+-- `adaptive_threshold`
+pub adaptive-threshold : {flux threshold work : List Float} {a b : ℕ} {x y v w : List Float} → Thresholds flux threshold work a x v → Thresholds flux threshold work b y w
+    → (a ≡ b) × (x ≡ y) × (length v ≡ length w) × (drop (unlessRefused a (sortingRoom flux) 0) v ≡ drop (unlessRefused a (sortingRoom flux) 0) w)
+adaptive-threshold = thresholds-unique
+
+-- `estimate`: the work slice too, since nothing is sorted in it
+pub estimate : {env : List Float} {onsets rate : ℕ} {o : TempoOpts} {clarity weight work : List Float} {a b : TempoEstimate} {c d w v k l : List Float}
+    → Estimated env onsets rate o clarity weight work a c w k → Estimated env onsets rate o clarity weight work b d v l
+    → (a ≡ b) × (c ≡ d) × (w ≡ v) × (k ≡ l)
+estimate = tempo.coincide
+
+-- `stability_of`: the answer, and of each lent slice its length and what is not left open
+pub stability-of : {env : List Float} {rate : ℕ} {o : TempoOpts} {whole : ℕ} {clarity weight work : List Float} {a b : Steadiness} {c d w v k l : List Float}
+    → Steadied env rate o whole clarity weight work a c w k → Steadied env rate o whole clarity weight work b d v l
+    → let number = stabilityRefusal env rate o whole (length clarity) (length weight) (length work) in
+    let room = leftOpen (length env) (minLag rate o) (maxLag rate o) whole in
+    (a ≡ b) × stability.Alike number room c d × stability.Alike number room w v × stability.Alike number room k l
+stability-of = stability.coincide
+
+-- what one number decides
+by-number : {A : Type 0} (done was : A) {m n : ℕ} {a b : A} → m ≡ n → a ≡ unlessRefused m done was → b ≡ unlessRefused n done was → a ≡ b
+by-number done was one p q = p ∙ ap (λ (i : ℕ). unlessRefused i done was) one ∙ sym q
+
+-- `beat_grid`
+pub beat-grid : {envelope : List Float} {period : ℕ} {score : List Float} {back beats : List ℕ} {m n c d : ℕ} {s t : List Float} {k l x y : List ℕ}
+    → Gridded envelope period score back beats m c s k x → Gridded envelope period score back beats n d t l y
+    → (m ≡ n) × (c ≡ d) × (s ≡ t) × (k ≡ l) × (x ≡ y)
+beat-grid {envelope} {period} {score} {back} {beats} {m} {n} p q =
+    let one : m ≡ n = p .number-is ∙ sym (q .number-is) in (
+      one,
+      by-number (length (gridOf envelope period)) 0 one (p .count-is) (q .count-is),
+      by-number (listed (scoresOf envelope period) score) score one (p .score-is) (q .score-is),
+      by-number (listed (linksOf envelope period) back) back one (p .back-is) (q .back-is),
+      by-number (listed (gridOf envelope period) beats) beats one (p .beats-are) (q .beats-are),
+    )
+
+-- `downbeats`
+pub downbeats : {envelope : List Float} {beats : List ℕ} {meter : ℕ} {frames : List ℕ} {m n c d : ℕ} {x y : List ℕ}
+    → Downbeats envelope beats meter frames m c x → Downbeats envelope beats meter frames n d y → (m ≡ n) × (c ≡ d) × (x ≡ y)
+downbeats p q = (p .number-is ∙ sym (q .number-is), p .count-is ∙ sym (q .count-is), p .frames-are ∙ sym (q .frames-are))
+
+-- `similarity`, `novelty`
+pub similarity : {features : List Float} {rows : ℕ} {was : List Float} {m n : ℕ} {x y : List Float}
+    → SimilarityDone features rows was m x → SimilarityDone features rows was n y → (m ≡ n) × (x ≡ y)
+similarity p q = (p .answer ∙ sym (q .answer), p .slots ∙ sym (q .slots))
+
+pub novelty : {similarities : List Float} {rows : ℕ} {was : List Float} {m n : ℕ} {x y : List Float}
+    → NoveltyDone similarities rows was m x → NoveltyDone similarities rows was n y → (m ≡ n) × (x ≡ y)
+novelty p q = (p .answer ∙ sym (q .answer), p .slots ∙ sym (q .slots))
+
+-- `boundaries`
+pub boundaries : (number : ℕ) (curve : List Float) (bounds rows : List ℕ) (work : List Float) {a b : Sections} {x y : List ℕ} {u v : List Float}
+    → Found number curve bounds rows work a x u → Found number curve bounds rows work b y v
+    → ((a .number ≡ b .number) × (a .sections ≡ b .sections) × (a .count ≡ b .count) × (a .confidence ≡ b .confidence) × (x ≡ y)
+    × (drop (unlessRefused number (length curve) 0) u ≡ drop (unlessRefused number (length curve) 0) v)) × (length u ≡ length v)
+boundaries number curve bounds rows work p q = (found-unique number curve bounds rows work p q, p .work-length ∙ sym (q .work-length))
+
+-- `patch_magnitudes`: both ranges, the rows and both curves; and the work slice past the slots that are sorted in
+pub patch-magnitudes : (rows bins : ℕ) (was : magnitudes.Track) (patch : Patch) (work : List Float) {a b : Patched} {x y : magnitudes.Track} {v w : List Float}
+    → magnitudes.Patches rows bins was patch work a x v → magnitudes.Patches rows bins was patch work b y w
+    → let sorted = magnitudes.sortedIn (magnitudes.numberOf rows bins was patch (length work)) rows patch in
+    (a ≡ b) × (x ≡ y) × (length v ≡ length w) × (drop sorted v ≡ drop sorted w)
+patch-magnitudes rows bins was patch work p q = magnitude-outcomes.unique rows bins was patch work p q
+
+-- `patch_features`: both ranges, the rows and both curves
+pub patch-features : (rows : ℕ) (was : features.Track) (patch : Patch) {a b : PatchedFeatures} {x y : features.Track}
+    → features.Patches rows was patch a x → features.Patches rows was patch b y → (a ≡ b) × (x ≡ y)
+patch-features rows was patch p q = feature-outcomes.unique rows was patch p q
+
+-- `analyse_envelope`, and `analyse_magnitudes` with its flux: the answer and each result; what is worked in, past the slots left open
+pub analysis : {number : ℕ} {env : List Float} {rate : ℕ} {o : TempoOpts} {was : Results} {lent : Spare} {a b : Analysis} {x y : Results} {s t : Spare}
+    → Analysed number env rate o was lent a x s → Analysed number env rate o was lent b y t
+    → (a ≡ b) × (x ≡ y)
+    × ((length (s .windowClarity) ≡ length (t .windowClarity)) × (drop (openLags number env rate o) (s .windowClarity) ≡ drop (openLags number env rate o) (t .windowClarity)))
+    × ((length (s .windowWeight) ≡ length (t .windowWeight)) × (drop (openLags number env rate o) (s .windowWeight) ≡ drop (openLags number env rate o) (t .windowWeight)))
+    × ((length (s .work) ≡ length (t .work)) × (drop (openWork number env rate o) (s .work) ≡ drop (openWork number env rate o) (t .work)))
+analysis p q =
+    let one = analyses.coincide p q in (
+      one .0,
+      one .1,
+      analyses.open-coincide (p .window-clarities) (q .window-clarities),
+      analyses.open-coincide (p .window-weights) (q .window-weights),
+      analyses.open-coincide (p .works) (q .works),
+    )
+
+pub analysis-of-magnitudes : {m : List Float} {rows bins rate : ℕ} {o : TempoOpts} {flux : List Float} {was : Results} {lent : Spare}
+    {a b : Analysis} {f g : List Float} {x y : Results} {s t : Spare}
+    → AnalysedMagnitudes m rows bins rate o flux was lent a f x s → AnalysedMagnitudes m rows bins rate o flux was lent b g y t → (a ≡ b) × (f ≡ g) × (x ≡ y)
+analysis-of-magnitudes = analyses.magnitudes-coincide

@@ -1,0 +1,63 @@
+-- Demand 3, "Likewise for feature rows with their similarity and novelty curves", and what follows for the sections. The words are those of
+-- Repaired. Each theorem holds for every input, and assumes nothing.
+use mathlib.Core.List.{List, []}
+use mathlib.Core.Path.{_≡_}
+use Prim.Native.Nat.{ℕ}
+use lib.Ieee.{Float}
+use lib.ListN.{take}
+use Rattle.numbers.specs.Limits.{featureWidth}
+use Rattle.sections.specs.Outcomes.{BoundariesPromise}
+use Rattle.sections.specs.declared.Sections.{Sections}
+use Rattle.patching.specs.Patches.{Patch, patchOf, edited}
+use Rattle.patch_features.specs.declared.PatchedFeatures.{PatchedFeatures}
+use Rattle.patch_features.specs.declared.PatchedFeatures.the-variants.{Refused, Wrote}
+use Rattle.patch_features.specs.Features.{Track, track, numberOf, Patches}
+use Rattle.patch_features.specs.Runs.{noveltyCurve, Fresh, Kept, Sound, Good, analysed, Ran}
+use Rattle.patch_features.proofs.Repairs as repairs
+use Rattle.promises.proofs.Determined.{boundaries}
+
+-- ---- one patch
+
+-- Where the lent curves were those of the rows, they are those of the edited rows afterwards, bit for bit, whatever the call answers.
+pub patching-equals-starting-over : (rows : ℕ) (was : Track) (patch : Patch) (answer : PatchedFeatures) (now : Track) → Fresh rows was → Patches rows was patch answer now → Fresh rows now
+patching-equals-starting-over = repairs.call-is-fresh
+
+-- The rows are then the edited ones.
+pub rows-are-edited : (rows : ℕ) (was : Track) (patch : Patch) (f g t u : ℕ) (now : Track) → Patches rows was patch (Wrote f g t u) now
+    → now .features ≡ edited featureWidth (was .features) patch
+rows-are-edited = repairs.accepted-is-edited
+
+-- Outside them, the pairs that touch one of them and the slots that the answer names nothing differs.
+pub outside-stays : (rows : ℕ) (was : Track) (patch : Patch) (f g t u : ℕ) (now : Track) → Patches rows was patch (Wrote f g t u) now → Kept patch f g t u was now
+outside-stays = repairs.outside-stays
+
+-- An empty patch changes nothing, and a refused one changes nothing.
+pub empty-changes-nothing : (rows : ℕ) (was : Track) (start : ℕ) (answer : PatchedFeatures) (now : Track) → Patches rows was (patchOf start []) answer now → now ≡ was
+empty-changes-nothing = repairs.empty-changes-nothing
+
+pub refused-changes-nothing : (rows : ℕ) (was : Track) (patch : Patch) (k : ℕ) (now : Track) → Patches rows was patch (Refused k) now → now ≡ was
+refused-changes-nothing = repairs.refused-changes-nothing
+
+-- ---- any run of patches
+
+-- It ends as one fresh analysis of the last rows, the slots behind the curves as they were lent.
+pub any-run-is-one-analysis : (rows : ℕ) (lent : Track) {now : Track} → Ran rows (analysed rows lent) now
+    → now ≡ analysed rows (track (now .features) (lent .similarity) (lent .novelty))
+any-run-is-one-analysis rows lent ran = repairs.calls-are-one-analysis rows lent ran
+
+-- A patch that is no one's mistake is accepted at any place of a run.
+pub good-is-accepted : (rows : ℕ) (lent : Track) {now : Track} (patch : Patch) → Sound rows lent → Ran rows (analysed rows lent) now → Good rows patch
+    → numberOf rows now patch ≡ 0
+good-is-accepted = repairs.good-is-accepted-after-calls
+
+-- ---- what is computed from patched curves
+
+-- The sections of the novelty curve that a run of patches left are those of a full run on the last rows.
+pub same-sections : (rows : ℕ) (was last : Track) → Fresh rows was → Ran rows was last
+    → (samples rate maxSections : ℕ) (bounds : List ℕ) (work : List Float) {a b : Sections} {x y : List ℕ} {v w : List Float}
+    → BoundariesPromise (take rows (last .novelty)) samples rate maxSections bounds work a x v
+    → BoundariesPromise (noveltyCurve rows (last .features)) samples rate maxSections bounds work b y w
+    → (a .number ≡ b .number) × (a .sections ≡ b .sections) × (a .count ≡ b .count) × (a .confidence ≡ b .confidence) × (x ≡ y)
+same-sections rows was last fresh ran samples rate maxSections bounds work p q =
+    let one = boundaries _ _ _ bounds work (rw (repairs.calls-end-fresh rows fresh ran .novelty) at p) q .0 in
+    (one .0, one .1, one .2, one .3, one .4)

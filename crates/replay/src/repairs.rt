@@ -1,0 +1,100 @@
+// A patch of forty magnitude rows of one bin, and one of twenty feature rows, some refused.
+use crate::inputs;
+use crate::lines;
+use patch_features::PatchedFeatures;
+use patch_magnitudes::Patched;
+
+fn named(a: usize, b: usize, c: usize, d: usize) {
+    show::count(a);
+    show::count(b);
+    show::count(c);
+    show::count(d);
+}
+
+fn wrote(p: Patched) {
+    show::words(b"patch");
+    match p {
+        Patched::Refused(number) => show::small(number),
+        Patched::Wrote {
+            flux_first,
+            flux_past,
+            threshold_first,
+            threshold_past,
+        } => {
+            show::small(0);
+            named(flux_first, flux_past, threshold_first, threshold_past);
+        }
+    }
+    show::end();
+}
+
+// Rows from start on are replaced by up to twenty others; the curves were those of the rows before.
+fn magnitudes(s: u64, start: usize) {
+    let mut slab = [0.0f32; 40];
+    let mut new = [0.0f32; 20];
+    let mut flux = [0.0f64; 40];
+    let mut threshold = [0.0f64; 40];
+    let mut work = [0.0f64; 21];
+    inputs::fill_magnitudes(&mut slab, s);
+    inputs::fill_magnitudes(&mut new, inputs::next(s));
+    onsets::flux::spectral_flux(&slab, 40, 1, &mut flux);
+    onsets::threshold::adaptive_threshold(&flux, &mut threshold, &mut work);
+    patched(&mut slab, start, &new, &mut flux, &mut threshold);
+}
+
+fn patched(slab: &mut [f32], start: usize, new: &[f32], flux: &mut [f64], threshold: &mut [f64]) {
+    let mut work = [0.0f64; 21];
+    wrote(patch_magnitudes::patch_magnitudes(slab, 40, 1, start, new, flux, threshold, &mut work));
+    lines::slots(b"patched flux", flux);
+    lines::slots(b"patched threshold", threshold);
+}
+
+fn wrote_features(p: PatchedFeatures) {
+    show::words(b"feature patch");
+    match p {
+        PatchedFeatures::Refused(number) => show::small(number),
+        PatchedFeatures::Wrote {
+            similarity_first,
+            similarity_past,
+            novelty_first,
+            novelty_past,
+        } => {
+            show::small(0);
+            named(
+                similarity_first,
+                similarity_past,
+                novelty_first,
+                novelty_past,
+            );
+        }
+    }
+    show::end();
+}
+
+fn features(s: u64, start: usize) {
+    let mut lent = [0.0f64; 320];
+    let mut new = [0.0f64; 48];
+    let mut similarity = [0.0f64; 340];
+    let mut novelty = [0.0f64; 20];
+    inputs::fill(&mut lent, s);
+    inputs::fill(&mut new, inputs::next(s));
+    structure::similarity(&lent, 20, &mut similarity);
+    structure::novelty(&similarity, 20, &mut novelty);
+    patched_features(&mut lent, start, &new, &mut similarity, &mut novelty);
+}
+
+fn patched_features(
+    lent: &mut [f64],
+    start: usize,
+    new: &[f64],
+    similarity: &mut [f64],
+    novelty: &mut [f64],
+) {
+    wrote_features(patch_features::patch_features(lent, 20, start, new, similarity, novelty));
+    lines::slots(b"patched novelty", novelty);
+}
+
+pub fn round(s: u64) {
+    magnitudes(s, inputs::up_to_forty(s));
+    features(s, inputs::up_to_twenty(s));
+}

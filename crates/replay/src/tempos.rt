@@ -1,0 +1,145 @@
+// Lags, tempo, stability, beats and bars of envelopes of sixty slots, at rates that have few lags.
+use crate::inputs;
+use crate::lines;
+use bars::BarBeat;
+use lags::TempoOpts;
+use stability::Stability;
+use tempo::Candidate;
+use tempo::Tempo;
+use tempo::TempoEstimate;
+
+fn range(rate: u32, opts: TempoOpts) {
+    let r = lags::lag_range(rate, opts);
+    show::words(b"lags");
+    show::small(r.number);
+    show::count(r.min_lag);
+    show::count(r.max_lag);
+    show::end();
+}
+
+fn candidate(c: Candidate) {
+    show::count(c.lag);
+    show::float(c.salience);
+}
+
+fn found(t: Tempo) {
+    match t {
+        Tempo::None => show::words(b" none"),
+        Tempo::Found { bpm, clarity } => {
+            show::float(bpm);
+            show::float(clarity);
+        }
+    }
+}
+
+fn told(e: TempoEstimate) {
+    show::words(b"tempo");
+    show::small(e.number);
+    let t = e.tempo;
+    found(t);
+    show::count(e.count);
+    candidate(e.candidates[0]);
+    candidate(e.candidates[1]);
+    candidate(e.candidates[2]);
+    show::end();
+}
+
+// The lag of a tempo, or a period without one.
+fn lag_of(e: TempoEstimate, period: usize) -> usize {
+    let c = e.candidates[0];
+    if e.count == 0 { period } else { c.lag }
+}
+
+fn searched(envelope: &[f64], rate: u32, opts: TempoOpts, s: u64) {
+    let mut clarity = [0.0f64; 60];
+    let mut weight = [0.0f64; 60];
+    let mut work = [0.0f64; 60];
+    let e = tempo::estimate(
+        envelope,
+        2,
+        rate,
+        opts,
+        &mut clarity,
+        &mut weight,
+        &mut work,
+    );
+    told(e);
+    let lag = lag_of(e, inputs::up_to_twenty(s));
+    let w = stability::stability_of(
+        envelope,
+        rate,
+        opts,
+        lag,
+        &mut clarity,
+        &mut weight,
+        &mut work,
+    );
+    let share = w.stability;
+    steady(share);
+    beats_of(envelope, lag);
+}
+
+fn steady(stability: Stability) {
+    show::words(b"stability");
+    match stability {
+        Stability::None => show::words(b" none"),
+        Stability::Share {
+            fraction,
+            agreeing,
+            windows,
+        } => {
+            show::float(fraction);
+            show::count(agreeing);
+            show::count(windows);
+        }
+    }
+    show::end();
+}
+
+fn beats_of(envelope: &[f64], period: usize) {
+    let mut score = [0.0f64; 60];
+    let mut back = [0u32; 60];
+    let mut beats = [0u32; 60];
+    let r = beats::beat_grid(envelope, period, &mut score, &mut back, &mut beats);
+    let count = lines::first(r.count);
+    lines::frames(b"beats", r.number, &beats, count);
+    lines::slots(b"last score", &score[59..60]);
+    bars_of(envelope, &beats[0..count]);
+}
+
+fn bars_of(envelope: &[f64], beats: &[u32]) {
+    let mut frames = [0u32; 60];
+    let r = bars::downbeats(envelope, beats, &mut frames);
+    lines::frames(b"downbeats", r.number, &frames, lines::first(r.count));
+}
+
+fn at(time: f64, downbeats: &[f64], beats: &[f64]) {
+    show::words(b"at");
+    let a = bars::bar_beat_at(time, downbeats, beats);
+    match a {
+        BarBeat::Nowhere => show::words(b" nowhere"),
+        BarBeat::At { bar, beat } => {
+            show::count(bar);
+            show::count(beat);
+        }
+    }
+    show::end();
+}
+
+fn places(s: u64) {
+    let mut beats = [0.0f64; 30];
+    let mut downbeats = [0.0f64; 7];
+    inputs::fill(&mut beats, s);
+    inputs::fill(&mut downbeats, s);
+    at(inputs::level(s % 4, 1, inputs::next(s)), &downbeats, &beats);
+}
+
+pub fn round(s: u64) {
+    let mut envelope = [0.0f64; 60];
+    inputs::fill(&mut envelope, s);
+    let rate = (s % 5000) as u32 + 1;
+    let opts = TempoOpts::between(30.0 + inputs::level(2, 0, s), 300.0);
+    range(rate, opts);
+    searched(&envelope, rate, opts, s);
+    places(s);
+}

@@ -1,0 +1,4 @@
+// The reporting program on an array without rows: nothing is listed.
+fn main() {
+    report_io::report();
+}

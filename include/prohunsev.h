@@ -1,0 +1,179 @@
+/* prohunsev.h: the rhythm of a track, proved, for C99 and C++.
+ *
+ * Each function is named ph_ and the name of the proved call behind it, and does what that call promises: crates/capi holds the
+ * statements, docs/PROMISES.md says what they mean. What follows are the rules that all of them share.
+ *
+ * Numbers of refusal. Every function returns one of these, the lowest that applies:
+ *   0  answered ("no tempo" and "no stability" are answers)
+ *   1  a number is out of bounds: a rate outside 1 to 192,000, more than 1,048,576 rows or slots, bins outside 1 to 4,096, more than
+ *      50,000 feature rows, a feature length outside 1 to 2^31, a period or whole lag above 45,000, a bpm that isn't finite, a patch
+ *      that starts past the last row, a frame above 1,048,575, a peak list that doesn't ascend strictly or points past its curve, or
+ *      the median of nothing
+ *   2  the length of an input isn't rows times width, or a patch isn't whole rows or runs past the end
+ *   3  too little room: an output or a work slice is shorter than its formula
+ *   4  a value isn't finite or is too large: above 2^126 in size for magnitudes, above 2^150 for envelopes, curves, medians and
+ *      features, and outside -1 to 1 for a similarity
+ * A refusal changes nothing that was lent: no slot of a slice, and none of the numbers that an answer would go into.
+ *
+ * Slices. A slice is a pointer and a length in slots, one behind the other: `const double *flux, size_t flux_len`. A slice that is
+ * written may be longer than its formula; slots behind it are neither read nor written. A pointer to a single number, and an array of
+ * three, has no length. What a pointer must be: not null, also where the length is 0; aligned for its type; good for its length; and
+ * what a function writes must overlap nothing else that is lent to the same call. C cannot check this and neither does the library:
+ * the proofs hold of callers that keep it.
+ *
+ * Room, in slots. N is the number of magnitude rows or the length of an envelope, F the number of feature rows, L = max_lag - min_lag
+ * + 1 by ph_lag_range (338 at 48,000 samples a second and 30 to 300 bpm):
+ *   N       flux, threshold, onset frames, score, back links, beats
+ *   L       each lag curve, and the work slice beside it
+ *   17 F    similarity (row i with row i + d stands in slot 17 i + d, for d from 0 to 16)
+ *   F       novelty, boundary rows, and the work slice beside them
+ *   one for each entry: suppressed peaks, times, downbeats; a median's work slice
+ *   min(21, N)  the work slice of a threshold
+ * Work slices hold anything after an answer, in the slots of their formula; ph_stability_of treats its lag curves the same way. Lists
+ * have their entries first, as many as the count says. All other slots stay as they were.
+ *
+ * Threads. Nothing is allocated, nothing is kept from call to call, and there is no global state: any number of threads may call any
+ * of these at the same time, each with slices and numbers of its own to write into; what is only read may be shared. Every call ends.
+ *
+ * Times. A magnitude row is a frame: 1,024 samples, 256 after the one before it. Frame t's centre is at (256 t + 512) / rate seconds.
+ * A feature row has 16 values and is `length` samples long. Beats and lags are counted in frames.
+ *
+ * Linking. On x86-64: `rt staticlib capi`, then target/staticlib/libcapi.a. On another processor: `tools/native capi capi.o`.
+ */
+#ifndef PROHUNSEV_H
+#define PROHUNSEV_H
+
+#include <stddef.h>
+#include <stdint.h>
+
+#ifdef __cplusplus
+extern "C" {
+#endif
+
+/* ---- medians */
+
+/* The median of values by IEEE 754's total order: the entry at length div 2 once they are sorted, so the upper middle of an even length.
+ * Room: values_len slots of work, which then hold anything.
+ * Refuses 1 for no values, 3, and 4 for a value above 2^150 in size or not finite. */
+uint32_t ph_median_of(const double *values, size_t values_len, double *work, size_t work_len, double *median);
+
+/* The median of the distances |value - median| from a given median.
+ * Room: values_len slots of work, which then hold anything.
+ * Refuses 1 for no values, 3, and 4 for a value or a median above 2^150 in size or not finite. */
+uint32_t ph_mad_of(const double *values, size_t values_len, double median, double *work, size_t work_len, double *mad);
+
+/* ---- onsets */
+
+/* Onset strength: flux[t] is how much row t of the magnitudes rises over row t - 1, summed over the bins; flux[0] is 0.
+ * Room: rows slots of flux.
+ * Refuses 1 for rows or bins, 2 where there aren't rows times bins magnitudes, 3, and 4 for a magnitude above 2^126 in size or not finite. */
+uint32_t ph_spectral_flux(const float *magnitudes, size_t magnitudes_len, size_t rows, size_t bins, double *flux, size_t flux_len);
+
+/* What a flux must exceed to be an onset: the median of the slots from t - 10 to t + 10, eight times their median distance from it, and 0.000001.
+ * Room: flux_len slots of threshold, and min(21, flux_len) of work, which then hold anything.
+ * Refuses 1 for the length of flux, 3, and 4 for a flux value above 2^150 in size or not finite. */
+uint32_t ph_adaptive_threshold(const double *flux, size_t flux_len, double *threshold, size_t threshold_len, double *work, size_t work_len);
+
+/* Lists the frames of the onsets, ascending: peaks of the flux above its threshold, the best of each group (30 ms, at least a frame); *count.
+ * Room: flux_len slots of frames.
+ * Refuses 1 for the length of flux or the rate, 2 for a threshold of another length, 3, and 4 for a value of either. */
+uint32_t ph_pick_onsets(const double *flux, size_t flux_len, const double *threshold, size_t threshold_len, uint32_t rate,
+                        uint32_t *frames, size_t frames_len, size_t *count);
+
+/* Lists the best peak of each group, ascending; a peak joins a group while it is at most gap slots past its best so far; *count of them.
+ * Room: peaks_len slots of frames.
+ * Refuses 1 for the length of curve, or peaks that don't ascend strictly or point past the curve, 3, and 4 for a value of the curve. */
+uint32_t ph_suppress_close_peaks(const uint32_t *peaks, size_t peaks_len, const double *curve, size_t curve_len, size_t gap,
+                                 uint32_t *frames, size_t frames_len, size_t *count);
+
+/* The time of each frame's centre in milliseconds, in the frames' order, which need not ascend.
+ * Room: frames_len slots of ms.
+ * Refuses 1 for the rate or a frame above 1,048,575, and 3. */
+uint32_t ph_frame_times(const uint32_t *frames, size_t frames_len, uint32_t rate, double *ms, size_t ms_len);
+
+/* ---- tempo */
+
+/* The lags, in frames, of the fastest and the slowest tempo that two bounds in beats a minute allow; reversed bounds are swapped.
+ * *min_lag is at least 1, *max_lag at least one more and at most 45,000. The usual bounds are 30 and 300.
+ * Refuses 1 for the rate or a bound that isn't finite. */
+uint32_t ph_lag_range(uint32_t rate, double min_bpm, double max_bpm, size_t *min_lag, size_t *max_lag);
+
+/* The tempo of an envelope with this many onsets: *found is 0 without one, and then *bpm and *clarity are 0, or 1; and *count candidates, the
+ * winner first, unused ones 0. Room: L slots each of clarity_curve and weight_curve, which then hold the lag curves (unchanged where the envelope
+ * is too short, has fewer than two onsets or is flat), and of work, unchanged. Refuses 1 for the length, the rate or a bound, 3, and 4 for a value. */
+uint32_t ph_estimate(const double *envelope, size_t envelope_len, size_t onsets, uint32_t rate, double min_bpm, double max_bpm,
+                     double *clarity_curve, size_t clarity_curve_len, double *weight_curve, size_t weight_curve_len, double *work, size_t work_len,
+                     uint32_t *found, double *bpm, double *clarity, size_t lags[3], double saliences[3], size_t *count);
+
+/* In how many of up to four windows the tempo is heard again: *found is 0 without a stability, and then the others are 0, or 1, and *fraction is
+ * *agreeing / *windows. whole_lag is the winning candidate's lag, 0 for no tempo. Room: L slots each of clarity_curve, weight_curve and work, which
+ * then hold anything. Refuses 1 for the length, the rate, a bound or a lag above 45,000, 3, and 4 for a value. */
+uint32_t ph_stability_of(const double *envelope, size_t envelope_len, uint32_t rate, double min_bpm, double max_bpm, size_t whole_lag,
+                         double *clarity_curve, size_t clarity_curve_len, double *weight_curve, size_t weight_curve_len, double *work, size_t work_len,
+                         uint32_t *found, double *fraction, size_t *agreeing, size_t *windows);
+
+/* ---- beats and bars */
+
+/* Lists the frames of the beats, about period frames apart, ascending, *count of them; none for period 0 or a flat envelope.
+ * Room: envelope_len slots each of score, back (the beat before, 4,294,967,295 for none) and beats; without beats no slot is written.
+ * Refuses 1 for the length or a period above 45,000, 3, and 4 for a value. */
+uint32_t ph_beat_grid(const double *envelope, size_t envelope_len, size_t period, double *score, size_t score_len,
+                      uint32_t *back, size_t back_len, uint32_t *beats, size_t beats_len, size_t *count);
+
+/* Lists every fourth beat, from the one of the first four that makes their flux sum greatest, *count of them; the beats need not ascend.
+ * Room: beats_len slots of frames.
+ * Refuses 1 for the length of envelope or a beat above 1,048,575, 3, and 4 for a value. */
+uint32_t ph_downbeats(const double *envelope, size_t envelope_len, const uint32_t *beats, size_t beats_len,
+                      uint32_t *frames, size_t frames_len, size_t *count);
+
+/* Where a time lies: *found is 0 before the first downbeat, and then *bar and *beat are 0, or 1, and both count from 1.
+ * The two lists hold times in the unit of `time`; any double will do in each place, in any order, and both tests have a slack of 0.000001.
+ * Refuses nothing. */
+uint32_t ph_bar_beat_at(double time, const double *downbeats, size_t downbeats_len, const double *beats, size_t beats_len,
+                        uint32_t *found, size_t *bar, size_t *beat);
+
+/* ---- sections */
+
+/* How alike each feature row is to itself and to the sixteen rows after it, from -1 to 1, and 0 past the last row.
+ * Room: 17 rows slots of similarity.
+ * Refuses 1 for rows above 50,000, 2 where there aren't 16 rows feature values, 3, and 4 for a value. */
+uint32_t ph_similarity(const double *features, size_t features_len, size_t rows, double *similarity, size_t similarity_len);
+
+/* How new each row is, from the similarity of the eight rows before it and the eight from it on.
+ * Room: rows slots of novelty.
+ * Refuses 1 for rows above 50,000, 2 where there aren't 17 rows similarities, 3, and 4 for one outside -1 to 1. */
+uint32_t ph_novelty(const double *similarity, size_t similarity_len, size_t rows, double *novelty, size_t novelty_len);
+
+/* Lists the rows at which a section begins, ascending, at most max_sections - 1: *sections, *count of boundaries, and how far they stand out, 0 to 1.
+ * Room: novelty_len slots of rows, and of work, which then hold anything. A row of features is `length` samples long.
+ * Refuses 1 for the length of novelty, a row's length or the rate, 3, and 4 for a value. */
+uint32_t ph_boundaries(const double *novelty, size_t novelty_len, uint64_t length, uint32_t rate, size_t max_sections,
+                       uint32_t *rows, size_t rows_len, double *work, size_t work_len, size_t *sections, size_t *count, double *confidence);
+
+/* The time at which each row begins in milliseconds, in the rows' order, which need not ascend.
+ * Room: rows_len slots of ms.
+ * Refuses 1 for a row's length, the rate or a row of 50,000 and above, and 3. */
+uint32_t ph_boundary_times(const uint32_t *rows, size_t rows_len, uint64_t length, uint32_t rate, double *ms, size_t ms_len);
+
+/* ---- repairs */
+
+/* Replaces the rows from start on by the new ones, mends flux and threshold as a full run on the edited rows gives them, and names the slots written.
+ * Room: rows slots each of flux and threshold, and min(21, rows) of work, which then hold anything. No new rows: nothing changes, and all four are 0.
+ * Refuses 1 for rows, bins or a start above rows, 2 for a length, 3, and 4 for a magnitude, old or new, or one of the first rows values of a curve. */
+uint32_t ph_patch_magnitudes(float *magnitudes, size_t magnitudes_len, size_t rows, size_t bins, size_t start,
+                             const float *new_rows, size_t new_rows_len, double *flux, size_t flux_len, double *threshold, size_t threshold_len,
+                             double *work, size_t work_len,
+                             size_t *flux_first, size_t *flux_past, size_t *threshold_first, size_t *threshold_past);
+
+/* Replaces the feature rows from start on by the new ones, mends similarity and novelty as a full run on the edited rows gives them, and names the slots.
+ * Room: 17 rows slots of similarity and rows of novelty. No new rows: nothing changes, and all four are 0.
+ * Refuses 1 for rows or a start above rows, 2 for a length, 3, and 4 for a feature, old or new, or a value of a curve up to its formula. */
+uint32_t ph_patch_features(double *features, size_t features_len, size_t rows, size_t start, const double *new_rows, size_t new_rows_len,
+                           double *similarity, size_t similarity_len, double *novelty, size_t novelty_len,
+                           size_t *similarity_first, size_t *similarity_past, size_t *novelty_first, size_t *novelty_past);
+
+#ifdef __cplusplus
+}
+#endif
+
+#endif

@@ -1,0 +1,394 @@
+//! What each call must do: its number by document 01's table, its answer by the Rust, every other slot as it was.
+use crate::cases::Field;
+use crate::differences;
+use crate::lent::{Slot, bits_of, cell, poisoned};
+use crate::table::{self, BAND, WIDTH};
+use oracle::structure::StructureOpts;
+use oracle::tempo::{DEFAULT_BEATS_PER_BAR, TempoOpts, TempoReport};
+use oracle::{onsets, structure, tempo};
+
+/// One lent slice afterwards; its first `open` slots may hold anything (docs/EXCEPTIONS.md).
+pub struct Slots {
+    pub bits: Vec<u64>,
+    pub open: usize,
+}
+
+pub struct Expected {
+    pub number: u32,
+    pub answers: Vec<u64>,
+    pub slots: Vec<Slots>,
+}
+
+fn fixed(bits: Vec<u64>) -> Slots {
+    Slots { bits, open: 0 }
+}
+
+// sorting room or lag room: open as far as its formula, where the call is answered
+fn room(slots: usize, formula: usize, number: u32) -> Slots {
+    Slots { bits: poisoned::<f64>(slots), open: if number == 0 { formula } else { 0 } }
+}
+
+// the slots of an output: entries first, the rest as it was
+fn listed<T: Slot>(slots: usize, entries: &[T]) -> Slots {
+    let mut bits = poisoned::<T>(slots);
+    for (slot, x) in bits.iter_mut().zip(entries) {
+        *slot = x.bits();
+    }
+    fixed(bits)
+}
+
+fn frames(list: &[usize]) -> Vec<u32> {
+    list.iter().map(|&t| u32::try_from(t).unwrap()).collect()
+}
+fn indices(list: &[u32]) -> Vec<usize> {
+    list.iter().map(|&t| t as usize).collect()
+}
+
+pub fn median_of(f: &[Field]) -> Expected {
+    let number = table::median_of(f[0].reals(), f[1].size());
+    let median = if number == 0 { onsets::open::median_of(f[0].reals()) } else { cell() };
+    Expected { number, answers: vec![median.bits()], slots: vec![room(f[1].size(), f[0].reals().len(), number)] }
+}
+
+pub fn mad_of(f: &[Field]) -> Expected {
+    let number = table::mad_of(f[0].reals(), f[1].real(), f[2].size());
+    let mad = if number == 0 { onsets::open::mad_of(f[0].reals(), f[1].real()) } else { cell() };
+    Expected { number, answers: vec![mad.bits()], slots: vec![room(f[2].size(), f[0].reals().len(), number)] }
+}
+
+/// The flux that the Rust gives these rows, with D1 and D2.
+pub fn flux_of(magnitudes: &[f32], rows: usize, bins: usize) -> Vec<f64> {
+    let slab: Vec<Vec<f32>> = magnitudes.chunks(bins).map(|row| row.to_vec()).collect();
+    let flux = onsets::open::spectral_flux(&onsets::open::stft(slab, 1));
+    differences::no_rows(flux, rows).into_iter().map(differences::flux_zero).collect()
+}
+
+pub fn spectral_flux(f: &[Field]) -> Expected {
+    let number = table::spectral_flux(f[0].singles(), f[1].whole(), f[2].whole(), f[3].size());
+    let flux = if number == 0 { flux_of(f[0].singles(), f[1].size(), f[2].size()) } else { vec![] };
+    Expected { number, answers: vec![], slots: vec![listed(f[3].size(), &flux)] }
+}
+
+pub fn adaptive_threshold(f: &[Field]) -> Expected {
+    let number = table::adaptive_threshold(f[0].reals(), f[1].size(), f[2].size());
+    let threshold = if number == 0 { onsets::open::adaptive_threshold(f[0].reals()) } else { vec![] };
+    let sorting = room(f[2].size(), table::window(f[0].reals().len()), number);
+    Expected { number, answers: vec![], slots: vec![listed(f[1].size(), &threshold), sorting] }
+}
+
+fn list(number: u32, entries: &[usize], slots: usize) -> Expected {
+    let count = if number == 0 { entries.len() } else { cell() };
+    Expected { number, answers: vec![count.bits()], slots: vec![listed(slots, &frames(entries))] }
+}
+
+pub fn pick_onsets(f: &[Field]) -> Expected {
+    let number = table::pick_onsets(f[0].reals(), f[1].reals(), f[2].whole(), f[3].size());
+    let picked = if number == 0 { onsets::open::pick_onsets(f[0].reals(), f[1].reals(), f[2].small()) } else { vec![] };
+    list(number, &picked, f[3].size())
+}
+
+pub fn suppress_close_peaks(f: &[Field]) -> Expected {
+    let number = table::suppress_close_peaks(f[0].frames(), f[1].reals(), f[3].size());
+    let kept = if number == 0 { onsets::open::suppress_close_peaks(&indices(f[0].frames()), f[1].reals(), f[2].size()) } else { vec![] };
+    list(number, &kept, f[3].size())
+}
+
+pub fn frame_times(f: &[Field]) -> Expected {
+    let number = table::frame_times(f[0].frames(), f[1].whole(), f[2].size());
+    let time = |&t: &u32| tempo::open::frame_center_ms(t as usize, f[1].small());
+    let ms: Vec<f64> = if number == 0 { f[0].frames().iter().map(time).collect() } else { vec![] };
+    Expected { number, answers: vec![], slots: vec![listed(f[2].size(), &ms)] }
+}
+
+/// The least and the greatest lag of the Rust.
+pub fn lags(rate: u32, min_bpm: f64, max_bpm: f64) -> (usize, usize) {
+    tempo::open::lag_range(&TempoOpts { min_bpm, max_bpm }, tempo::open::frame_rate(rate))
+}
+
+pub fn lag_range(f: &[Field]) -> Expected {
+    let number = table::lag_range(f[0].whole(), f[1].real(), f[2].real());
+    let (min, max) = if number == 0 { lags(f[0].small(), f[1].real(), f[2].real()) } else { (cell(), cell()) };
+    Expected { number, answers: vec![min.bits(), max.bits()], slots: vec![] }
+}
+
+fn lag_count(rate: u32, bpm: (f64, f64)) -> usize {
+    let (min, max) = lags(rate, bpm.0, bpm.1);
+    max - min + 1
+}
+
+pub fn estimate(f: &[Field]) -> Expected {
+    let (envelope, rate, bpm) = (f[0].reals(), f[2].small(), (f[3].real(), f[4].real()));
+    let rooms = [f[5].size(), f[6].size(), f[7].size()];
+    let number = table::estimate(envelope, f[2].whole(), bpm, rooms, || lag_count(rate, bpm));
+    let mut curves = (vec![], vec![]);
+    let mut answers = vec![cell::<u32>().bits(), cell::<f64>().bits(), cell::<f64>().bits(), cell::<usize>().bits()];
+    let mut pairs = (poisoned::<usize>(3), poisoned::<f64>(3));
+    if number == 0 {
+        let (min, max) = lags(rate, bpm.0, bpm.1);
+        let frame_rate = tempo::open::frame_rate(rate);
+        // the tests of `estimate_from_parts` before it picks peaks
+        let searched = envelope.len() >= 3 && f[1].size() >= 2 && envelope.len() > max + 1;
+        let picked = if searched { tempo::open::pick_tempo_peaks(envelope, min, max, frame_rate) } else { None };
+        if searched {
+            curves = tempo::open::lag_curves(envelope, min, max, frame_rate).unwrap_or_default();
+        }
+        (answers, pairs) = (vec![0; 4], (vec![0; 3], vec![0; 3]));
+        if let Some(p) = picked {
+            let tempo = frame_rate * 60.0 / p.winner_lag as f64;
+            answers = vec![1, tempo.bits(), p.winner_salience.bits(), p.peaks.len() as u64];
+            for (k, &(lag, salience)) in p.peaks.iter().enumerate() {
+                (pairs.0[k], pairs.1[k]) = (lag.bits(), salience.bits());
+            }
+        }
+    }
+    let slots =
+        vec![listed(rooms[0], &curves.0), listed(rooms[1], &curves.1), fixed(poisoned::<f64>(rooms[2])), fixed(pairs.0), fixed(pairs.1)];
+    Expected { number, answers, slots }
+}
+
+pub fn stability_of(f: &[Field]) -> Expected {
+    let (envelope, rate, bpm, whole_lag) = (f[0].reals(), f[1].small(), (f[2].real(), f[3].real()), f[4].size());
+    let rooms = [f[5].size(), f[6].size(), f[7].size()];
+    let number = table::stability_of(envelope, f[1].whole(), bpm, f[4].whole(), rooms, || lag_count(rate, bpm));
+    let mut answers = vec![cell::<u32>().bits(), cell::<f64>().bits(), cell::<usize>().bits(), cell::<usize>().bits()];
+    let mut formula = 0;
+    if number == 0 {
+        formula = lag_count(rate, bpm);
+        let (min, max) = lags(rate, bpm.0, bpm.1);
+        let share = tempo::open::stability_of(envelope, min, max, tempo::open::frame_rate(rate), whole_lag);
+        answers = vec![0; 4];
+        if let Some(share) = differences::no_lag(share, whole_lag) {
+            let windows = (envelope.len() / (max + 2)).min(4);
+            let agreeing = (share * windows as f64).round() as usize;
+            answers = vec![1, share.bits(), agreeing.bits(), windows.bits()];
+        }
+    }
+    Expected { number, answers, slots: rooms.map(|r| room(r, formula, number)).into() }
+}
+
+pub fn beat_grid(f: &[Field]) -> Expected {
+    let rooms = [f[2].size(), f[3].size(), f[4].size()];
+    let number = table::beat_grid(f[0].reals(), f[1].whole(), rooms);
+    let (mut scores, mut links, mut beats, mut count) = (vec![], vec![], vec![], cell());
+    if number == 0 {
+        beats = tempo::open::beat_grid(f[0].reals(), f[1].size());
+        count = beats.len();
+        if let Some((score, back)) = tempo::open::scores(f[0].reals(), f[1].size()) {
+            scores = score;
+            links = back.iter().map(|link| link.map_or(u32::MAX, |t| t as u32)).collect();
+        }
+    }
+    let slots = vec![listed(rooms[0], &scores), listed(rooms[1], &links), listed(rooms[2], &frames(&beats))];
+    Expected { number, answers: vec![count.bits()], slots }
+}
+
+pub fn room_of(f: &[Field]) -> Expected {
+    let bpm = (f[2].real(), f[3].real());
+    let number = table::room_of(f[0].whole(), f[1].whole(), bpm);
+    let mut answers = [cell::<usize>(); 3];
+    if number == 0 {
+        let lags = lag_count(f[1].small(), bpm);
+        answers = [f[0].size(), lags, table::track_sorting(f[0].size(), lags)];
+    }
+    Expected { number, answers: answers.map(Slot::bits).into(), slots: vec![] }
+}
+
+fn track_room(f: &[Field]) -> table::TrackRoom {
+    let size = |k: usize| f[k].size();
+    table::TrackRoom { frames: [0, 1, 6, 7, 8, 9].map(size), curves: [2, 3, 4, 5].map(size), work: size(10) }
+}
+
+// A whole track from its envelope: the Rust's functions one after the other. `f` are the lent rooms.
+fn track(number: u32, envelope: &[f64], rate: u32, bpm: (f64, f64), f: &[Field]) -> Expected {
+    let room_at = |k: usize| f[k].size();
+    let field = |n: usize| Field::Whole(n as u64);
+    let (hertz, low, high) = (field(rate as usize), Field::Real(bpm.0), Field::Real(bpm.1));
+    let lent = || Field::Reals(envelope.to_vec());
+    let mut answers: Vec<u64> = [cell::<usize>().bits(); 11].into();
+    (answers[1], answers[5]) = (cell::<u32>().bits(), cell::<u32>().bits());
+    (answers[2], answers[3], answers[6]) = (cell::<f64>().bits(), cell::<f64>().bits(), cell::<f64>().bits());
+    let mut slots: Vec<Slots> =
+        (0..11).map(|k| fixed(if [1, 7, 8, 9].contains(&k) { poisoned::<u32>(room_at(k)) } else { poisoned::<f64>(room_at(k)) })).collect();
+    slots.extend([fixed(poisoned::<usize>(3)), fixed(poisoned::<f64>(3))]);
+    if number != 0 {
+        return Expected { number, answers, slots };
+    }
+    let lags = lag_count(rate, bpm);
+    slots[10].open = table::track_sorting(envelope.len(), lags);
+    let threshold = onsets::open::adaptive_threshold(envelope);
+    let heard = onsets::open::pick_onsets(envelope, &threshold, rate);
+    slots[0] = listed(room_at(0), &threshold);
+    slots[1] = listed(room_at(1), &frames(&heard));
+    let curves = [field(room_at(2)), field(room_at(3)), field(lags)];
+    let found = estimate(&[&[lent(), field(heard.len()), hertz.clone(), low.clone(), high.clone()][..], &curves].concat());
+    answers = vec![0; 11];
+    answers[0] = heard.len().bits();
+    answers[1..5].copy_from_slice(&found.answers);
+    let [clarity, weight, _, candidates, saliences] = found.slots.try_into().ok().unwrap();
+    (slots[2], slots[3], slots[11], slots[12]) = (clarity, weight, candidates, saliences);
+    if answers[1] == 1 {
+        let lag = Field::Whole(slots[11].bits[0]);
+        let enough = [field(lags), field(lags), field(lags)];
+        let steady = stability_of(&[&[lent(), hertz, low, high, lag.clone()][..], &enough].concat());
+        answers[5..9].copy_from_slice(&steady.answers);
+        (slots[4].open, slots[5].open) = (lags, lags);
+        let grid = beat_grid(&[lent(), lag, field(room_at(6)), field(room_at(7)), field(room_at(8))]);
+        answers[9] = grid.answers[0];
+        let beats: Vec<u32> = grid.slots[2].bits.iter().take(answers[9] as usize).map(|&t| t as u32).collect();
+        let [score, back, list] = grid.slots.try_into().ok().unwrap();
+        (slots[6], slots[7], slots[8]) = (score, back, list);
+        let bars = downbeats(&[lent(), Field::Frames(beats), field(room_at(9))]);
+        answers[10] = bars.answers[0];
+        slots[9] = bars.slots.into_iter().next().unwrap();
+    }
+    Expected { number, answers, slots }
+}
+
+pub fn analyse_envelope(f: &[Field]) -> Expected {
+    let (rate, bpm) = (f[1].small(), (f[2].real(), f[3].real()));
+    let number = table::analyse_envelope(f[0].reals(), f[1].whole(), bpm, &track_room(&f[4..]), || lag_count(rate, bpm));
+    track(number, f[0].reals(), rate, bpm, &f[4..])
+}
+
+pub fn analyse_magnitudes(f: &[Field]) -> Expected {
+    let (rate, bpm, flux_room) = (f[3].small(), (f[4].real(), f[5].real()), f[6].size());
+    let lags = || lag_count(rate, bpm);
+    let room = track_room(&f[7..]);
+    let number = table::analyse_magnitudes(f[0].singles(), f[1].whole(), f[2].whole(), f[3].whole(), bpm, flux_room, &room, lags);
+    let flux = if number == 0 { flux_of(f[0].singles(), f[1].size(), f[2].size()) } else { vec![] };
+    let mut e = track(number, &flux, rate, bpm, &f[7..]);
+    e.slots.insert(0, listed(flux_room, &flux));
+    e
+}
+
+pub fn downbeats(f: &[Field]) -> Expected {
+    let number = table::downbeats(f[0].reals(), f[1].frames(), f[2].size());
+    let mut bars = vec![];
+    if number == 0 {
+        let beats = indices(f[1].frames());
+        let phase = tempo::open::downbeat_phase(f[0].reals(), &beats, DEFAULT_BEATS_PER_BAR);
+        // as `estimate_from_parts` filters its beats
+        bars = beats.into_iter().enumerate().filter(|(i, _)| i % DEFAULT_BEATS_PER_BAR == phase).map(|(_, t)| t).collect();
+    }
+    list(number, &bars, f[2].size())
+}
+
+pub fn bar_beat_at(f: &[Field]) -> Expected {
+    let report = TempoReport {
+        bpm: None,
+        confidence: 0.0,
+        candidates: vec![],
+        stability: None,
+        beats_ms: f[2].reals().to_vec(),
+        beats_per_bar: DEFAULT_BEATS_PER_BAR,
+        downbeats_ms: f[1].reals().to_vec(),
+    };
+    let answers = match report.bar_beat_at(f[0].real()) {
+        Some((bar, beat)) => vec![1, bar.into(), beat.into()],
+        None => vec![0; 3],
+    };
+    Expected { number: 0, answers, slots: vec![] }
+}
+
+fn feature_rows(features: &[f64]) -> Vec<[f64; WIDTH]> {
+    features.chunks(WIDTH).map(|row| row.try_into().unwrap()).collect()
+}
+
+/// The similarity that the Rust gives these rows, with D3.
+pub fn similarity_of(features: &[f64]) -> Vec<f64> {
+    let rows = feature_rows(features);
+    let mut slots = structure::open::Similarity::compute(&rows).values().to_vec();
+    for i in 0..rows.len() {
+        for d in 0..BAND.min(rows.len() - i) {
+            slots[i * BAND + d] = differences::dot_zero(slots[i * BAND + d], &rows[i], &rows[i + d]);
+        }
+    }
+    slots
+}
+
+pub fn novelty_of(similarity: &[f64], rows: usize) -> Vec<f64> {
+    structure::open::Similarity::given(rows, similarity.to_vec()).novelty()
+}
+
+pub fn similarity(f: &[Field]) -> Expected {
+    let number = table::similarity(f[0].reals(), f[1].whole(), f[2].size());
+    let slots = if number == 0 { similarity_of(f[0].reals()) } else { vec![] };
+    Expected { number, answers: vec![], slots: vec![listed(f[2].size(), &slots)] }
+}
+
+pub fn novelty(f: &[Field]) -> Expected {
+    let number = table::novelty(f[0].reals(), f[1].whole(), f[2].size());
+    let slots = if number == 0 { novelty_of(f[0].reals(), f[1].size()) } else { vec![] };
+    Expected { number, answers: vec![], slots: vec![listed(f[2].size(), &slots)] }
+}
+
+pub fn boundaries(f: &[Field]) -> Expected {
+    let number = table::boundaries(f[0].reals(), f[1].whole(), f[2].whole(), f[4].size(), f[5].size());
+    let mut rows = vec![];
+    let mut answers = vec![cell::<usize>().bits(), cell::<usize>().bits(), cell::<f64>().bits()];
+    if number == 0 {
+        let opts = StructureOpts::default().with_max_sections(f[3].size());
+        let report = structure::open::sections(f[0].reals(), f[1].size(), f[2].small(), &opts, &mut rows);
+        answers = vec![report.section_count.bits(), rows.len().bits(), report.confidence.bits()];
+    }
+    let sorting = room(f[5].size(), f[0].reals().len(), number);
+    Expected { number, answers, slots: vec![listed(f[4].size(), &frames(&rows)), sorting] }
+}
+
+pub fn boundary_times(f: &[Field]) -> Expected {
+    let number = table::boundary_times(f[0].frames(), f[1].whole(), f[2].whole(), f[3].size());
+    let time = |&r: &u32| structure::open::boundary_ms(r as usize, f[1].size(), f[2].small());
+    let ms: Vec<f64> = if number == 0 { f[0].frames().iter().map(time).collect() } else { vec![] };
+    Expected { number, answers: vec![], slots: vec![listed(f[3].size(), &ms)] }
+}
+
+fn named(number: u32, ranges: [usize; 4]) -> Vec<u64> {
+    if number == 0 { ranges.map(Slot::bits).into() } else { [cell::<usize>(); 4].map(Slot::bits).into() }
+}
+
+// Patching is added; its parts are the Rust's: slots of the flux of the edited rows, thresholds of the flux as it then stands.
+pub fn patch_magnitudes(f: &[Field]) -> Expected {
+    let (rows, bins, start, new) = (f[1].size(), f[2].size(), f[3].size(), f[4].singles());
+    let (mut slab, mut flux, mut threshold) = (f[0].singles().to_vec(), f[5].reals().to_vec(), f[6].reals().to_vec());
+    let number = table::patch_magnitudes(&slab, f[1].whole(), f[2].whole(), f[3].whole(), new, &flux, &threshold, f[7].size());
+    let mut ranges = [0; 4];
+    if number == 0 && !new.is_empty() {
+        let past = start + new.len() / bins;
+        slab[start * bins..past * bins].copy_from_slice(new);
+        ranges = [start, (past + 1).min(rows), start.saturating_sub(10), (past + 11).min(rows)];
+        let fresh = flux_of(&slab, rows, bins);
+        flux[ranges[0]..ranges[1]].copy_from_slice(&fresh[ranges[0]..ranges[1]]);
+        let fresh = onsets::open::adaptive_threshold(&flux[..rows]);
+        threshold[ranges[2]..ranges[3]].copy_from_slice(&fresh[ranges[2]..ranges[3]]);
+    }
+    let sorting = room(f[7].size(), table::window(rows), number);
+    let slots = vec![fixed(bits_of(&slab)), fixed(bits_of(&flux)), fixed(bits_of(&threshold)), sorting];
+    Expected { number, answers: named(number, ranges), slots }
+}
+
+// Likewise: the similarity of pairs that touch a replaced row, novelty of the similarity as it then stands.
+pub fn patch_features(f: &[Field]) -> Expected {
+    let (rows, start, new) = (f[1].size(), f[2].size(), f[3].reals());
+    let (mut features, mut similarity, mut novelty) = (f[0].reals().to_vec(), f[4].reals().to_vec(), f[5].reals().to_vec());
+    let number = table::patch_features(&features, f[1].whole(), f[2].whole(), new, &similarity, &novelty);
+    let mut ranges = [0; 4];
+    if number == 0 && !new.is_empty() {
+        let past = start + new.len() / WIDTH;
+        features[start * WIDTH..past * WIDTH].copy_from_slice(new);
+        // the pair (start - 16, start), or (0, start) where there are fewer rows before
+        let first = BAND * start.saturating_sub(16) + start.min(16);
+        ranges = [first, BAND * past, start.saturating_sub(7), (past + 8).min(rows)];
+        let fresh = similarity_of(&features);
+        for i in 0..rows {
+            for d in 0..BAND {
+                if (start..past).contains(&i) || (start..past).contains(&(i + d)) {
+                    similarity[i * BAND + d] = fresh[i * BAND + d];
+                }
+            }
+        }
+        let fresh = novelty_of(&similarity[..rows * BAND], rows);
+        novelty[ranges[2]..ranges[3]].copy_from_slice(&fresh[ranges[2]..ranges[3]]);
+    }
+    let slots = vec![fixed(bits_of(&features)), fixed(bits_of(&similarity)), fixed(bits_of(&novelty))];
+    Expected { number, answers: named(number, ranges), slots }
+}

@@ -1,0 +1,781 @@
+//! The inputs: for each call every small one of some kind, and random ones of every length around each boundary.
+use crate::cases::Field::{self, *};
+use crate::expected;
+use crate::numbers::*;
+use crate::table::{BAND, MOST_FEATURE_ROWS, MOST_FRAME, MOST_MAGNITUDE, MOST_ROWS, MOST_VALUE, WIDTH};
+
+pub type Fields = Vec<Field>;
+
+fn room_field(r: &mut Numbers, need: usize) -> Field {
+    Whole(room(r, need) as u64)
+}
+
+fn size(n: usize) -> Field {
+    Whole(n as u64)
+}
+
+// every list over these values up to a length
+fn lists<T: Copy>(values: &[T], most: usize, each: &mut dyn FnMut(&[T])) {
+    fn go<T: Copy>(values: &[T], list: &mut Vec<T>, most: usize, each: &mut dyn FnMut(&[T])) {
+        each(list);
+        if list.len() < most {
+            for &x in values {
+                list.push(x);
+                go(values, list, most, each);
+                list.pop();
+            }
+        }
+    }
+    go(values, &mut Vec::new(), most, each);
+}
+
+// a curve, damaged at times
+fn lent_curve(r: &mut Numbers, n: usize) -> Vec<f64> {
+    let mut xs = curve(r, n);
+    if r.once_in(12) {
+        damage(r, &mut xs);
+    }
+    xs
+}
+
+// around the threshold's windows, the least lengths, and plain ones
+fn length(r: &mut Numbers) -> usize {
+    match r.whole(0, 9) {
+        0..=2 => r.size(0, 6),
+        3..=5 => r.size(7, 24),
+        6..=7 => r.size(25, 60),
+        8 => r.size(61, 200),
+        _ => r.size(200, 500),
+    }
+}
+
+// ---- medians
+
+pub fn all_medians(each: &mut dyn FnMut(Fields)) {
+    lists(&[-1.0, -0.0, 0.0, 1.0, 2.0], 6, &mut |xs| each(vec![Reals(xs.to_vec()), size(xs.len())]));
+}
+
+pub fn median_of(r: &mut Numbers) -> Fields {
+    let n = length(r);
+    vec![Reals(lent_curve(r, n)), room_field(r, n)]
+}
+
+pub fn all_mads(each: &mut dyn FnMut(Fields)) {
+    for median in [-0.0, 0.0, 1.0, 0.5] {
+        lists(&[-1.0, -0.0, 0.0, 1.0], 6, &mut |xs| each(vec![Reals(xs.to_vec()), Real(median), size(xs.len())]));
+    }
+}
+
+pub fn mad_of(r: &mut Numbers) -> Fields {
+    let n = length(r);
+    let values = lent_curve(r, n);
+    let mut median = [if n == 0 { 0.0 } else { values[r.size(0, n - 1)] }];
+    if r.once_in(3) {
+        median[0] = r.any_size(149);
+    }
+    if r.once_in(12) {
+        damage(r, &mut median);
+    }
+    vec![Reals(values), Real(median[0]), room_field(r, n)]
+}
+
+// ---- onsets
+
+pub fn all_fluxes(each: &mut dyn FnMut(Fields)) {
+    for bins in 1..=2usize {
+        lists(&[0.0f32, -0.0, 1.0, 3.0], 8, &mut |xs| {
+            if xs.len() % bins == 0 {
+                let rows = xs.len() / bins;
+                each(vec![Singles(xs.to_vec()), size(rows), size(bins), size(rows + 1)]);
+            }
+        });
+    }
+}
+
+pub fn spectral_flux(r: &mut Numbers) -> Fields {
+    let (rows, bins) = (if r.once_in(4) { r.size(0, 60) } else { r.size(0, 12) }, r.size(1, 40));
+    let mut xs = magnitudes(r, rows, bins);
+    if r.once_in(12) {
+        damage_singles(r, &mut xs);
+    }
+    if r.once_in(30) {
+        xs.pop();
+    }
+    if r.once_in(30) {
+        xs.push(1.0);
+    }
+    let rows_said = if r.once_in(60) { r.of(&[rows + 1, MOST_ROWS + 1, usize::MAX, usize::MAX / bins + 1]) } else { rows };
+    let bins_said = if r.once_in(60) { r.of(&[0, bins + 1, 4096, 4097, usize::MAX]) } else { bins };
+    vec![Singles(xs), size(rows_said), size(bins_said), room_field(r, rows)]
+}
+
+pub fn all_thresholds(each: &mut dyn FnMut(Fields)) {
+    lists(&[0.0, 1.0, 3.0], 9, &mut |xs| each(vec![Reals(xs.to_vec()), size(xs.len() + 1), size(xs.len() + 1)]));
+}
+
+pub fn adaptive_threshold(r: &mut Numbers) -> Fields {
+    let n = length(r);
+    vec![Reals(lent_curve(r, n)), room_field(r, n), room_field(r, n.min(21))]
+}
+
+pub fn all_onsets(each: &mut dyn FnMut(Fields)) {
+    lists(&[0.0, 1.0, 2.0], 5, &mut |flux| {
+        lists(&[0.0, 1.0], flux.len(), &mut |threshold| {
+            if threshold.len() == flux.len() {
+                for rate in [1, 8534, 17067] {
+                    each(vec![Reals(flux.to_vec()), Reals(threshold.to_vec()), Whole(rate), size(flux.len() + 1)]);
+                }
+            }
+        });
+    });
+}
+
+pub fn pick_onsets(r: &mut Numbers) -> Fields {
+    let n = length(r);
+    let flux = lent_curve(r, n);
+    let fine = flux.iter().all(|x| x.abs() <= MOST_VALUE);
+    let mut threshold = match r.whole(0, 3) {
+        0 if fine => oracle::onsets::open::adaptive_threshold(&flux),
+        1 => curve(r, n),
+        _ => (0..n).map(|_| r.of(&[-1.0, 0.0, 0.5])).collect(),
+    };
+    if r.once_in(15) {
+        damage(r, &mut threshold);
+    }
+    if r.once_in(20) {
+        threshold.push(0.0);
+    }
+    if r.once_in(20) {
+        threshold.pop();
+    }
+    vec![Reals(flux), Reals(threshold), Whole(rate(r)), room_field(r, n)]
+}
+
+pub fn all_peaks(each: &mut dyn FnMut(Fields)) {
+    for gap in 0..5u64 {
+        for set in 0..64u32 {
+            let peaks: Vec<u32> = (0..6).filter(|t| set >> t & 1 == 1).collect();
+            lists(&[0.0, 1.0, 2.0], 6, &mut |curve| {
+                // values matter only at the peaks: leave out the curves that differ elsewhere
+                let idle = |t: usize| set >> t & 1 == 0 && curve[t] != 0.0;
+                if curve.len() == 6 && !(0..6).any(idle) {
+                    each(vec![Frames(peaks.clone()), Reals(curve.to_vec()), Whole(gap), size(peaks.len() + 1)]);
+                }
+            });
+        }
+    }
+}
+
+pub fn suppress_close_peaks(r: &mut Numbers) -> Fields {
+    let n = length(r);
+    let curve = lent_curve(r, n);
+    let sparse = r.whole(1, 6);
+    let mut peaks: Vec<u32> = (0..n as u32).filter(|_| r.once_in(sparse)).collect();
+    if r.once_in(25) && !peaks.is_empty() {
+        let i = r.size(0, peaks.len() - 1);
+        peaks[i] = r.of(&[0, n as u32, u32::MAX, MOST_FRAME + 1, peaks[i] + 1]);
+    }
+    let gap = match r.whole(0, 20) {
+        0 => u64::MAX,
+        1 => r.whole(0, 100),
+        _ => r.whole(0, 9),
+    };
+    let need = peaks.len();
+    vec![Frames(peaks), Reals(curve), Whole(gap), room_field(r, need)]
+}
+
+pub fn all_times(each: &mut dyn FnMut(Fields)) {
+    for rate in (1..=192_000).step_by(19) {
+        each(vec![Frames(vec![0, 1, 2, 3, 100, 12_345, MOST_FRAME]), Whole(rate), size(7)]);
+    }
+}
+
+pub fn frame_times(r: &mut Numbers) -> Fields {
+    let n = r.size(0, 12);
+    let mut frames: Vec<u32> = (0..n).map(|_| r.whole(0, MOST_FRAME.into()) as u32).collect();
+    if r.once_in(15) && n > 0 {
+        frames[r.size(0, n - 1)] = r.of(&[MOST_FRAME, MOST_FRAME + 1, u32::MAX]);
+    }
+    vec![Frames(frames), Whole(rate(r)), room_field(r, n)]
+}
+
+// ---- tempo
+
+pub fn all_lag_ranges(each: &mut dyn FnMut(Fields)) {
+    for rate in 0..=192_001 {
+        each(vec![Whole(rate), Real(30.0), Real(300.0)]);
+    }
+    for low in 0..200 {
+        for high in 0..200 {
+            each(vec![Whole(48_000), Real(low as f64), Real(high as f64)]);
+        }
+    }
+}
+
+pub fn lag_range(r: &mut Numbers) -> Fields {
+    let (low, high) = bpm(r);
+    vec![Whole(rate(r)), Real(low), Real(high)]
+}
+
+fn lag_rooms(r: &mut Numbers, rate: u64, (low, high): (f64, f64)) -> [usize; 3] {
+    let fine = (1..=192_000).contains(&rate) && low.is_finite() && high.is_finite();
+    let count = if fine { expected::lags(rate as u32, low, high) } else { (1, 2) };
+    [0; 3].map(|_| room(r, count.1 - count.0 + 1))
+}
+
+pub fn all_tempos(each: &mut dyn FnMut(Fields)) {
+    for rate in [1, 512, 900] {
+        lists(&[0.0, 1.0, 3.0], 8, &mut |xs| {
+            each(vec![Reals(xs.to_vec()), Whole(2), Whole(rate), Real(30.0), Real(300.0), size(9), size(8), size(7)])
+        });
+    }
+    lists(&FAINT, 5, &mut |xs| {
+        each(vec![Reals(faint(1.0, 4, xs)), Whole(2), Whole(512), Real(30.0), Real(300.0), size(4), size(5), size(4)])
+    });
+}
+
+// Between a great value and its opposite, whose mean is 0, values whose products are the least floats: neighbouring lags then have equal
+// weights, and some clarities are -0.
+fn faint(great: f64, rest: usize, between: &[f64]) -> Vec<f64> {
+    let rest = vec![0.0; rest];
+    [&[great][..], &rest, between, &rest, &[-great]].concat()
+}
+
+const FAINT: [f64; 5] = [0.0, f64::from_bits(486 << 52), -f64::from_bits(486 << 52), f64::from_bits(487 << 52), -f64::from_bits(487 << 52)];
+
+// a rate with few lags, and envelopes on both sides of max_lag + 1
+fn search(r: &mut Numbers) -> (Vec<f64>, u64, (f64, f64)) {
+    if r.once_in(8) {
+        let (rate, bpm) = (r.whole(1, 1_500), (30.0, 300.0));
+        let max = expected::lags(rate as u32, bpm.0, bpm.1).1;
+        let between: Vec<f64> = (0..r.size(2, 40)).map(|_| r.of(&FAINT)).collect();
+        return (faint(r.of(&[1.0, 2.0, 4.0, 1e3]), max, &between), rate, bpm);
+    }
+    let mut rate = if r.once_in(12) { rate(r) } else { r.whole(1, 9_000) };
+    let bpm = if r.once_in(3) { bpm(r) } else { (30.0, 300.0) };
+    let fine = bpm.0.is_finite() && bpm.1.is_finite();
+    let mut max = if fine && (1..=192_000).contains(&rate) { expected::lags(rate as u32, bpm.0, bpm.1).1 } else { 9 };
+    if max > 1_500 {
+        rate = r.whole(1, 300);
+        max = if fine { expected::lags(rate as u32, bpm.0, bpm.1).1 } else { 9 };
+    }
+    let n = match r.whole(0, 9) {
+        0 => r.size(0, 5),
+        1..=2 => (max + r.size(0, 4)).saturating_sub(1),
+        3..=5 => max + r.size(2, 60),
+        6..=7 => (2 * max + r.size(0, 9)).min(3_000),
+        _ => r.size(4, 9) * (max + 2) / 2,
+    };
+    (lent_curve(r, n.min(4_000)), rate, bpm)
+}
+
+pub fn estimate(r: &mut Numbers) -> Fields {
+    let (envelope, rate, bpm) = search(r);
+    let onsets = r.of(&[0, 1, 2, 2, 2, 3, 9, 100, u64::MAX]);
+    let [a, b, c] = lag_rooms(r, rate, bpm);
+    vec![Reals(envelope), Whole(onsets), Whole(rate), Real(bpm.0), Real(bpm.1), size(a), size(b), size(c)]
+}
+
+pub fn all_stabilities(each: &mut dyn FnMut(Fields)) {
+    for whole_lag in 0..4u64 {
+        lists(&[0.0, 1.0, 3.0], 9, &mut |xs| {
+            if xs.len() >= 7 {
+                each(vec![Reals(xs.to_vec()), Whole(1), Real(30.0), Real(300.0), Whole(whole_lag), size(3), size(2), size(4)])
+            }
+        });
+    }
+}
+
+pub fn stability_of(r: &mut Numbers) -> Fields {
+    let (envelope, rate, bpm) = search(r);
+    let fine = (1..=192_000).contains(&rate) && bpm.0.is_finite() && bpm.1.is_finite();
+    let (min, max) = if fine { expected::lags(rate as u32, bpm.0, bpm.1) } else { (1, 2) };
+    let whole_lag = match r.whole(0, 30) {
+        0 => r.of(&[0, 45_000, 45_001, u64::MAX]),
+        1..=5 => r.whole(1, 4 * max as u64),
+        _ => r.whole(min as u64, max as u64),
+    };
+    let [a, b, c] = lag_rooms(r, rate, bpm);
+    vec![Reals(envelope), Whole(rate), Real(bpm.0), Real(bpm.1), Whole(whole_lag.min(u64::MAX)), size(a), size(b), size(c)]
+}
+
+// ---- beats and bars
+
+pub fn all_grids(each: &mut dyn FnMut(Fields)) {
+    for period in 0..6u64 {
+        lists(&[0.0, 1.0, 4.0], 8, &mut |xs| {
+            each(vec![Reals(xs.to_vec()), Whole(period), size(xs.len() + 1), size(xs.len() + 2), size(xs.len())])
+        });
+    }
+}
+
+pub fn beat_grid(r: &mut Numbers) -> Fields {
+    let n = if r.once_in(20) { r.size(200, 1_200) } else { r.size(0, 120) };
+    let period = match r.whole(0, 30) {
+        0 => r.of(&[0, 45_000, 45_001, u64::MAX, 44_999]),
+        1..=3 => r.whole(n as u64 / 3, 2 * n as u64 + 2),
+        4..=6 => r.whole(60, 110),
+        _ => r.whole(1, 30),
+    };
+    vec![Reals(lent_curve(r, n)), Whole(period), room_field(r, n), room_field(r, n), room_field(r, n)]
+}
+
+pub fn all_downbeats(each: &mut dyn FnMut(Fields)) {
+    lists(&[-1.0, 0.0, 2.0], 3, &mut |envelope| {
+        lists(&[0u32, 1, 2, 3], 6, &mut |beats| {
+            if envelope.len() == 3 {
+                each(vec![Reals(envelope.to_vec()), Frames(beats.to_vec()), size(beats.len())]);
+            }
+        })
+    });
+}
+
+pub fn downbeats(r: &mut Numbers) -> Fields {
+    let n = length(r);
+    let envelope = lent_curve(r, n);
+    let count = r.size(0, 30);
+    let mut beats: Vec<u32> = (0..count).map(|_| r.whole(0, n as u64 + 2) as u32).collect();
+    if r.once_in(2) {
+        beats.sort_unstable();
+    }
+    if r.once_in(20) && count > 0 {
+        beats[r.size(0, count - 1)] = r.of(&[MOST_FRAME, MOST_FRAME + 1, u32::MAX]);
+    }
+    vec![Reals(envelope), Frames(beats), room_field(r, count)]
+}
+
+pub fn all_bars(each: &mut dyn FnMut(Fields)) {
+    let slack = 0.000001;
+    for time in [0.0, 1.0, 1.0 - slack, f64::NAN, f64::INFINITY, f64::NEG_INFINITY] {
+        lists(&[0.0, 1.0, 1.0 + slack, f64::NAN, f64::INFINITY], 3, &mut |downbeats| {
+            lists(&[0.0, 1.0, -slack, f64::NAN, f64::NEG_INFINITY], 3, &mut |beats| {
+                each(vec![Real(time), Reals(downbeats.to_vec()), Reals(beats.to_vec())])
+            })
+        });
+    }
+}
+
+pub fn bar_beat_at(r: &mut Numbers) -> Fields {
+    let step = r.of(&[1.0, 0.000001, 333.3, 1e-300, 1e300]);
+    let times = |r: &mut Numbers, most: usize| -> Vec<f64> {
+        let n = r.size(0, most);
+        let mut xs: Vec<f64> = (0..n).map(|_| r.whole(0, 20) as f64 * step).collect();
+        if r.once_in(2) {
+            xs.sort_by(f64::total_cmp);
+        }
+        xs
+    };
+    let downbeats = times(r, 8);
+    let beats = times(r, 30);
+    let time = match r.whole(0, 3) {
+        0 => f64::from_bits(r.next()),
+        1 => r.real(-1.0, 21.0) * step,
+        _ => r.whole(0, 20) as f64 * step + r.of(&[0.0, 0.000001, -0.000001, -0.0000010000000000000002]),
+    };
+    vec![Real(time), Reals(downbeats), Reals(beats)]
+}
+
+// ---- sections
+
+pub fn all_similarities(each: &mut dyn FnMut(Fields)) {
+    lists(&[0.0, -0.0, 1.0, -1.0], 6, &mut |xs| {
+        if xs.len() % 2 == 0 {
+            let rows = xs.len() / 2;
+            let mut features = vec![0.0; rows * WIDTH];
+            for (i, x) in xs.iter().enumerate() {
+                features[i / 2 * WIDTH + i % 2 * 15] = *x;
+            }
+            each(vec![Reals(features), size(rows), size(rows * BAND + 1)]);
+        }
+    });
+}
+
+fn feature_rows(r: &mut Numbers) -> usize {
+    match r.whole(0, 5) {
+        0 => r.size(0, 3),
+        1..=3 => r.size(4, 22),
+        _ => r.size(23, 60),
+    }
+}
+
+pub fn similarity(r: &mut Numbers) -> Fields {
+    let rows = feature_rows(r);
+    let mut xs = features(r, rows);
+    if r.once_in(12) {
+        damage(r, &mut xs);
+    }
+    if r.once_in(30) {
+        xs.push(1.0);
+    }
+    if r.once_in(30) {
+        xs.pop();
+    }
+    let said = if r.once_in(40) { r.of(&[rows + 1, MOST_FEATURE_ROWS + 1, usize::MAX]) } else { rows };
+    vec![Reals(xs), size(said), room_field(r, rows * BAND)]
+}
+
+pub fn all_novelties(each: &mut dyn FnMut(Fields)) {
+    // one pair at a time: each slot of the kernel
+    for rows in 1..=20usize {
+        for slot in 0..rows * BAND {
+            for level in [1.0, -0.5] {
+                let mut xs = vec![0.0; rows * BAND];
+                xs[slot] = level;
+                each(vec![Reals(xs), size(rows), size(rows + 1)]);
+            }
+        }
+    }
+}
+
+pub fn novelty(r: &mut Numbers) -> Fields {
+    let rows = feature_rows(r);
+    let mut xs = match r.whole(0, 2) {
+        0 => (0..rows * BAND).map(|_| r.real(-1.0, 1.0)).collect(),
+        1 => (0..rows * BAND).map(|_| r.of(&[0.0, -0.0, 1.0, -1.0, 1e-310])).collect(),
+        _ => {
+            let xs = features(r, rows);
+            expected::similarity_of(&xs)
+        }
+    };
+    if r.once_in(10) && !xs.is_empty() {
+        let i = r.of(&[0, xs.len() - 1, xs.len() / 2]);
+        xs[i] = r.of(&[1.0, -1.0, 1.0 + f64::EPSILON, -1.0 - f64::EPSILON, f64::NAN, f64::INFINITY, 2.0]);
+    }
+    if r.once_in(30) {
+        xs.push(0.0);
+    }
+    if r.once_in(30) {
+        xs.pop();
+    }
+    let said = if r.once_in(40) { r.of(&[rows + 1, MOST_FEATURE_ROWS + 1, usize::MAX]) } else { rows };
+    vec![Reals(xs), size(said), room_field(r, rows)]
+}
+
+pub fn all_boundaries(each: &mut dyn FnMut(Fields)) {
+    // every placing of up to three equal or unequal peaks among sixteen rows
+    for set in 0..1u32 << 8 {
+        for most in 0..5u64 {
+            for length in [24_000, 96_000] {
+                let xs = (0..16).map(|t| if t % 2 == 1 && set >> (t / 2) & 1 == 1 { 1.0 + (t % 3) as f64 } else { 0.0 });
+                each(vec![Reals(xs.collect()), Whole(length), Whole(48_000), Whole(most), size(17), size(16)]);
+            }
+        }
+    }
+}
+
+pub fn boundaries(r: &mut Numbers) -> Fields {
+    let n = if r.once_in(4) { r.size(0, 17) } else { r.size(14, 80) };
+    let novelty = lent_curve(r, n);
+    let length = match r.whole(0, 30) {
+        0 => r.of(&[0, 1, 1 << 31, (1 << 31) + 1, u64::MAX]),
+        1..=10 => 48_000,
+        11..=20 => r.whole(1, 200_000),
+        _ => 48_000 * r.whole(1, 9),
+    };
+    let most = r.of(&[0, 1, 2, 3, 4, 5, 12, u64::MAX]);
+    vec![Reals(novelty), Whole(length), Whole(rate(r)), Whole(most), room_field(r, n), room_field(r, n)]
+}
+
+pub fn all_row_times(each: &mut dyn FnMut(Fields)) {
+    for rate in (1..=192_000).step_by(37) {
+        for length in [1, 48_000, 1 << 31] {
+            each(vec![Frames(vec![0, 1, 2, 3, 12_345, 49_999]), Whole(length), Whole(rate), size(6)]);
+        }
+    }
+}
+
+pub fn boundary_times(r: &mut Numbers) -> Fields {
+    let n = r.size(0, 10);
+    let mut rows: Vec<u32> = (0..n).map(|_| r.whole(0, 49_999) as u32).collect();
+    if r.once_in(15) && n > 0 {
+        rows[r.size(0, n - 1)] = r.of(&[49_999, 50_000, u32::MAX]);
+    }
+    let length = if r.once_in(15) { r.of(&[0, 1, 1 << 31, (1 << 31) + 1, u64::MAX]) } else { r.whole(1, 1 << 31) };
+    vec![Frames(rows), Whole(length), Whole(rate(r)), room_field(r, n)]
+}
+
+// ---- patches on any curves (patches.rs has runs of them)
+
+fn start_and_count(r: &mut Numbers, rows: usize) -> (usize, usize) {
+    let start = match r.whole(0, 12) {
+        0 => rows,
+        1 => rows + r.size(1, 3),
+        2 => 0,
+        _ => r.size(0, rows),
+    };
+    let most = rows.saturating_sub(start);
+    let count = match r.whole(0, 12) {
+        0 => 0,
+        1 => most + 1,
+        2 => most,
+        _ => r.size(0, most.min(12)),
+    };
+    (start, count)
+}
+
+/// A patch of these rows: mostly a good one. The caller says what the lent curves hold.
+pub fn patch_of_magnitudes(r: &mut Numbers, slab: &[f32], rows: usize, bins: usize, flux: &[f64], threshold: &[f64]) -> Fields {
+    let (start, count) = start_and_count(r, rows);
+    let mut new = magnitudes(r, count, bins);
+    let (mut slab, mut flux, mut threshold) = (slab.to_vec(), flux.to_vec(), threshold.to_vec());
+    let (mut rows, mut bins, mut start) = (rows, bins, start);
+    match r.whole(0, 40) {
+        0 => damage_singles(r, &mut new),
+        1 => damage_singles(r, &mut slab),
+        2 => damage(r, &mut flux),
+        3 => damage(r, &mut threshold),
+        4 => new.push(1.0),
+        5 => drop(slab.pop()),
+        6 => drop(flux.pop()),
+        7 => drop(threshold.pop()),
+        8 => bins = r.of(&[0, 4097, bins + 1, usize::MAX]),
+        9 => rows = r.of(&[rows + 1, MOST_ROWS + 1, usize::MAX]),
+        10 => start = r.of(&[usize::MAX, rows + 1]),
+        11 => new.clear(),
+        _ => {}
+    }
+    // slots beyond the formula are not read
+    for curve in [&mut flux, &mut threshold] {
+        for _ in 0..r.whole(0, 3) {
+            curve.push(f64::NAN);
+        }
+    }
+    vec![Singles(slab), size(rows), size(bins), size(start), Singles(new), Reals(flux), Reals(threshold), room_field(r, rows.min(21))]
+}
+
+pub fn all_patches_of_magnitudes(each: &mut dyn FnMut(Fields)) {
+    // every patch of up to 26 rows: each start, each count
+    for rows in 0..=26usize {
+        let slab: Vec<f32> = (0..rows).map(|t| (t * t % 7) as f32).collect();
+        let flux = expected::flux_of(&slab, rows, 1);
+        let threshold = oracle::onsets::open::adaptive_threshold(&flux);
+        for start in 0..=rows + 1 {
+            for count in 0..=(rows + 1).saturating_sub(start) {
+                let new: Vec<f32> = (0..count).map(|t| (t * 3 % 5) as f32).collect();
+                each(vec![
+                    Singles(slab.clone()),
+                    size(rows),
+                    Whole(1),
+                    size(start),
+                    Singles(new),
+                    Reals(flux.clone()),
+                    Reals(threshold.clone()),
+                    size(rows.min(21)),
+                ]);
+            }
+        }
+    }
+}
+
+pub fn patch_magnitudes(r: &mut Numbers) -> Fields {
+    let (rows, bins) = (r.size(0, 40), r.size(1, 6));
+    let slab = magnitudes(r, rows, bins);
+    let (flux, threshold) = (curve(r, rows), curve(r, rows));
+    patch_of_magnitudes(r, &slab, rows, bins, &flux, &threshold)
+}
+
+pub fn patch_of_features(r: &mut Numbers, rows_lent: &[f64], rows: usize, similarity: &[f64], novelty: &[f64]) -> Fields {
+    let (start, count) = start_and_count(r, rows);
+    let mut new = features(r, count);
+    let (mut lent, mut similarity, mut novelty) = (rows_lent.to_vec(), similarity.to_vec(), novelty.to_vec());
+    let (mut rows, mut start) = (rows, start);
+    match r.whole(0, 40) {
+        0 => damage(r, &mut new),
+        1 => damage(r, &mut lent),
+        2 => damage(r, &mut novelty),
+        3 => damage(r, &mut similarity),
+        4 => new.push(1.0),
+        5 => drop(lent.pop()),
+        6 => drop(similarity.pop()),
+        7 => drop(novelty.pop()),
+        8 => rows = r.of(&[rows + 1, MOST_FEATURE_ROWS + 1, usize::MAX]),
+        9 => start = r.of(&[usize::MAX, rows + 1]),
+        10 => new.clear(),
+        11 if !similarity.is_empty() => {
+            let i = r.size(0, similarity.len() - 1);
+            similarity[i] = r.of(&[1.0, -1.0, 1.0 + f64::EPSILON, -1.5]);
+        }
+        _ => {}
+    }
+    for curve in [&mut similarity, &mut novelty] {
+        for _ in 0..r.whole(0, 3) {
+            curve.push(f64::NAN);
+        }
+    }
+    vec![Reals(lent), size(rows), size(start), Reals(new), Reals(similarity), Reals(novelty)]
+}
+
+pub fn all_patches_of_features(each: &mut dyn FnMut(Fields)) {
+    for rows in [0usize, 1, 2, 15, 16, 17, 18, 33, 36] {
+        let lent: Vec<f64> = (0..rows * WIDTH).map(|i| (i * i % 11) as f64 - 3.0).collect();
+        let similarity = expected::similarity_of(&lent);
+        let novelty = expected::novelty_of(&similarity, rows);
+        for start in 0..=rows + 1 {
+            for count in 0..=(rows + 1).saturating_sub(start) {
+                let new: Vec<f64> = (0..count * WIDTH).map(|i| (i * 7 % 13) as f64 - 5.0).collect();
+                each(vec![Reals(lent.clone()), size(rows), size(start), Reals(new), Reals(similarity.clone()), Reals(novelty.clone())]);
+            }
+        }
+    }
+}
+
+pub fn patch_features(r: &mut Numbers) -> Fields {
+    let rows = r.size(0, 44);
+    let lent = features(r, rows);
+    let similarity: Vec<f64> = (0..rows * BAND).map(|_| r.real(-1.0, 1.0)).collect();
+    let novelty = curve(r, rows);
+    patch_of_features(r, &lent, rows, &similarity, &novelty)
+}
+
+// ---- whole tracks in one call
+
+// the rooms of a track, mostly enough; at times one slice is just short
+fn track_rooms(r: &mut Numbers, n: usize, rate: u64, bpm: (f64, f64)) -> Vec<usize> {
+    let fine = (1..=192_000).contains(&rate) && bpm.0.is_finite() && bpm.1.is_finite();
+    let (min, max) = if fine { expected::lags(rate as u32, bpm.0, bpm.1) } else { (1, 2) };
+    let lags = max - min + 1;
+    let need = [n, n, lags, lags, lags, lags, n, n, n, n, lags.max(n.min(21))];
+    let more = r.size(0, 2);
+    let mut rooms: Vec<usize> = need.iter().map(|&k| k + r.size(0, more)).collect();
+    if r.once_in(5) {
+        let k = r.size(0, 10);
+        rooms[k] = need[k].saturating_sub(1);
+    }
+    rooms
+}
+
+pub fn all_rooms(each: &mut dyn FnMut(Fields)) {
+    for rate in (0..=192_001).step_by(7) {
+        each(vec![Whole(rate % 30), Whole(rate), Real(30.0), Real(300.0)]);
+    }
+}
+
+pub fn room_of(r: &mut Numbers) -> Fields {
+    let (low, high) = bpm(r);
+    let rows = r.of(&[0, 1, 20, 21, 22, 8_000, MOST_ROWS as u64, MOST_ROWS as u64 + 1, u64::MAX]);
+    vec![Whole(rows), Whole(rate(r)), Real(low), Real(high)]
+}
+
+pub fn all_envelopes(each: &mut dyn FnMut(Fields)) {
+    lists(&[0.0, 1.0, 9.0], 9, &mut |xs| {
+        if xs.len() >= 6 {
+            let mut rooms: Vec<Field> = vec![size(10); 11];
+            (rooms[1], rooms[2]) = (size(9), size(2));
+            each([vec![Reals(xs.to_vec()), Whole(1), Real(30.0), Real(300.0)], rooms].concat());
+        }
+    });
+}
+
+pub fn analyse_envelope(r: &mut Numbers) -> Fields {
+    let (envelope, rate, bpm) = search(r);
+    let rooms = track_rooms(r, envelope.len(), rate, bpm);
+    let first = vec![Reals(envelope), Whole(rate), Real(bpm.0), Real(bpm.1)];
+    [first, rooms.into_iter().map(size).collect()].concat()
+}
+
+pub fn all_slabs(each: &mut dyn FnMut(Fields)) {
+    lists(&[0.0f32, 1.0, 5.0], 8, &mut |xs| {
+        let n = xs.len();
+        let first = vec![Singles(xs.to_vec()), size(n), Whole(1), Whole(1), Real(30.0), Real(300.0), size(n)];
+        each([first, vec![size(9); 11]].concat());
+    });
+}
+
+pub fn analyse_magnitudes(r: &mut Numbers) -> Fields {
+    let (bins, rate) = (r.size(1, 5), if r.once_in(20) { rate(r) } else { r.whole(1, 4_000) });
+    let rows = r.size(0, 150);
+    let bpm = if r.once_in(4) { bpm(r) } else { (30.0, 300.0) };
+    let mut slab = magnitudes(r, rows, bins);
+    let (mut rows_said, mut bins_said, mut flux) = (rows, bins, rows + r.size(0, 2));
+    match r.whole(0, 40) {
+        0 => damage_singles(r, &mut slab),
+        1 => slab.push(0.0),
+        2 => drop(slab.pop()),
+        3 => rows_said = r.of(&[rows + 1, MOST_ROWS + 1, usize::MAX]),
+        4 => bins_said = r.of(&[0, bins + 1, 4097, usize::MAX]),
+        5 => flux = rows.saturating_sub(1),
+        _ => {}
+    }
+    let mut rooms = track_rooms(r, rows, rate, bpm);
+    if rooms.iter().any(|&k| k > 100_000) {
+        rooms = vec![rows; 11];
+    }
+    let first = vec![Singles(slab), size(rows_said), size(bins_said), Whole(rate), Real(bpm.0), Real(bpm.1), size(flux)];
+    [first, rooms.into_iter().map(size).collect()].concat()
+}
+
+// ---- sizes at the bounds, each just inside and just outside
+
+pub fn at_the_bounds(call: &str, each: &mut dyn FnMut(Fields)) {
+    let saw = |n: usize| -> Vec<f64> { (0..n).map(|t| (t * t % 101) as f64).collect() };
+    for n in [MOST_ROWS, MOST_ROWS + 1] {
+        match call {
+            "median_of" => each(vec![Reals(saw(n)), size(n)]),
+            "mad_of" => each(vec![Reals(saw(n)), Real(50.0), size(n)]),
+            "spectral_flux" => each(vec![Singles(vec![1.0; n]), size(n), Whole(1), size(n)]),
+            "adaptive_threshold" => each(vec![Reals(saw(n)), size(n), Whole(21)]),
+            "pick_onsets" => each(vec![Reals(saw(n)), Reals(vec![40.0; n]), Whole(48_000), size(n)]),
+            "suppress_close_peaks" => each(vec![Frames((0..n as u32).step_by(3).collect()), Reals(saw(n)), Whole(7), size(n)]),
+            "estimate" => each(vec![Reals(saw(n)), Whole(2), Whole(900), Real(30.0), Real(300.0), Whole(9), Whole(9), Whole(9)]),
+            "stability_of" => each(vec![Reals(saw(n)), Whole(900), Real(30.0), Real(300.0), Whole(3), Whole(9), Whole(9), Whole(9)]),
+            "beat_grid" => each(vec![Reals(saw(n)), Whole(5), size(n), size(n), size(n)]),
+            "downbeats" => each(vec![Reals(saw(n)), Frames((0..n.min(MOST_ROWS) as u32).step_by(97).collect()), size(n)]),
+            _ => {}
+        }
+    }
+    for bins in [4096usize, 4097] {
+        let row = |k: u32| -> Vec<f32> { (0..3 * bins).map(|i| ((i as u32 * k) % 17) as f32 * MOST_MAGNITUDE / 16.0).collect() };
+        match call {
+            "spectral_flux" => each(vec![Singles(row(5)), Whole(3), size(bins), Whole(3)]),
+            "patch_magnitudes" => each(vec![
+                Singles(row(5)),
+                Whole(3),
+                size(bins),
+                Whole(1),
+                Singles(row(3)[..bins].to_vec()),
+                Reals(vec![0.0; 3]),
+                Reals(vec![0.0; 3]),
+                Whole(3),
+            ]),
+            _ => {}
+        }
+    }
+    for rows in [MOST_FEATURE_ROWS, MOST_FEATURE_ROWS + 1] {
+        let wave = |n: usize| -> Vec<f64> { (0..n).map(|i| (i * i % 103) as f64 / 103.0).collect() };
+        match call {
+            "similarity" => each(vec![Reals(wave(rows * WIDTH)), size(rows), size(rows * BAND)]),
+            "novelty" => each(vec![Reals(wave(rows * BAND)), size(rows), size(rows)]),
+            "boundaries" => {
+                each(vec![Reals(wave(rows)), Whole(48_000), Whole(48_000), Whole(12), size(rows), size(rows)]);
+                each(vec![Reals(wave(rows)), Whole(1), Whole(192_000), Whole(9_000), size(rows), size(rows)]);
+                each(vec![Reals(wave(rows)), Whole(1 << 31), Whole(1), Whole(9_000), size(rows), size(rows)]);
+            }
+            "patch_features" => each(vec![
+                Reals(wave(rows * WIDTH)),
+                size(rows),
+                size(rows - 3),
+                Reals(wave(3 * WIDTH)),
+                Reals(wave(rows * BAND)),
+                Reals(wave(rows)),
+            ]),
+            _ => {}
+        }
+    }
+    match call {
+        // all 45,000 lags less a few, and lags 38 to 375 on both sides of 377 slots
+        "estimate" => {
+            for n in [45_001, 45_002] {
+                each(vec![Reals(saw(n)), Whole(2), Whole(192_000), Real(1.0), Real(300.0), Whole(45_000), Whole(45_000), Whole(45_000)]);
+            }
+            for n in [375, 376, 377, 378] {
+                each(vec![Reals(saw(n)), Whole(2), Whole(48_000), Real(30.0), Real(300.0), Whole(338), Whole(338), Whole(338)]);
+            }
+        }
+        "beat_grid" => {
+            for (n, period) in [(30_000, 45_000u64), (30_000, 20_000), (25_000, 45_001)] {
+                each(vec![Reals(saw(n)), Whole(period), size(n), size(n), size(n)]);
+            }
+        }
+        _ => {}
+    }
+}

@@ -1,0 +1,261 @@
+//! The judge: every call of the port against the Rust of docs/src, bit for bit, with lent, poisoned memory on the port's side.
+//!
+//!   judge run SEED         every call on every input; the last line is 'N calls, 0 differences', or the exit is 1
+//!   judge run SEED CALL..  these calls alone
+//!   judge case 'LINE'      one case, in the form in which `run` prints a difference
+//!   judge sample           the Rust's answers to the fixed inputs of crates/replay: its file stdout
+#![cfg_attr(not(whole_tracks), allow(dead_code))]
+mod cases;
+mod differences;
+mod expected;
+mod inputs;
+mod lent;
+mod numbers;
+mod patches;
+mod port;
+mod sample;
+mod table;
+mod tracks;
+
+use cases::Field;
+use expected::Expected;
+use inputs::Fields;
+use numbers::Numbers;
+use port::Outcome;
+
+pub struct Call {
+    pub name: &'static str,
+    pub fields: &'static str,
+    expected: fn(&[Field]) -> Expected,
+    port: fn(&[Field]) -> Outcome,
+    all: fn(&mut dyn FnMut(Fields)),
+    random: fn(&mut Numbers) -> Fields,
+    // how many random inputs
+    count: usize,
+}
+
+macro_rules! call {
+    ($name:ident, $fields:literal, $all:ident, $count:literal) => {
+        Call {
+            name: stringify!($name),
+            fields: $fields,
+            expected: expected::$name,
+            port: port::$name,
+            all: inputs::$all,
+            random: inputs::$name,
+            count: $count,
+        }
+    };
+}
+
+pub const CALLS: &[Call] = &[
+    call!(median_of, "values work", all_medians, 60_000),
+    call!(mad_of, "values median work", all_mads, 60_000),
+    call!(spectral_flux, "magnitudes rows bins flux", all_fluxes, 60_000),
+    call!(adaptive_threshold, "flux threshold work", all_thresholds, 40_000),
+    call!(pick_onsets, "flux threshold rate frames", all_onsets, 60_000),
+    call!(suppress_close_peaks, "peaks curve gap frames", all_peaks, 60_000),
+    call!(frame_times, "frames rate ms", all_times, 40_000),
+    call!(lag_range, "rate min_bpm max_bpm", all_lag_ranges, 100_000),
+    call!(estimate, "envelope onsets rate min_bpm max_bpm clarity_curve weight_curve work", all_tempos, 30_000),
+    call!(stability_of, "envelope rate min_bpm max_bpm whole_lag clarity_curve weight_curve work", all_stabilities, 30_000),
+    call!(beat_grid, "envelope period score back beats", all_grids, 25_000),
+    call!(downbeats, "envelope beats frames", all_downbeats, 40_000),
+    call!(bar_beat_at, "time downbeats beats", all_bars, 60_000),
+    #[cfg(whole_tracks)]
+    call!(room_of, "rows rate min_bpm max_bpm", all_rooms, 40_000),
+    #[cfg(whole_tracks)]
+    call!(
+        analyse_envelope,
+        "envelope rate min_bpm max_bpm threshold onsets clarity_curve weight_curve window_clarity window_weight score back beats downbeats work",
+        all_envelopes,
+        15_000
+    ),
+    #[cfg(whole_tracks)]
+    call!(
+        analyse_magnitudes,
+        "magnitudes rows bins rate min_bpm max_bpm flux threshold onsets clarity_curve weight_curve window_clarity window_weight score back beats downbeats work",
+        all_slabs,
+        15_000
+    ),
+    call!(similarity, "features rows similarity", all_similarities, 30_000),
+    call!(novelty, "similarity rows novelty", all_novelties, 12_000),
+    call!(boundaries, "novelty length rate max_sections rows work", all_boundaries, 60_000),
+    call!(boundary_times, "rows length rate ms", all_row_times, 40_000),
+    call!(patch_magnitudes, "magnitudes rows bins start new_rows flux threshold work", all_patches_of_magnitudes, 30_000),
+    call!(patch_features, "features rows start new_rows similarity novelty", all_patches_of_features, 6_000),
+];
+
+/// The first difference between what must be and what is, in words.
+fn difference(must: &Expected, is: &Outcome) -> Option<String> {
+    if is.harm {
+        return Some("memory that was not lent, or only lent to be read, changed".into());
+    }
+    if must.number != is.number {
+        return Some(format!("number {} in place of {}", is.number, must.number));
+    }
+    for (k, (a, b)) in must.answers.iter().zip(&is.answers).enumerate() {
+        if a != b {
+            return Some(format!("answer {k}: {b:#x} in place of {a:#x}"));
+        }
+    }
+    for (k, (a, b)) in must.slots.iter().zip(&is.slots).enumerate() {
+        if a.bits.len() != b.len() {
+            return Some(format!("slice {k}: {} slots in place of {}", b.len(), a.bits.len()));
+        }
+        for i in a.open.min(b.len())..b.len() {
+            if a.bits[i] != b[i] {
+                return Some(format!("slice {k}, slot {i}: {:#x} in place of {:#x}", b[i], a.bits[i]));
+            }
+        }
+    }
+    if must.answers.len() != is.answers.len() || must.slots.len() != is.slots.len() {
+        return Some("another number of answers".into());
+    }
+    None
+}
+
+#[derive(Default)]
+struct Tally {
+    numbers: [u64; 5],
+    // answers that hold something: a tempo, a stability, a place in a bar, entries of a list, slots of a curve
+    full: u64,
+    differences: u64,
+}
+
+fn full(must: &Expected) -> bool {
+    // of a whole track its tempo, of sections their list, of a patch the end of its first range
+    let told = must.answers.get(if must.answers.len() > 2 && must.slots.len() != 5 { 1 } else { 0 });
+    must.number == 0 && told.map_or(must.slots.iter().any(|s| !s.bits.is_empty()), |&a| a != 0)
+}
+
+impl Tally {
+    fn calls(&self) -> u64 {
+        self.numbers.iter().sum()
+    }
+}
+
+/// Runs one case on both sides, counts it, and tells a difference with the smallest case that shows one.
+fn judge(call: &Call, fields: &[Field], tally: &mut Tally) -> Outcome {
+    let (must, is) = ((call.expected)(fields), (call.port)(fields));
+    tally.numbers[(must.number as usize).min(4)] += 1;
+    tally.full += u64::from(full(&must));
+    if let Some(what) = difference(&must, &is) {
+        tally.differences += 1;
+        if tally.differences <= 3 {
+            let differs = |f: &[Field]| difference(&(call.expected)(f), &(call.port)(f)).is_some();
+            let small = cases::smallest(fields.to_vec(), &differs);
+            let names: Vec<&str> = call.fields.split(' ').collect();
+            println!("{}: {what}", call.name);
+            println!("  judge case '{}'", cases::text(call.name, &names, &small));
+            let what = difference(&(call.expected)(&small), &(call.port)(&small));
+            println!("  {}", what.unwrap_or_default());
+        }
+    }
+    is
+}
+
+fn seed_of(seed: u64, salt: &str) -> Numbers {
+    salt.bytes().fold(Numbers(seed), |mut r, b| {
+        r.0 ^= u64::from(b);
+        Numbers(r.next())
+    })
+}
+
+fn one(call: &Call, seed: u64) -> Tally {
+    let mut tally = Tally::default();
+    (call.all)(&mut |fields| drop(judge(call, &fields, &mut tally)));
+    inputs::at_the_bounds(call.name, &mut |fields| drop(judge(call, &fields, &mut tally)));
+    let mut r = seed_of(seed, call.name);
+    for _ in 0..call.count {
+        let fields = (call.random)(&mut r);
+        judge(call, &fields, &mut tally);
+    }
+    tally
+}
+
+/// Whole tracks, sections and runs of patches, counted by the calls made.
+fn together(seed: u64) -> Vec<(&'static str, Tally)> {
+    let call = |name: &str| CALLS.iter().find(|c| c.name == name).unwrap();
+    let (magnitudes, features) = (call("patch_magnitudes"), call("patch_features"));
+    let mut out = Vec::new();
+    for (name, runs) in [("whole tracks", 3_000), ("sections of rows", 3_000), ("runs on magnitudes", 3_000), ("runs on features", 600)] {
+        let (mut tally, mut r) = (Tally::default(), seed_of(seed, name));
+        for _ in 0..runs {
+            let wrong = match name {
+                "whole tracks" | "sections of rows" => {
+                    let (calls, wrong) = if name == "whole tracks" { tracks::track(&mut r) } else { tracks::sections(&mut r) };
+                    tally.numbers[0] += calls;
+                    tally.full += calls;
+                    wrong
+                }
+                "runs on magnitudes" => patches::of_magnitudes(&mut r, &mut |f| judge(magnitudes, f, &mut tally)),
+                _ => patches::of_features(&mut r, &mut |f| judge(features, f, &mut tally)),
+            };
+            if let Some(what) = wrong {
+                tally.differences += 1;
+                if tally.differences <= 3 {
+                    println!("{name}: {what}");
+                }
+            }
+        }
+        out.push((name, tally));
+    }
+    out
+}
+
+fn run(seed: u64, only: &[&str]) -> bool {
+    differences::tell();
+    if cfg!(not(whole_tracks)) {
+        println!("the calls for a whole track are not in this archive, and are not judged");
+    }
+    println!("seed {seed}");
+    println!(
+        "{:24}{:>10}{:>10}{:>10}{:>8}{:>8}{:>8}{:>8}{:>13}",
+        "call", "calls", "answered", "not empty", "no. 1", "no. 2", "no. 3", "no. 4", "differences"
+    );
+    let (mut calls, mut differences) = (0, 0);
+    let mut line = |name: &str, t: Tally| {
+        let [a, b, c, d, e] = t.numbers;
+        println!("{name:24}{:>10}{a:>10}{:>10}{b:>8}{c:>8}{d:>8}{e:>8}{:>13}", t.calls(), t.full, t.differences);
+        calls += t.calls();
+        differences += t.differences;
+    };
+    for call in CALLS.iter().filter(|c| only.is_empty() || only.contains(&c.name)) {
+        line(call.name, one(call, seed));
+    }
+    let runs = if only.is_empty() { together(seed) } else { vec![] };
+    for (name, tally) in runs {
+        line(name, tally);
+    }
+    println!("{calls} calls, {differences} differences");
+    differences == 0
+}
+
+fn main() {
+    let words: Vec<String> = std::env::args().collect();
+    let words: Vec<&str> = words.iter().map(|w| w.as_str()).collect();
+    let fine = match words[1..] {
+        ["run", seed, ref only @ ..] => run(seed.parse().expect("a seed is a whole number"), only),
+        ["case", line] => {
+            let name = line.split_whitespace().next().unwrap_or_default();
+            let call = CALLS.iter().find(|c| c.name == name).expect("no call of this name");
+            let fields = cases::parse(line, &(call.random)(&mut Numbers(1)));
+            let (must, is) = ((call.expected)(&fields), (call.port)(&fields));
+            println!("must be: number {}, answers {:x?}", must.number, must.answers);
+            println!("is:      number {}, answers {:x?}, slots {:x?}", is.number, is.answers, is.slots);
+            let what = difference(&must, &is);
+            println!("{}", what.as_deref().unwrap_or("no difference"));
+            what.is_none()
+        }
+        ["sample"] => {
+            sample::print();
+            true
+        }
+        _ => {
+            eprintln!("judge run SEED [CALL..] | case 'LINE' | sample");
+            std::process::exit(2)
+        }
+    };
+    std::process::exit(if fine { 0 } else { 1 })
+}

@@ -1,0 +1,720 @@
+//! The port's side: its exported functions, each called with guarded, poisoned memory.
+use crate::cases::Field;
+use crate::lent::{Lent, Slot, cell};
+
+/// What a call did: its number, the lent numbers and the lent slots afterwards, and whether it touched memory that it was not lent.
+pub struct Outcome {
+    pub number: u32,
+    pub answers: Vec<u64>,
+    pub slots: Vec<Vec<u64>>,
+    pub harm: bool,
+}
+
+unsafe extern "C" {
+    fn ph_median_of(values: *const f64, n: usize, work: *mut f64, room: usize, median: *mut f64) -> u32;
+    fn ph_mad_of(values: *const f64, n: usize, median: f64, work: *mut f64, room: usize, mad: *mut f64) -> u32;
+    fn ph_spectral_flux(magnitudes: *const f32, n: usize, rows: usize, bins: usize, flux: *mut f64, room: usize) -> u32;
+    fn ph_adaptive_threshold(flux: *const f64, n: usize, threshold: *mut f64, room: usize, work: *mut f64, work_room: usize) -> u32;
+    fn ph_pick_onsets(
+        flux: *const f64,
+        n: usize,
+        threshold: *const f64,
+        m: usize,
+        rate: u32,
+        frames: *mut u32,
+        room: usize,
+        count: *mut usize,
+    ) -> u32;
+    fn ph_suppress_close_peaks(
+        peaks: *const u32,
+        n: usize,
+        curve: *const f64,
+        m: usize,
+        gap: usize,
+        frames: *mut u32,
+        room: usize,
+        count: *mut usize,
+    ) -> u32;
+    fn ph_frame_times(frames: *const u32, n: usize, rate: u32, ms: *mut f64, room: usize) -> u32;
+    fn ph_lag_range(rate: u32, min_bpm: f64, max_bpm: f64, min_lag: *mut usize, max_lag: *mut usize) -> u32;
+    fn ph_estimate(
+        envelope: *const f64,
+        n: usize,
+        onsets: usize,
+        rate: u32,
+        min_bpm: f64,
+        max_bpm: f64,
+        clarity_curve: *mut f64,
+        clarity_room: usize,
+        weight_curve: *mut f64,
+        weight_room: usize,
+        work: *mut f64,
+        work_room: usize,
+        found: *mut u32,
+        bpm: *mut f64,
+        clarity: *mut f64,
+        lags: *mut usize,
+        saliences: *mut f64,
+        count: *mut usize,
+    ) -> u32;
+    fn ph_stability_of(
+        envelope: *const f64,
+        n: usize,
+        rate: u32,
+        min_bpm: f64,
+        max_bpm: f64,
+        whole_lag: usize,
+        clarity_curve: *mut f64,
+        clarity_room: usize,
+        weight_curve: *mut f64,
+        weight_room: usize,
+        work: *mut f64,
+        work_room: usize,
+        found: *mut u32,
+        fraction: *mut f64,
+        agreeing: *mut usize,
+        windows: *mut usize,
+    ) -> u32;
+    fn ph_room_of(
+        rows: usize,
+        rate: u32,
+        min_bpm: f64,
+        max_bpm: f64,
+        row_slots: *mut usize,
+        lag_slots: *mut usize,
+        work_slots: *mut usize,
+    ) -> u32;
+    fn ph_analyse_envelope(
+        envelope: *const f64,
+        n: usize,
+        rate: u32,
+        min_bpm: f64,
+        max_bpm: f64,
+        threshold: *mut f64,
+        threshold_room: usize,
+        onsets: *mut u32,
+        onsets_room: usize,
+        clarity_curve: *mut f64,
+        clarity_room: usize,
+        weight_curve: *mut f64,
+        weight_room: usize,
+        window_clarity: *mut f64,
+        window_clarity_room: usize,
+        window_weight: *mut f64,
+        window_weight_room: usize,
+        score: *mut f64,
+        score_room: usize,
+        back: *mut u32,
+        back_room: usize,
+        beats: *mut u32,
+        beats_room: usize,
+        downbeats: *mut u32,
+        downbeats_room: usize,
+        work: *mut f64,
+        work_room: usize,
+        onset_count: *mut usize,
+        found: *mut u32,
+        bpm: *mut f64,
+        clarity: *mut f64,
+        lags: *mut usize,
+        saliences: *mut f64,
+        count: *mut usize,
+        steady: *mut u32,
+        fraction: *mut f64,
+        agreeing: *mut usize,
+        windows: *mut usize,
+        beat_count: *mut usize,
+        downbeat_count: *mut usize,
+    ) -> u32;
+    fn ph_analyse_magnitudes(
+        magnitudes: *const f32,
+        n: usize,
+        rows: usize,
+        bins: usize,
+        rate: u32,
+        min_bpm: f64,
+        max_bpm: f64,
+        flux: *mut f64,
+        flux_room: usize,
+        threshold: *mut f64,
+        threshold_room: usize,
+        onsets: *mut u32,
+        onsets_room: usize,
+        clarity_curve: *mut f64,
+        clarity_room: usize,
+        weight_curve: *mut f64,
+        weight_room: usize,
+        window_clarity: *mut f64,
+        window_clarity_room: usize,
+        window_weight: *mut f64,
+        window_weight_room: usize,
+        score: *mut f64,
+        score_room: usize,
+        back: *mut u32,
+        back_room: usize,
+        beats: *mut u32,
+        beats_room: usize,
+        downbeats: *mut u32,
+        downbeats_room: usize,
+        work: *mut f64,
+        work_room: usize,
+        onset_count: *mut usize,
+        found: *mut u32,
+        bpm: *mut f64,
+        clarity: *mut f64,
+        lags: *mut usize,
+        saliences: *mut f64,
+        count: *mut usize,
+        steady: *mut u32,
+        fraction: *mut f64,
+        agreeing: *mut usize,
+        windows: *mut usize,
+        beat_count: *mut usize,
+        downbeat_count: *mut usize,
+    ) -> u32;
+    fn ph_beat_grid(
+        envelope: *const f64,
+        n: usize,
+        period: usize,
+        score: *mut f64,
+        score_room: usize,
+        back: *mut u32,
+        back_room: usize,
+        beats: *mut u32,
+        beats_room: usize,
+        count: *mut usize,
+    ) -> u32;
+    fn ph_downbeats(envelope: *const f64, n: usize, beats: *const u32, m: usize, frames: *mut u32, room: usize, count: *mut usize) -> u32;
+    fn ph_bar_beat_at(
+        time: f64,
+        downbeats: *const f64,
+        n: usize,
+        beats: *const f64,
+        m: usize,
+        found: *mut u32,
+        bar: *mut usize,
+        beat: *mut usize,
+    ) -> u32;
+    fn ph_similarity(features: *const f64, n: usize, rows: usize, similarity: *mut f64, room: usize) -> u32;
+    fn ph_novelty(similarity: *const f64, n: usize, rows: usize, novelty: *mut f64, room: usize) -> u32;
+    fn ph_boundaries(
+        novelty: *const f64,
+        n: usize,
+        length: u64,
+        rate: u32,
+        max_sections: usize,
+        rows: *mut u32,
+        room: usize,
+        work: *mut f64,
+        work_room: usize,
+        sections: *mut usize,
+        count: *mut usize,
+        confidence: *mut f64,
+    ) -> u32;
+    fn ph_boundary_times(rows: *const u32, n: usize, length: u64, rate: u32, ms: *mut f64, room: usize) -> u32;
+    fn ph_patch_magnitudes(
+        magnitudes: *mut f32,
+        n: usize,
+        rows: usize,
+        bins: usize,
+        start: usize,
+        new_rows: *const f32,
+        m: usize,
+        flux: *mut f64,
+        flux_room: usize,
+        threshold: *mut f64,
+        threshold_room: usize,
+        work: *mut f64,
+        work_room: usize,
+        flux_first: *mut usize,
+        flux_past: *mut usize,
+        threshold_first: *mut usize,
+        threshold_past: *mut usize,
+    ) -> u32;
+    fn ph_patch_features(
+        features: *mut f64,
+        n: usize,
+        rows: usize,
+        start: usize,
+        new_rows: *const f64,
+        m: usize,
+        similarity: *mut f64,
+        similarity_room: usize,
+        novelty: *mut f64,
+        novelty_room: usize,
+        similarity_first: *mut usize,
+        similarity_past: *mut usize,
+        novelty_first: *mut usize,
+        novelty_past: *mut usize,
+    ) -> u32;
+}
+
+fn ended<const N: usize>(number: u32, answers: Vec<u64>, slots: [Vec<u64>; N], harm: bool) -> Outcome {
+    Outcome { number, answers, slots: slots.into(), harm }
+}
+
+pub fn median_of(f: &[Field]) -> Outcome {
+    let (values, mut work, mut median) = (Lent::of(f[0].reals()), Lent::room(f[1].size()), cell::<f64>());
+    let number = unsafe { ph_median_of(values.ptr(), values.len(), work.ptr_mut(), work.len(), &mut median) };
+    let mut harm = false;
+    values.same(f[0].reals(), &mut harm);
+    ended(number, vec![median.bits()], [work.end(&mut harm)], harm)
+}
+
+pub fn mad_of(f: &[Field]) -> Outcome {
+    let (values, mut work, mut mad) = (Lent::of(f[0].reals()), Lent::room(f[2].size()), cell::<f64>());
+    let number = unsafe { ph_mad_of(values.ptr(), values.len(), f[1].real(), work.ptr_mut(), work.len(), &mut mad) };
+    let mut harm = false;
+    values.same(f[0].reals(), &mut harm);
+    ended(number, vec![mad.bits()], [work.end(&mut harm)], harm)
+}
+
+pub fn spectral_flux(f: &[Field]) -> Outcome {
+    let (magnitudes, mut flux) = (Lent::of(f[0].singles()), Lent::<f64>::room(f[3].size()));
+    let number = unsafe { ph_spectral_flux(magnitudes.ptr(), magnitudes.len(), f[1].size(), f[2].size(), flux.ptr_mut(), flux.len()) };
+    let mut harm = false;
+    magnitudes.same(f[0].singles(), &mut harm);
+    ended(number, vec![], [flux.end(&mut harm)], harm)
+}
+
+pub fn adaptive_threshold(f: &[Field]) -> Outcome {
+    let (flux, mut threshold, mut work) = (Lent::of(f[0].reals()), Lent::<f64>::room(f[1].size()), Lent::<f64>::room(f[2].size()));
+    let number = unsafe { ph_adaptive_threshold(flux.ptr(), flux.len(), threshold.ptr_mut(), threshold.len(), work.ptr_mut(), work.len()) };
+    let mut harm = false;
+    flux.same(f[0].reals(), &mut harm);
+    ended(number, vec![], [threshold.end(&mut harm), work.end(&mut harm)], harm)
+}
+
+pub fn pick_onsets(f: &[Field]) -> Outcome {
+    let (flux, threshold) = (Lent::of(f[0].reals()), Lent::of(f[1].reals()));
+    let (mut frames, mut count) = (Lent::<u32>::room(f[3].size()), cell::<usize>());
+    let number = unsafe {
+        ph_pick_onsets(flux.ptr(), flux.len(), threshold.ptr(), threshold.len(), f[2].small(), frames.ptr_mut(), frames.len(), &mut count)
+    };
+    let mut harm = false;
+    flux.same(f[0].reals(), &mut harm);
+    threshold.same(f[1].reals(), &mut harm);
+    ended(number, vec![count.bits()], [frames.end(&mut harm)], harm)
+}
+
+pub fn suppress_close_peaks(f: &[Field]) -> Outcome {
+    let (peaks, curve) = (Lent::of(f[0].frames()), Lent::of(f[1].reals()));
+    let (mut frames, mut count) = (Lent::<u32>::room(f[3].size()), cell::<usize>());
+    let number = unsafe {
+        ph_suppress_close_peaks(peaks.ptr(), peaks.len(), curve.ptr(), curve.len(), f[2].size(), frames.ptr_mut(), frames.len(), &mut count)
+    };
+    let mut harm = false;
+    peaks.same(f[0].frames(), &mut harm);
+    curve.same(f[1].reals(), &mut harm);
+    ended(number, vec![count.bits()], [frames.end(&mut harm)], harm)
+}
+
+pub fn frame_times(f: &[Field]) -> Outcome {
+    let (frames, mut ms) = (Lent::of(f[0].frames()), Lent::<f64>::room(f[2].size()));
+    let number = unsafe { ph_frame_times(frames.ptr(), frames.len(), f[1].small(), ms.ptr_mut(), ms.len()) };
+    let mut harm = false;
+    frames.same(f[0].frames(), &mut harm);
+    ended(number, vec![], [ms.end(&mut harm)], harm)
+}
+
+pub fn lag_range(f: &[Field]) -> Outcome {
+    let (mut min_lag, mut max_lag) = (cell::<usize>(), cell::<usize>());
+    let number = unsafe { ph_lag_range(f[0].small(), f[1].real(), f[2].real(), &mut min_lag, &mut max_lag) };
+    ended(number, vec![min_lag.bits(), max_lag.bits()], [], false)
+}
+
+pub fn estimate(f: &[Field]) -> Outcome {
+    let envelope = Lent::of(f[0].reals());
+    let mut room = [5, 6, 7].map(|k| Lent::<f64>::room(f[k].size()));
+    let (mut found, mut bpm, mut clarity, mut count) = (cell::<u32>(), cell::<f64>(), cell::<f64>(), cell::<usize>());
+    let (mut lags, mut saliences) = (Lent::<usize>::room(3), Lent::<f64>::room(3));
+    let [clarities, weights, work] = &mut room;
+    let number = unsafe {
+        ph_estimate(
+            envelope.ptr(),
+            envelope.len(),
+            f[1].size(),
+            f[2].small(),
+            f[3].real(),
+            f[4].real(),
+            clarities.ptr_mut(),
+            clarities.len(),
+            weights.ptr_mut(),
+            weights.len(),
+            work.ptr_mut(),
+            work.len(),
+            &mut found,
+            &mut bpm,
+            &mut clarity,
+            lags.ptr_mut(),
+            saliences.ptr_mut(),
+            &mut count,
+        )
+    };
+    let mut harm = false;
+    envelope.same(f[0].reals(), &mut harm);
+    let answers = vec![found.bits(), bpm.bits(), clarity.bits(), count.bits()];
+    let [clarities, weights, work] = room.map(|r| r.end(&mut harm));
+    ended(number, answers, [clarities, weights, work, lags.end(&mut harm), saliences.end(&mut harm)], harm)
+}
+
+pub fn stability_of(f: &[Field]) -> Outcome {
+    let envelope = Lent::of(f[0].reals());
+    let mut room = [5, 6, 7].map(|k| Lent::<f64>::room(f[k].size()));
+    let (mut found, mut fraction, mut agreeing, mut windows) = (cell::<u32>(), cell::<f64>(), cell::<usize>(), cell::<usize>());
+    let [clarities, weights, work] = &mut room;
+    let number = unsafe {
+        ph_stability_of(
+            envelope.ptr(),
+            envelope.len(),
+            f[1].small(),
+            f[2].real(),
+            f[3].real(),
+            f[4].size(),
+            clarities.ptr_mut(),
+            clarities.len(),
+            weights.ptr_mut(),
+            weights.len(),
+            work.ptr_mut(),
+            work.len(),
+            &mut found,
+            &mut fraction,
+            &mut agreeing,
+            &mut windows,
+        )
+    };
+    let mut harm = false;
+    envelope.same(f[0].reals(), &mut harm);
+    let answers = vec![found.bits(), fraction.bits(), agreeing.bits(), windows.bits()];
+    ended(number, answers, room.map(|r| r.end(&mut harm)), harm)
+}
+
+pub fn room_of(f: &[Field]) -> Outcome {
+    let (mut rows, mut lags, mut work) = (cell::<usize>(), cell::<usize>(), cell::<usize>());
+    let number = unsafe { ph_room_of(f[0].size(), f[1].small(), f[2].real(), f[3].real(), &mut rows, &mut lags, &mut work) };
+    ended(number, vec![rows.bits(), lags.bits(), work.bits()], [], false)
+}
+
+/// What a whole track is lent, in the order of the call.
+struct Track {
+    threshold: Lent<f64>,
+    onsets: Lent<u32>,
+    curves: [Lent<f64>; 4],
+    score: Lent<f64>,
+    lists: [Lent<u32>; 3],
+    work: Lent<f64>,
+    counts: [usize; 6],
+    kinds: [u32; 2],
+    values: [f64; 3],
+    lags: Lent<usize>,
+    saliences: Lent<f64>,
+}
+
+impl Track {
+    fn lent(f: &[Field]) -> Track {
+        let size = |k: usize| f[k].size();
+        Track {
+            threshold: Lent::room(size(0)),
+            onsets: Lent::room(size(1)),
+            curves: [2, 3, 4, 5].map(|k| Lent::room(size(k))),
+            score: Lent::room(size(6)),
+            lists: [7, 8, 9].map(|k| Lent::room(size(k))),
+            work: Lent::room(size(10)),
+            counts: [cell(); 6],
+            kinds: [cell(); 2],
+            values: [cell(); 3],
+            lags: Lent::room(3),
+            saliences: Lent::room(3),
+        }
+    }
+
+    // onset count; a tempo, its bpm, clarity and candidates; a stability, its fraction and counts; beat and downbeat counts
+    fn answers(&self) -> Vec<u64> {
+        let ([onsets, count, agreeing, windows, beats, downbeats], [found, steady], [bpm, clarity, fraction]) =
+            (self.counts.map(Slot::bits), self.kinds.map(Slot::bits), self.values.map(Slot::bits));
+        vec![onsets, found, bpm, clarity, count, steady, fraction, agreeing, windows, beats, downbeats]
+    }
+
+    fn ended(self, number: u32, mut slots: Vec<Vec<u64>>, mut harm: bool) -> Outcome {
+        let answers = self.answers();
+        slots.push(self.threshold.end(&mut harm));
+        slots.push(self.onsets.end(&mut harm));
+        slots.extend(self.curves.map(|c| c.end(&mut harm)));
+        slots.push(self.score.end(&mut harm));
+        slots.extend(self.lists.map(|l| l.end(&mut harm)));
+        slots.push(self.work.end(&mut harm));
+        slots.push(self.lags.end(&mut harm));
+        slots.push(self.saliences.end(&mut harm));
+        Outcome { number, answers, slots, harm }
+    }
+}
+
+pub fn analyse_envelope(f: &[Field]) -> Outcome {
+    let envelope = Lent::of(f[0].reals());
+    let mut t = Track::lent(&f[4..]);
+    let ([c, w, wc, ww], [back, beats, downbeats]) = (&mut t.curves, &mut t.lists);
+    let ([heard, count, agreeing, windows, laid, bars], [found, steady], [bpm, clarity, fraction]) =
+        (&mut t.counts, &mut t.kinds, &mut t.values);
+    let number = unsafe {
+        ph_analyse_envelope(
+            envelope.ptr(),
+            envelope.len(),
+            f[1].small(),
+            f[2].real(),
+            f[3].real(),
+            t.threshold.ptr_mut(),
+            t.threshold.len(),
+            t.onsets.ptr_mut(),
+            t.onsets.len(),
+            c.ptr_mut(),
+            c.len(),
+            w.ptr_mut(),
+            w.len(),
+            wc.ptr_mut(),
+            wc.len(),
+            ww.ptr_mut(),
+            ww.len(),
+            t.score.ptr_mut(),
+            t.score.len(),
+            back.ptr_mut(),
+            back.len(),
+            beats.ptr_mut(),
+            beats.len(),
+            downbeats.ptr_mut(),
+            downbeats.len(),
+            t.work.ptr_mut(),
+            t.work.len(),
+            heard,
+            found,
+            bpm,
+            clarity,
+            t.lags.ptr_mut(),
+            t.saliences.ptr_mut(),
+            count,
+            steady,
+            fraction,
+            agreeing,
+            windows,
+            laid,
+            bars,
+        )
+    };
+    let mut harm = false;
+    envelope.same(f[0].reals(), &mut harm);
+    t.ended(number, vec![], harm)
+}
+
+pub fn analyse_magnitudes(f: &[Field]) -> Outcome {
+    let (magnitudes, mut flux) = (Lent::of(f[0].singles()), Lent::<f64>::room(f[6].size()));
+    let mut t = Track::lent(&f[7..]);
+    let ([c, w, wc, ww], [back, beats, downbeats]) = (&mut t.curves, &mut t.lists);
+    let ([heard, count, agreeing, windows, laid, bars], [found, steady], [bpm, clarity, fraction]) =
+        (&mut t.counts, &mut t.kinds, &mut t.values);
+    let number = unsafe {
+        ph_analyse_magnitudes(
+            magnitudes.ptr(),
+            magnitudes.len(),
+            f[1].size(),
+            f[2].size(),
+            f[3].small(),
+            f[4].real(),
+            f[5].real(),
+            flux.ptr_mut(),
+            flux.len(),
+            t.threshold.ptr_mut(),
+            t.threshold.len(),
+            t.onsets.ptr_mut(),
+            t.onsets.len(),
+            c.ptr_mut(),
+            c.len(),
+            w.ptr_mut(),
+            w.len(),
+            wc.ptr_mut(),
+            wc.len(),
+            ww.ptr_mut(),
+            ww.len(),
+            t.score.ptr_mut(),
+            t.score.len(),
+            back.ptr_mut(),
+            back.len(),
+            beats.ptr_mut(),
+            beats.len(),
+            downbeats.ptr_mut(),
+            downbeats.len(),
+            t.work.ptr_mut(),
+            t.work.len(),
+            heard,
+            found,
+            bpm,
+            clarity,
+            t.lags.ptr_mut(),
+            t.saliences.ptr_mut(),
+            count,
+            steady,
+            fraction,
+            agreeing,
+            windows,
+            laid,
+            bars,
+        )
+    };
+    let mut harm = false;
+    magnitudes.same(f[0].singles(), &mut harm);
+    let flux = flux.end(&mut harm);
+    t.ended(number, vec![flux], harm)
+}
+
+pub fn beat_grid(f: &[Field]) -> Outcome {
+    let (envelope, mut score) = (Lent::of(f[0].reals()), Lent::<f64>::room(f[2].size()));
+    let (mut back, mut beats, mut count) = (Lent::<u32>::room(f[3].size()), Lent::<u32>::room(f[4].size()), cell::<usize>());
+    let number = unsafe {
+        ph_beat_grid(
+            envelope.ptr(),
+            envelope.len(),
+            f[1].size(),
+            score.ptr_mut(),
+            score.len(),
+            back.ptr_mut(),
+            back.len(),
+            beats.ptr_mut(),
+            beats.len(),
+            &mut count,
+        )
+    };
+    let mut harm = false;
+    envelope.same(f[0].reals(), &mut harm);
+    ended(number, vec![count.bits()], [score.end(&mut harm), back.end(&mut harm), beats.end(&mut harm)], harm)
+}
+
+pub fn downbeats(f: &[Field]) -> Outcome {
+    let (envelope, beats) = (Lent::of(f[0].reals()), Lent::of(f[1].frames()));
+    let (mut frames, mut count) = (Lent::<u32>::room(f[2].size()), cell::<usize>());
+    let number =
+        unsafe { ph_downbeats(envelope.ptr(), envelope.len(), beats.ptr(), beats.len(), frames.ptr_mut(), frames.len(), &mut count) };
+    let mut harm = false;
+    envelope.same(f[0].reals(), &mut harm);
+    beats.same(f[1].frames(), &mut harm);
+    ended(number, vec![count.bits()], [frames.end(&mut harm)], harm)
+}
+
+pub fn bar_beat_at(f: &[Field]) -> Outcome {
+    let (downbeats, beats) = (Lent::of(f[1].reals()), Lent::of(f[2].reals()));
+    let (mut found, mut bar, mut beat) = (cell::<u32>(), cell::<usize>(), cell::<usize>());
+    let number =
+        unsafe { ph_bar_beat_at(f[0].real(), downbeats.ptr(), downbeats.len(), beats.ptr(), beats.len(), &mut found, &mut bar, &mut beat) };
+    let mut harm = false;
+    downbeats.same(f[1].reals(), &mut harm);
+    beats.same(f[2].reals(), &mut harm);
+    ended(number, vec![found.bits(), bar.bits(), beat.bits()], [], harm)
+}
+
+pub fn similarity(f: &[Field]) -> Outcome {
+    let (features, mut similarity) = (Lent::of(f[0].reals()), Lent::<f64>::room(f[2].size()));
+    let number = unsafe { ph_similarity(features.ptr(), features.len(), f[1].size(), similarity.ptr_mut(), similarity.len()) };
+    let mut harm = false;
+    features.same(f[0].reals(), &mut harm);
+    ended(number, vec![], [similarity.end(&mut harm)], harm)
+}
+
+pub fn novelty(f: &[Field]) -> Outcome {
+    let (similarity, mut novelty) = (Lent::of(f[0].reals()), Lent::<f64>::room(f[2].size()));
+    let number = unsafe { ph_novelty(similarity.ptr(), similarity.len(), f[1].size(), novelty.ptr_mut(), novelty.len()) };
+    let mut harm = false;
+    similarity.same(f[0].reals(), &mut harm);
+    ended(number, vec![], [novelty.end(&mut harm)], harm)
+}
+
+pub fn boundaries(f: &[Field]) -> Outcome {
+    let novelty = Lent::of(f[0].reals());
+    let (mut rows, mut work) = (Lent::<u32>::room(f[4].size()), Lent::<f64>::room(f[5].size()));
+    let (mut sections, mut count, mut confidence) = (cell::<usize>(), cell::<usize>(), cell::<f64>());
+    let number = unsafe {
+        ph_boundaries(
+            novelty.ptr(),
+            novelty.len(),
+            f[1].whole(),
+            f[2].small(),
+            f[3].size(),
+            rows.ptr_mut(),
+            rows.len(),
+            work.ptr_mut(),
+            work.len(),
+            &mut sections,
+            &mut count,
+            &mut confidence,
+        )
+    };
+    let mut harm = false;
+    novelty.same(f[0].reals(), &mut harm);
+    let answers = vec![sections.bits(), count.bits(), confidence.bits()];
+    ended(number, answers, [rows.end(&mut harm), work.end(&mut harm)], harm)
+}
+
+pub fn boundary_times(f: &[Field]) -> Outcome {
+    let (rows, mut ms) = (Lent::of(f[0].frames()), Lent::<f64>::room(f[3].size()));
+    let number = unsafe { ph_boundary_times(rows.ptr(), rows.len(), f[1].whole(), f[2].small(), ms.ptr_mut(), ms.len()) };
+    let mut harm = false;
+    rows.same(f[0].frames(), &mut harm);
+    ended(number, vec![], [ms.end(&mut harm)], harm)
+}
+
+pub fn patch_magnitudes(f: &[Field]) -> Outcome {
+    let (mut magnitudes, new_rows) = (Lent::of(f[0].singles()), Lent::of(f[4].singles()));
+    let (mut flux, mut threshold, mut work) = (Lent::of(f[5].reals()), Lent::of(f[6].reals()), Lent::<f64>::room(f[7].size()));
+    let mut named = [cell::<usize>(); 4];
+    let [a, b, c, d] = &mut named;
+    let number = unsafe {
+        ph_patch_magnitudes(
+            magnitudes.ptr_mut(),
+            magnitudes.len(),
+            f[1].size(),
+            f[2].size(),
+            f[3].size(),
+            new_rows.ptr(),
+            new_rows.len(),
+            flux.ptr_mut(),
+            flux.len(),
+            threshold.ptr_mut(),
+            threshold.len(),
+            work.ptr_mut(),
+            work.len(),
+            a,
+            b,
+            c,
+            d,
+        )
+    };
+    let mut harm = false;
+    new_rows.same(f[4].singles(), &mut harm);
+    let slots = [magnitudes.end(&mut harm), flux.end(&mut harm), threshold.end(&mut harm), work.end(&mut harm)];
+    ended(number, named.map(Slot::bits).into(), slots, harm)
+}
+
+pub fn patch_features(f: &[Field]) -> Outcome {
+    let (mut features, new_rows) = (Lent::of(f[0].reals()), Lent::of(f[3].reals()));
+    let (mut similarity, mut novelty) = (Lent::of(f[4].reals()), Lent::of(f[5].reals()));
+    let mut named = [cell::<usize>(); 4];
+    let [a, b, c, d] = &mut named;
+    let number = unsafe {
+        ph_patch_features(
+            features.ptr_mut(),
+            features.len(),
+            f[1].size(),
+            f[2].size(),
+            new_rows.ptr(),
+            new_rows.len(),
+            similarity.ptr_mut(),
+            similarity.len(),
+            novelty.ptr_mut(),
+            novelty.len(),
+            a,
+            b,
+            c,
+            d,
+        )
+    };
+    let mut harm = false;
+    new_rows.same(f[3].reals(), &mut harm);
+    let slots = [features.end(&mut harm), similarity.end(&mut harm), novelty.end(&mut harm)];
+    ended(number, named.map(Slot::bits).into(), slots, harm)
+}

@@ -1,0 +1,415 @@
+/* Every call of include/prohunsev.h: an answer that document 01 gives, one refusal at least, and nothing written that must not be.
+ *
+ * Slices are lent longer than their formula and filled with a poison, so that a slot written behind its formula is seen, and so is
+ * anything that a refusal changes. All of it runs in four threads at the same time, each with slices of its own.
+ * Marked numbers: M1 (median), M3 and M4 (close peaks), M5, M6 and M8 (lags), M11 and M12 (beats). */
+#define _POSIX_C_SOURCE 200809L
+#include "prohunsev.h"
+
+#include <math.h>
+#include <pthread.h>
+#include <stdio.h>
+#include <stdlib.h>
+#include <string.h>
+
+enum { THREADS = 4 };
+
+static const double POISON = -12345.5;
+static const uint32_t POISON_FRAME = 0xABCDEF01u;
+static const size_t POISON_SIZE = 987654321u;
+
+/* checks that passed, a count for each thread */
+struct run {
+    pthread_t thread;
+    long passed;
+};
+
+static void check(struct run *run, int holds, const char *what, int line)
+{
+    if (!holds) {
+        fprintf(stderr, "tests/c/calls.c:%d: fails: %s\n", line, what);
+        exit(1);
+    }
+    run->passed++;
+}
+#define CHECK(what) check(run, (what), #what, __LINE__)
+
+static void poison(double *slots, size_t n)
+{
+    for (size_t i = 0; i < n; i++)
+        slots[i] = POISON;
+}
+
+static void poison_frames(uint32_t *slots, size_t n)
+{
+    for (size_t i = 0; i < n; i++)
+        slots[i] = POISON_FRAME;
+}
+
+/* whether the slots from a up to b still hold the poison */
+static int kept(const double *slots, size_t a, size_t b)
+{
+    for (size_t i = a; i < b; i++)
+        if (slots[i] != POISON)
+            return 0;
+    return 1;
+}
+
+static int kept_frames(const uint32_t *slots, size_t a, size_t b)
+{
+    for (size_t i = a; i < b; i++)
+        if (slots[i] != POISON_FRAME)
+            return 0;
+    return 1;
+}
+
+/* whether two slices hold the same bits */
+static int same(const void *a, const void *b, size_t bytes)
+{
+    return memcmp(a, b, bytes) == 0;
+}
+
+/* a small generator of whole numbers, for rows that need no meaning */
+static uint32_t next(uint32_t *state)
+{
+    *state = *state * 1664525u + 1013904223u;
+    return *state >> 16;
+}
+
+static void medians(struct run *run)
+{
+    const double values[4] = {4.0, 2.0, 3.0, 1.0};
+    double bad[2] = {1.0, INFINITY}, work[6], median = POISON, mad = POISON;
+
+    poison(work, 6);
+    CHECK(ph_median_of(values, 4, work, 6, &median) == 0);
+    CHECK(median == 3.0); /* M1 */
+    CHECK(kept(work, 4, 6));
+    CHECK(ph_mad_of(values, 4, 3.0, work, 6, &mad) == 0);
+    CHECK(mad == 1.0);
+    CHECK(kept(work, 4, 6));
+
+    poison(work, 6);
+    median = mad = POISON;
+    CHECK(ph_median_of(values, 0, work, 6, &median) == 1);
+    CHECK(ph_median_of(values, 4, work, 3, &median) == 3);
+    CHECK(ph_median_of(bad, 2, work, 6, &median) == 4);
+    CHECK(ph_mad_of(values, 4, NAN, work, 6, &mad) == 4);
+    CHECK(ph_mad_of(values, 0, NAN, work, 0, &mad) == 1);
+    CHECK(median == POISON && mad == POISON && kept(work, 0, 6));
+}
+
+static void onsets(struct run *run)
+{
+    const float magnitudes[4] = {0.0f, 0.0f, 5.0f, 0.0f};
+    const float loud[1] = {INFINITY};
+    const uint32_t late[1] = {1048576};
+    double flux[6], threshold[6], work[6], ms[3];
+    uint32_t frames[6];
+    size_t count = POISON_SIZE;
+
+    poison(flux, 6);
+    CHECK(ph_spectral_flux(magnitudes, 3, 4, 1, flux, 6) == 2);
+    CHECK(ph_spectral_flux(magnitudes, 4, 4, 1, flux, 3) == 3);
+    CHECK(ph_spectral_flux(loud, 1, 1, 1, flux, 6) == 4);
+    CHECK(ph_spectral_flux(magnitudes, 4, 4, 0, flux, 6) == 1);
+    CHECK(kept(flux, 0, 6));
+    CHECK(ph_spectral_flux(magnitudes, 4, 4, 1, flux, 6) == 0);
+    CHECK(flux[0] == 0.0 && flux[1] == 0.0 && flux[2] == 5.0 && flux[3] == 0.0 && kept(flux, 4, 6));
+
+    poison(threshold, 6);
+    poison(work, 6);
+    CHECK(ph_adaptive_threshold(flux, 4, threshold, 6, work, 3) == 3);
+    CHECK(kept(threshold, 0, 6) && kept(work, 0, 6));
+    CHECK(ph_adaptive_threshold(flux, 4, threshold, 6, work, 6) == 0);
+    CHECK(threshold[0] == 0.000001 && threshold[3] == 0.000001 && kept(threshold, 4, 6) && kept(work, 4, 6));
+
+    poison_frames(frames, 6);
+    CHECK(ph_pick_onsets(flux, 4, threshold, 4, 0, frames, 6, &count) == 1);
+    CHECK(ph_pick_onsets(flux, 4, threshold, 3, 48000, frames, 6, &count) == 2);
+    CHECK(ph_pick_onsets(flux, 4, threshold, 4, 48000, frames, 3, &count) == 3);
+    CHECK(count == POISON_SIZE && kept_frames(frames, 0, 6));
+    CHECK(ph_pick_onsets(flux, 4, threshold, 4, 48000, frames, 6, &count) == 0);
+    CHECK(count == 1 && frames[0] == 2 && kept_frames(frames, 1, 6));
+
+    poison(ms, 3);
+    CHECK(ph_frame_times(late, 1, 48000, ms, 3) == 1);
+    CHECK(ph_frame_times(frames, 1, 48000, ms, 0) == 3);
+    CHECK(kept(ms, 0, 3));
+    CHECK(ph_frame_times(frames, 1, 48000, ms, 3) == 0);
+    CHECK(ms[0] == (2.0 * 256.0 + 512.0) / 48000.0 * 1000.0 && kept(ms, 1, 3));
+}
+
+static void close_peaks(struct run *run)
+{
+    const uint32_t three[3] = {10, 16, 22}, two[2] = {10, 17}, back[2] = {17, 10};
+    double curve[24];
+    uint32_t frames[5];
+    size_t count = POISON_SIZE;
+
+    for (size_t i = 0; i < 24; i++)
+        curve[i] = 0.0;
+    curve[10] = 5.0, curve[16] = 6.0, curve[17] = 5.0, curve[22] = 7.0;
+    poison_frames(frames, 5);
+    CHECK(ph_suppress_close_peaks(back, 2, curve, 24, 6, frames, 5, &count) == 1);
+    CHECK(ph_suppress_close_peaks(three, 3, curve, 22, 6, frames, 5, &count) == 1);
+    CHECK(ph_suppress_close_peaks(three, 3, curve, 24, 6, frames, 2, &count) == 3);
+    CHECK(count == POISON_SIZE && kept_frames(frames, 0, 5));
+    CHECK(ph_suppress_close_peaks(three, 3, curve, 24, 6, frames, 5, &count) == 0);
+    CHECK(count == 1 && frames[0] == 22 && kept_frames(frames, 1, 5)); /* M4 */
+    CHECK(ph_suppress_close_peaks(two, 2, curve, 24, 6, frames, 5, &count) == 0);
+    CHECK(count == 2 && frames[0] == 10 && frames[1] == 17 && kept_frames(frames, 2, 5)); /* M3 */
+}
+
+static void lags(struct run *run)
+{
+    size_t least = POISON_SIZE, most = POISON_SIZE;
+
+    CHECK(ph_lag_range(0, 30.0, 300.0, &least, &most) == 1);
+    CHECK(ph_lag_range(48000, NAN, 300.0, &least, &most) == 1);
+    CHECK(least == POISON_SIZE && most == POISON_SIZE);
+    CHECK(ph_lag_range(48000, 30.0, 300.0, &least, &most) == 0);
+    CHECK(least == 38 && most == 375); /* M5 */
+    CHECK(ph_lag_range(48000, 200.0, 100.0, &least, &most) == 0);
+    CHECK(least == 56 && most == 113); /* M6 */
+    CHECK(ph_lag_range(1, 30.0, 300.0, &least, &most) == 0);
+    CHECK(least == 1 && most == 2); /* M8 */
+}
+
+/* a click every fifty frames; at 100 frames a second that is 120 beats a minute */
+static void tempo(struct run *run)
+{
+    enum { N = 600, RATE = 25600, L = 181 };
+    double envelope[N], clarity_curve[L + 2], weight_curve[L + 2], work[L + 2], bpm = POISON, clarity = POISON, fraction = POISON;
+    double saliences[3] = {POISON, POISON, POISON};
+    size_t lags[3] = {POISON_SIZE, POISON_SIZE, POISON_SIZE}, count = POISON_SIZE, agreeing = POISON_SIZE, windows = POISON_SIZE;
+    size_t least, most;
+    uint32_t found = POISON_FRAME;
+
+    for (size_t i = 0; i < N; i++)
+        envelope[i] = i % 50 == 0 ? 1.0 : 0.0;
+    CHECK(ph_lag_range(RATE, 30.0, 300.0, &least, &most) == 0 && most - least + 1 == L);
+    poison(clarity_curve, L + 2), poison(weight_curve, L + 2), poison(work, L + 2);
+
+    CHECK(ph_estimate(envelope, N, 12, RATE, 30.0, 300.0, clarity_curve, L, weight_curve, L - 1, work, L, &found, &bpm, &clarity, lags, saliences, &count) == 3);
+    CHECK(ph_estimate(envelope, N, 12, RATE, 30.0, INFINITY, clarity_curve, L, weight_curve, L, work, L, &found, &bpm, &clarity, lags, saliences, &count) == 1);
+    CHECK(found == POISON_FRAME && bpm == POISON && clarity == POISON && count == POISON_SIZE);
+    CHECK(lags[0] == POISON_SIZE && lags[2] == POISON_SIZE && saliences[0] == POISON && saliences[2] == POISON);
+    CHECK(kept(clarity_curve, 0, L + 2) && kept(weight_curve, 0, L + 2) && kept(work, 0, L + 2));
+
+    /* one onset is no tempo: an answer, and the curves stay */
+    CHECK(ph_estimate(envelope, N, 1, RATE, 30.0, 300.0, clarity_curve, L + 2, weight_curve, L + 2, work, L + 2, &found, &bpm, &clarity, lags, saliences, &count) == 0);
+    CHECK(found == 0 && bpm == 0.0 && clarity == 0.0 && count == 0 && lags[0] == 0 && lags[2] == 0 && saliences[0] == 0.0 && saliences[2] == 0.0);
+    CHECK(kept(clarity_curve, 0, L + 2) && kept(weight_curve, 0, L + 2));
+
+    CHECK(ph_estimate(envelope, N, 12, RATE, 30.0, 300.0, clarity_curve, L + 2, weight_curve, L + 2, work, L + 2, &found, &bpm, &clarity, lags, saliences, &count) == 0);
+    CHECK(found == 1 && bpm == 120.0 && lags[0] == 50 && saliences[0] == clarity && 1 <= count && count <= 3);
+    CHECK(clarity_curve[50 - least] == clarity && 0.9 < clarity && clarity <= 1.0);
+    CHECK(kept(clarity_curve, L, L + 2) && kept(weight_curve, L, L + 2) && kept(work, 0, L + 2));
+
+    poison(clarity_curve, L + 2), poison(weight_curve, L + 2);
+    found = POISON_FRAME;
+    CHECK(ph_stability_of(envelope, N, RATE, 30.0, 300.0, 45001, clarity_curve, L, weight_curve, L, work, L, &found, &fraction, &agreeing, &windows) == 1);
+    CHECK(ph_stability_of(envelope, N, RATE, 30.0, 300.0, 50, clarity_curve, L, weight_curve, L, work, L - 1, &found, &fraction, &agreeing, &windows) == 3);
+    CHECK(found == POISON_FRAME && fraction == POISON && agreeing == POISON_SIZE && windows == POISON_SIZE);
+    CHECK(kept(clarity_curve, 0, L + 2) && kept(weight_curve, 0, L + 2) && kept(work, 0, L + 2));
+    CHECK(ph_stability_of(envelope, N, RATE, 30.0, 300.0, 0, clarity_curve, L + 2, weight_curve, L + 2, work, L + 2, &found, &fraction, &agreeing, &windows) == 0);
+    CHECK(found == 0 && fraction == 0.0 && agreeing == 0 && windows == 0);
+    CHECK(ph_stability_of(envelope, N, RATE, 30.0, 300.0, 50, clarity_curve, L + 2, weight_curve, L + 2, work, L + 2, &found, &fraction, &agreeing, &windows) == 0);
+    CHECK(found == 1 && windows == 2 && agreeing == 2 && fraction == 1.0);
+    CHECK(kept(clarity_curve, L, L + 2) && kept(weight_curve, L, L + 2) && kept(work, L, L + 2));
+}
+
+static void beats(struct run *run)
+{
+    const double envelope[6] = {0.0, 4.0, 0.0, 4.0, 0.0, 4.0}, flat[4] = {4.0, 4.0, 4.0, 4.0};
+    const uint32_t late[1] = {1048576};
+    double score[8];
+    uint32_t back[8], grid[8], frames[5];
+    size_t count = POISON_SIZE;
+
+    poison(score, 8), poison_frames(back, 8), poison_frames(grid, 8), poison_frames(frames, 5);
+    CHECK(ph_beat_grid(envelope, 6, 45001, score, 8, back, 8, grid, 8, &count) == 1);
+    CHECK(ph_beat_grid(envelope, 6, 2, score, 8, back, 5, grid, 8, &count) == 3);
+    CHECK(count == POISON_SIZE);
+    CHECK(ph_beat_grid(flat, 4, 2, score, 8, back, 8, grid, 8, &count) == 0);
+    CHECK(count == 0); /* M12 */
+    CHECK(kept(score, 0, 8) && kept_frames(back, 0, 8) && kept_frames(grid, 0, 8));
+    CHECK(ph_beat_grid(envelope, 6, 2, score, 8, back, 8, grid, 8, &count) == 0);
+    CHECK(count == 3 && grid[0] == 1 && grid[1] == 3 && grid[2] == 5); /* M11 */
+    CHECK(back[1] == 4294967295u && back[3] == 1 && back[5] == 3);
+    CHECK(kept(score, 6, 8) && kept_frames(back, 6, 8) && kept_frames(grid, 3, 8));
+
+    count = POISON_SIZE;
+    CHECK(ph_downbeats(envelope, 6, late, 1, frames, 5, &count) == 1);
+    CHECK(ph_downbeats(envelope, 6, grid, 3, frames, 2, &count) == 3);
+    CHECK(count == POISON_SIZE && kept_frames(frames, 0, 5));
+    CHECK(ph_downbeats(envelope, 6, grid, 3, frames, 5, &count) == 0);
+    CHECK(count == 1 && frames[0] == 1 && kept_frames(frames, 1, 5)); /* M11 */
+}
+
+static void bars(struct run *run)
+{
+    const double downbeats[2] = {0.0, 2.0}, beat_times[6] = {0.0, 0.5, 1.0, 1.5, 2.0, 2.5};
+    uint32_t found = POISON_FRAME;
+    size_t bar = POISON_SIZE, beat = POISON_SIZE;
+
+    CHECK(ph_bar_beat_at(2.5, downbeats, 2, beat_times, 6, &found, &bar, &beat) == 0);
+    CHECK(found == 1 && bar == 2 && beat == 2);
+    CHECK(ph_bar_beat_at(-1.0, downbeats, 2, beat_times, 6, &found, &bar, &beat) == 0);
+    CHECK(found == 0 && bar == 0 && beat == 0);
+    CHECK(ph_bar_beat_at(NAN, downbeats, 2, beat_times, 6, &found, &bar, &beat) == 0);
+    CHECK(found == 0); /* refuses nothing */
+}
+
+static void sections(struct run *run)
+{
+    double features[32] = {0.0}, similarity[36], novelty[34], work[34], ms[3], confidence = POISON;
+    const uint32_t late[1] = {50000};
+    uint32_t rows[34];
+    size_t number = POISON_SIZE, count = POISON_SIZE;
+    const double side = exp(-1.0 / 32.0), corner = exp(-2.0 / 32.0);
+
+    features[0] = features[16] = 1.0;
+    poison(similarity, 36), poison(novelty, 34), poison(work, 34), poison(ms, 3), poison_frames(rows, 34);
+    CHECK(ph_similarity(features, 31, 2, similarity, 36) == 2);
+    CHECK(ph_similarity(features, 32, 2, similarity, 33) == 3);
+    CHECK(kept(similarity, 0, 36));
+    CHECK(ph_similarity(features, 32, 2, similarity, 36) == 0);
+    CHECK(similarity[0] == 1.0 && similarity[1] == 1.0 && similarity[2] == 0.0 && similarity[17] == 1.0 && similarity[18] == 0.0 && kept(similarity, 34, 36));
+
+    similarity[3] = 1.5;
+    CHECK(ph_novelty(similarity, 34, 2, novelty, 34) == 4);
+    similarity[3] = 0.0;
+    CHECK(ph_novelty(similarity, 33, 2, novelty, 34) == 2);
+    CHECK(kept(novelty, 0, 34));
+    CHECK(ph_novelty(similarity, 34, 2, novelty, 34) == 0);
+    CHECK(fabs(novelty[0] - (1.0 + 2.0 * side + corner)) < 1e-12 && fabs(novelty[1] - (1.0 - 2.0 * side + corner)) < 1e-12 && kept(novelty, 2, 34));
+
+    for (size_t i = 0; i < 32; i++)
+        novelty[i] = i == 16 ? 1.0 : 0.0;
+    CHECK(ph_boundaries(novelty, 32, 48000, 0, 8, rows, 34, work, 34, &number, &count, &confidence) == 1);
+    CHECK(ph_boundaries(novelty, 32, 48000, 48000, 8, rows, 31, work, 34, &number, &count, &confidence) == 3);
+    CHECK(number == POISON_SIZE && count == POISON_SIZE && confidence == POISON && kept_frames(rows, 0, 34) && kept(work, 0, 34));
+    CHECK(ph_boundaries(novelty, 32, 48000, 48000, 1, rows, 34, work, 34, &number, &count, &confidence) == 0);
+    CHECK(number == 1 && count == 0 && confidence == 0.0 && kept_frames(rows, 0, 34));
+    CHECK(ph_boundaries(novelty, 32, 48000, 48000, 8, rows, 34, work, 34, &number, &count, &confidence) == 0);
+    CHECK(number == 2 && count == 1 && rows[0] == 16 && 0.0 <= confidence && confidence <= 1.0);
+    CHECK(kept_frames(rows, 1, 34) && kept(work, 32, 34));
+
+    CHECK(ph_boundary_times(late, 1, 48000, 48000, ms, 3) == 1);
+    CHECK(ph_boundary_times(rows, 1, 48000, 48000, ms, 0) == 3);
+    CHECK(kept(ms, 0, 3));
+    CHECK(ph_boundary_times(rows, 1, 48000, 48000, ms, 3) == 0);
+    CHECK(ms[0] == 16000.0 && kept(ms, 1, 3));
+}
+
+/* a patch leaves what a full run on the edited rows gives, bit for bit */
+static void row_patches(struct run *run)
+{
+    enum { ROWS = 30, BINS = 2 };
+    float magnitudes[ROWS * BINS], before[ROWS * BINS], patch[3 * BINS];
+    double flux[ROWS + 2], threshold[ROWS + 2], fresh_flux[ROWS + 2], fresh_threshold[ROWS + 2], work[23];
+    size_t a = POISON_SIZE, b = POISON_SIZE, c = POISON_SIZE, d = POISON_SIZE;
+    uint32_t seed = 7;
+
+    for (size_t i = 0; i < ROWS * BINS; i++)
+        magnitudes[i] = (float)(next(&seed) % 100);
+    for (size_t i = 0; i < 3 * BINS; i++)
+        patch[i] = (float)(next(&seed) % 100);
+    poison(flux, ROWS + 2), poison(threshold, ROWS + 2), poison(fresh_flux, ROWS + 2), poison(fresh_threshold, ROWS + 2), poison(work, 23);
+    CHECK(ph_spectral_flux(magnitudes, ROWS * BINS, ROWS, BINS, flux, ROWS + 2) == 0);
+    CHECK(ph_adaptive_threshold(flux, ROWS, threshold, ROWS + 2, work, 23) == 0);
+
+    memcpy(before, magnitudes, sizeof magnitudes);
+    memcpy(fresh_flux, flux, sizeof flux);
+    memcpy(fresh_threshold, threshold, sizeof threshold);
+    poison(work, 23);
+    CHECK(ph_patch_magnitudes(magnitudes, ROWS * BINS, ROWS, BINS, ROWS + 1, patch, 0, flux, ROWS + 2, threshold, ROWS + 2, work, 23, &a, &b, &c, &d) == 1);
+    CHECK(ph_patch_magnitudes(magnitudes, ROWS * BINS, ROWS, BINS, 28, patch, 6, flux, ROWS + 2, threshold, ROWS + 2, work, 23, &a, &b, &c, &d) == 2);
+    CHECK(ph_patch_magnitudes(magnitudes, ROWS * BINS, ROWS, BINS, 10, patch, 6, flux, ROWS + 2, threshold, ROWS - 1, work, 23, &a, &b, &c, &d) == 3);
+    CHECK(a == POISON_SIZE && b == POISON_SIZE && c == POISON_SIZE && d == POISON_SIZE && kept(work, 0, 23));
+    CHECK(ph_patch_magnitudes(magnitudes, ROWS * BINS, ROWS, BINS, 10, patch, 0, flux, ROWS + 2, threshold, ROWS + 2, work, 23, &a, &b, &c, &d) == 0);
+    CHECK(a == 0 && b == 0 && c == 0 && d == 0 && kept(work, 0, 23));
+    CHECK(same(before, magnitudes, sizeof magnitudes) && same(fresh_flux, flux, sizeof flux) && same(fresh_threshold, threshold, sizeof threshold));
+
+    CHECK(ph_patch_magnitudes(magnitudes, ROWS * BINS, ROWS, BINS, 10, patch, 6, flux, ROWS + 2, threshold, ROWS + 2, work, 23, &a, &b, &c, &d) == 0);
+    CHECK(a == 10 && b == 14 && c == 0 && d == 24 && kept(work, 21, 23));
+    memcpy(before + 10 * BINS, patch, sizeof patch);
+    CHECK(same(before, magnitudes, sizeof magnitudes));
+    CHECK(ph_spectral_flux(magnitudes, ROWS * BINS, ROWS, BINS, fresh_flux, ROWS + 2) == 0);
+    CHECK(ph_adaptive_threshold(fresh_flux, ROWS, fresh_threshold, ROWS + 2, work, 23) == 0);
+    CHECK(same(fresh_flux, flux, sizeof flux) && same(fresh_threshold, threshold, sizeof threshold));
+}
+
+static void feature_patches(struct run *run)
+{
+    enum { ROWS = 40, WIDTH = 16, PAIRS = 17 * ROWS };
+    double features[ROWS * WIDTH], before[ROWS * WIDTH], patch[2 * WIDTH];
+    double similarity[PAIRS + 2], novelty[ROWS + 2], fresh_similarity[PAIRS + 2], fresh_novelty[ROWS + 2];
+    size_t a = POISON_SIZE, b = POISON_SIZE, c = POISON_SIZE, d = POISON_SIZE;
+    uint32_t seed = 11;
+
+    for (size_t i = 0; i < ROWS * WIDTH; i++)
+        features[i] = (double)(next(&seed) % 100) - 50.0;
+    for (size_t i = 0; i < 2 * WIDTH; i++)
+        patch[i] = (double)(next(&seed) % 100) - 50.0;
+    poison(similarity, PAIRS + 2), poison(novelty, ROWS + 2);
+    CHECK(ph_similarity(features, ROWS * WIDTH, ROWS, similarity, PAIRS + 2) == 0);
+    CHECK(ph_novelty(similarity, PAIRS, ROWS, novelty, ROWS + 2) == 0);
+
+    memcpy(before, features, sizeof features);
+    memcpy(fresh_similarity, similarity, sizeof similarity);
+    memcpy(fresh_novelty, novelty, sizeof novelty);
+    CHECK(ph_patch_features(features, ROWS * WIDTH, ROWS, 20, patch, 17, similarity, PAIRS + 2, novelty, ROWS + 2, &a, &b, &c, &d) == 2);
+    CHECK(ph_patch_features(features, ROWS * WIDTH, ROWS, 20, patch, 32, similarity, PAIRS - 1, novelty, ROWS + 2, &a, &b, &c, &d) == 3);
+    CHECK(a == POISON_SIZE && b == POISON_SIZE && c == POISON_SIZE && d == POISON_SIZE);
+    CHECK(same(before, features, sizeof features) && same(fresh_similarity, similarity, sizeof similarity) && same(fresh_novelty, novelty, sizeof novelty));
+
+    CHECK(ph_patch_features(features, ROWS * WIDTH, ROWS, 20, patch, 32, similarity, PAIRS + 2, novelty, ROWS + 2, &a, &b, &c, &d) == 0);
+    CHECK(a == 4 * 17 + 16 && b == 22 * 17 && c == 13 && d == 30);
+    memcpy(before + 20 * WIDTH, patch, sizeof patch);
+    CHECK(same(before, features, sizeof features));
+    CHECK(ph_similarity(features, ROWS * WIDTH, ROWS, fresh_similarity, PAIRS + 2) == 0);
+    CHECK(ph_novelty(fresh_similarity, PAIRS, ROWS, fresh_novelty, ROWS + 2) == 0);
+    CHECK(same(fresh_similarity, similarity, sizeof similarity) && same(fresh_novelty, novelty, sizeof novelty));
+}
+
+static void *all(void *given)
+{
+    struct run *run = given;
+
+    for (int turn = 0; turn < 50; turn++) {
+        medians(run);
+        onsets(run);
+        close_peaks(run);
+        lags(run);
+        tempo(run);
+        beats(run);
+        bars(run);
+        sections(run);
+        row_patches(run);
+        feature_patches(run);
+    }
+    return NULL;
+}
+
+int main(void)
+{
+    struct run runs[THREADS];
+    long passed = 0;
+
+    for (int i = 0; i < THREADS; i++) {
+        runs[i].passed = 0;
+        if (pthread_create(&runs[i].thread, NULL, all, &runs[i]) != 0) {
+            fprintf(stderr, "tests/c/calls.c: no thread\n");
+            return 2;
+        }
+    }
+    for (int i = 0; i < THREADS; i++) {
+        pthread_join(runs[i].thread, NULL);
+        passed += runs[i].passed;
+    }
+    printf("%ld checks passed, in %d threads\n", passed, THREADS);
+    return 0;
+}
