@@ -1,0 +1,880 @@
+//! The exported functions: how each is called, what it is fed, and which slots an answer may have changed.
+use crate::lend::{cell, changed, input, output, whole, After, Arg, Word};
+use crate::numbers::*;
+use prohunsev::limits::*;
+use prohunsev::{lag_range, rooms, TempoOpts};
+use std::ops::Range;
+
+extern "C" {
+    fn ph_median_of(values: *const f64, n: usize, work: *mut f64, room: usize, median: *mut f64) -> u32;
+    fn ph_mad_of(values: *const f64, n: usize, median: f64, work: *mut f64, room: usize, mad: *mut f64) -> u32;
+    #[rustfmt::skip]
+    fn ph_spectral_flux(magnitudes: *const f32, n: usize, rows: usize, bins: usize, flux: *mut f64, room: usize)
+        -> u32;
+    #[rustfmt::skip]
+    fn ph_adaptive_threshold(
+        flux: *const f64,
+        n: usize,
+        threshold: *mut f64,
+        room: usize,
+        work: *mut f64,
+        w: usize,
+    ) -> u32;
+    #[rustfmt::skip]
+    fn ph_pick_onsets(
+        flux: *const f64,
+        n: usize,
+        threshold: *const f64,
+        m: usize,
+        rate: u32,
+        frames: *mut u32,
+        room: usize,
+        count: *mut usize,
+    ) -> u32;
+    #[rustfmt::skip]
+    fn ph_suppress_close_peaks(
+        peaks: *const u32,
+        n: usize,
+        curve: *const f64,
+        m: usize,
+        gap: usize,
+        frames: *mut u32,
+        room: usize,
+        count: *mut usize,
+    ) -> u32;
+    fn ph_frame_times(frames: *const u32, n: usize, rate: u32, ms: *mut f64, room: usize) -> u32;
+    fn ph_lag_range(rate: u32, min_bpm: f64, max_bpm: f64, min_lag: *mut usize, max_lag: *mut usize) -> u32;
+    #[rustfmt::skip]
+    fn ph_estimate(
+        envelope: *const f64,
+        n: usize,
+        onsets: usize,
+        rate: u32,
+        min_bpm: f64,
+        max_bpm: f64,
+        clarities: *mut f64,
+        c: usize,
+        weights: *mut f64,
+        w: usize,
+        work: *mut f64,
+        room: usize,
+        found: *mut u32,
+        bpm: *mut f64,
+        clarity: *mut f64,
+        lags: *mut usize,
+        saliences: *mut f64,
+        count: *mut usize,
+    ) -> u32;
+    #[rustfmt::skip]
+    fn ph_stability_of(
+        envelope: *const f64,
+        n: usize,
+        rate: u32,
+        min_bpm: f64,
+        max_bpm: f64,
+        whole_lag: usize,
+        clarities: *mut f64,
+        c: usize,
+        weights: *mut f64,
+        w: usize,
+        work: *mut f64,
+        room: usize,
+        found: *mut u32,
+        fraction: *mut f64,
+        agreeing: *mut usize,
+        windows: *mut usize,
+    ) -> u32;
+    #[rustfmt::skip]
+    fn ph_beat_grid(
+        envelope: *const f64,
+        n: usize,
+        period: usize,
+        score: *mut f64,
+        s: usize,
+        back: *mut u32,
+        b: usize,
+        beats: *mut u32,
+        room: usize,
+        count: *mut usize,
+    ) -> u32;
+    #[rustfmt::skip]
+    fn ph_downbeats(
+        envelope: *const f64,
+        n: usize,
+        beats: *const u32,
+        m: usize,
+        frames: *mut u32,
+        room: usize,
+        count: *mut usize,
+    ) -> u32;
+    #[rustfmt::skip]
+    fn ph_bar_beat_at(
+        time: f64,
+        downbeats: *const f64,
+        n: usize,
+        beats: *const f64,
+        m: usize,
+        found: *mut u32,
+        bar: *mut usize,
+        beat: *mut usize,
+    ) -> u32;
+    fn ph_similarity(features: *const f64, n: usize, rows: usize, similarity: *mut f64, room: usize) -> u32;
+    fn ph_novelty(similarity: *const f64, n: usize, rows: usize, novelty: *mut f64, room: usize) -> u32;
+    #[rustfmt::skip]
+    fn ph_boundaries(
+        novelty: *const f64,
+        n: usize,
+        length: u64,
+        rate: u32,
+        max_sections: usize,
+        rows: *mut u32,
+        room: usize,
+        work: *mut f64,
+        w: usize,
+        sections: *mut usize,
+        count: *mut usize,
+        confidence: *mut f64,
+    ) -> u32;
+    fn ph_boundary_times(rows: *const u32, n: usize, length: u64, rate: u32, ms: *mut f64, room: usize) -> u32;
+    #[rustfmt::skip]
+    fn ph_patch_magnitudes(
+        magnitudes: *mut f32,
+        n: usize,
+        rows: usize,
+        bins: usize,
+        start: usize,
+        new_rows: *const f32,
+        m: usize,
+        flux: *mut f64,
+        f: usize,
+        threshold: *mut f64,
+        t: usize,
+        work: *mut f64,
+        w: usize,
+        flux_first: *mut usize,
+        flux_past: *mut usize,
+        threshold_first: *mut usize,
+        threshold_past: *mut usize,
+    ) -> u32;
+    #[rustfmt::skip]
+    fn ph_patch_features(
+        features: *mut f64,
+        n: usize,
+        rows: usize,
+        start: usize,
+        new_rows: *const f64,
+        m: usize,
+        similarity: *mut f64,
+        s: usize,
+        novelty: *mut f64,
+        v: usize,
+        similarity_first: *mut usize,
+        similarity_past: *mut usize,
+        novelty_first: *mut usize,
+        novelty_past: *mut usize,
+    ) -> u32;
+}
+
+/// Ranges of slots by argument, or what is wrong with an answer.
+pub type Reach = Result<Vec<(usize, Range<usize>)>, String>;
+
+/// An exported function and how it is tried.
+pub struct Call {
+    pub name: &'static str,
+    pub function: fn(&[Word]) -> u32,
+    /// Draws its arguments.
+    pub draw: fn(&mut Numbers) -> Vec<Arg>,
+    /// Its arguments at the bounds, the number so-and-so of them; None past the last.
+    pub bound: fn(&mut Numbers, u64) -> Option<Vec<Arg>>,
+    /// Which slots of each lent argument an answer may have changed, by argument; or what is wrong with the answer.
+    pub reach: fn(&[Arg], &After) -> Reach,
+}
+
+// how an exported function is handed its words, by the kind of each: s a slice, p a lent number, n size, u u32, l u64, f float
+macro_rules! hand {
+    ($function:ident, $($word:tt)*) => {
+        |w: &[Word]| {
+            let mut k = 0;
+            let mut next = || {
+                k += 1;
+                w[k - 1]
+            };
+            // SAFETY: the words are the arguments that the header declares, each slice mapped as far as its length says; that the function
+            // stays inside is what is tried here
+            hand!(@ $function next [] $($word)*)
+        }
+    };
+    (@ $f:ident $next:ident [$($done:expr,)*]) => { unsafe { $f($($done),*) } };
+    (@ $f:ident $next:ident [$($done:expr,)*] s $($rest:tt)*) => {{
+        let slice = $next();
+        hand!(@ $f $next [$($done,)* slice.at(), slice.slots(),] $($rest)*)
+    }};
+    (@ $f:ident $next:ident [$($done:expr,)*] p $($rest:tt)*) => {{
+        let at = $next().at();
+        hand!(@ $f $next [$($done,)* at,] $($rest)*)
+    }};
+    (@ $f:ident $next:ident [$($done:expr,)*] n $($rest:tt)*) => {{
+        let n = $next().size();
+        hand!(@ $f $next [$($done,)* n,] $($rest)*)
+    }};
+    (@ $f:ident $next:ident [$($done:expr,)*] u $($rest:tt)*) => {{
+        let n = $next().small();
+        hand!(@ $f $next [$($done,)* n,] $($rest)*)
+    }};
+    (@ $f:ident $next:ident [$($done:expr,)*] l $($rest:tt)*) => {{
+        let n = $next().long();
+        hand!(@ $f $next [$($done,)* n,] $($rest)*)
+    }};
+    (@ $f:ident $next:ident [$($done:expr,)*] f $($rest:tt)*) => {{
+        let x = $next().real();
+        hand!(@ $f $next [$($done,)* x,] $($rest)*)
+    }};
+}
+
+macro_rules! call {
+    ($name:ident, $function:ident, $module:ident, $($word:tt)*) => {
+        Call {
+            name: stringify!($name),
+            function: hand!($function, $($word)*),
+            draw: $module::draw,
+            bound: $module::bound,
+            reach: $module::reach,
+        }
+    };
+}
+
+pub const CALLS: [Call; 19] = [
+    call!(median_of, ph_median_of, median, s s p),
+    call!(mad_of, ph_mad_of, mad, s f s p),
+    call!(spectral_flux, ph_spectral_flux, flux, s n n s),
+    call!(adaptive_threshold, ph_adaptive_threshold, threshold, s s s),
+    call!(pick_onsets, ph_pick_onsets, onsets, s s u s p),
+    call!(suppress_close_peaks, ph_suppress_close_peaks, peaks, s s n s p),
+    call!(frame_times, ph_frame_times, times, s u s),
+    call!(lag_range, ph_lag_range, lags, u f f p p),
+    call!(estimate, ph_estimate, tempo, s n u f f s s s p p p p p p),
+    call!(stability_of, ph_stability_of, stability, s u f f n s s s p p p p),
+    call!(beat_grid, ph_beat_grid, grid, s n s s s p),
+    call!(downbeats, ph_downbeats, bars, s s s p),
+    call!(bar_beat_at, ph_bar_beat_at, places, f s s p p p),
+    call!(similarity, ph_similarity, similarity, s n s),
+    call!(novelty, ph_novelty, novelty, s n s),
+    call!(boundaries, ph_boundaries, sections, s l u n s s p p p),
+    call!(boundary_times, ph_boundary_times, section_times, s l u s),
+    call!(patch_magnitudes, ph_patch_magnitudes, magnitudes, s n n n s s s s p p p p),
+    call!(patch_features, ph_patch_features, features, s n n s s s p p p p),
+];
+
+// ---- what the calls' arguments have in common
+
+fn slots(arg: &Arg) -> usize {
+    match arg {
+        Arg::Lent { bytes, slot, .. } => bytes.len() / slot,
+        _ => unreachable!("a number has no slots"),
+    }
+}
+fn number(arg: &Arg) -> usize {
+    match arg {
+        Arg::Whole(n) => *n as usize,
+        _ => unreachable!("no whole number"),
+    }
+}
+fn real(arg: &Arg) -> f64 {
+    match arg {
+        Arg::Real(x) => *x,
+        _ => unreachable!("no float"),
+    }
+}
+// lent numbers
+const SMALL: usize = 4;
+const WIDE: usize = 8;
+fn all(k: usize) -> (usize, Range<usize>) {
+    (k, 0..1)
+}
+fn must(fine: bool, what: &str) -> Result<(), String> {
+    if fine {
+        Ok(())
+    } else {
+        Err(what.into())
+    }
+}
+// a count of at most so many
+fn counted(after: &After, k: usize, most: usize) -> Result<usize, String> {
+    let count = after.whole(k);
+    must(count <= most, "counts more entries than there can be")?;
+    Ok(count)
+}
+fn ascend(frames: &[u32], below: usize) -> Result<(), String> {
+    must(frames.windows(2).all(|w| w[0] < w[1]), "the list doesn't ascend")?;
+    must(frames.last().is_none_or(|&f| (f as usize) < below), "the list points past the curve")
+}
+// a frame, now and then one that no call accepts
+fn frame(r: &mut Numbers, below: usize) -> u32 {
+    if r.once_in(400) {
+        return r.one_of(&[MOST_FRAME, MOST_FRAME + 1, u32::MAX, 1 << 31]);
+    }
+    r.between(0, below.max(1) - 1) as u32
+}
+// fine values at a bound
+fn steady(n: usize) -> Vec<f64> {
+    (0..n).map(|t| (t % 11) as f64 + if t % 64 == 3 { 9.0 } else { 0.0 }).collect()
+}
+// lengths at the bound, just past it, and just before it
+fn around(k: u64, most: usize) -> Option<usize> {
+    [most, most + 1, most - 1].get(k as usize).copied()
+}
+
+mod median {
+    use super::*;
+    pub fn draw(r: &mut Numbers) -> Vec<Arg> {
+        let n = length(r);
+        vec![input(&values::<f64>(r, n)), output::<f64>(room(r, n)), cell(WIDE)]
+    }
+    pub fn bound(_: &mut Numbers, k: u64) -> Option<Vec<Arg>> {
+        let n = *[1 << 20, (1 << 20) + 1].get(k as usize)?;
+        Some(vec![input(&steady(n)), output::<f64>(n), cell(WIDE)])
+    }
+    pub fn reach(a: &[Arg], _: &After) -> Reach {
+        Ok(vec![(1, 0..slots(&a[0])), all(2)])
+    }
+}
+
+mod mad {
+    use super::*;
+    pub fn draw(r: &mut Numbers) -> Vec<Arg> {
+        let n = length(r);
+        let median = values::<f64>(r, 1)[0];
+        vec![input(&values::<f64>(r, n)), Arg::Real(median), output::<f64>(room(r, n)), cell(WIDE)]
+    }
+    pub fn bound(_: &mut Numbers, k: u64) -> Option<Vec<Arg>> {
+        let n = *[1 << 20, (1 << 20) + 1].get(k as usize)?;
+        Some(vec![input(&steady(n)), Arg::Real(5.0), output::<f64>(n), cell(WIDE)])
+    }
+    pub fn reach(a: &[Arg], _: &After) -> Reach {
+        Ok(vec![(2, 0..slots(&a[0])), all(3)])
+    }
+}
+
+mod flux {
+    use super::*;
+    pub fn draw(r: &mut Numbers) -> Vec<Arg> {
+        let (bins, rows) = (r.one_of(&[1, 1, 2, 3, 4, 5, 7, 8, 33]), length(r).min(300));
+        let mut slab = values::<f32>(r, rows * bins);
+        if r.once_in(30) {
+            slab.truncate(r.between(0, slab.len()));
+        }
+        vec![input(&slab), whole(count(r, rows)), whole(count(r, bins)), output::<f64>(room(r, rows))]
+    }
+    pub fn bound(_: &mut Numbers, k: u64) -> Option<Vec<Arg>> {
+        let shapes = [(MOST_ROWS, 1), (MOST_ROWS + 1, 1), (256, MOST_BINS), (256, MOST_BINS + 1), (MOST_ROWS - 1, 3)];
+        let (rows, bins) = *shapes.get(k as usize)?;
+        let slab: Vec<f32> = (0..rows * bins).map(|i| (i % 13) as f32).collect();
+        Some(vec![input(&slab), whole(rows), whole(bins), output::<f64>(rows)])
+    }
+    pub fn reach(a: &[Arg], _: &After) -> Reach {
+        Ok(vec![(3, 0..number(&a[1]))])
+    }
+}
+
+mod threshold {
+    use super::*;
+    pub fn draw(r: &mut Numbers) -> Vec<Arg> {
+        let n = length(r);
+        vec![input(&values::<f64>(r, n)), output::<f64>(room(r, n)), output::<f64>(room(r, n.min(21)))]
+    }
+    pub fn bound(_: &mut Numbers, k: u64) -> Option<Vec<Arg>> {
+        let n = around(k, MOST_ROWS)?;
+        Some(vec![input(&steady(n)), output::<f64>(n), output::<f64>(21)])
+    }
+    pub fn reach(a: &[Arg], _: &After) -> Reach {
+        let n = slots(&a[0]);
+        Ok(vec![(1, 0..n), (2, 0..n.min(21))])
+    }
+}
+
+mod onsets {
+    use super::*;
+    pub fn draw(r: &mut Numbers) -> Vec<Arg> {
+        let n = length(r);
+        let m = if r.once_in(30) { r.between(0, n + 1) } else { n };
+        let (flux, threshold) = (values::<f64>(r, n), values::<f64>(r, m));
+        vec![input(&flux), input(&threshold), whole(rate(r) as usize), output::<u32>(room(r, n)), cell(WIDE)]
+    }
+    pub fn bound(_: &mut Numbers, k: u64) -> Option<Vec<Arg>> {
+        let n = around(k, MOST_ROWS)?;
+        let threshold = vec![1.0; n];
+        Some(vec![input(&steady(n)), input(&threshold), whole(48_000), output::<u32>(n), cell(WIDE)])
+    }
+    pub fn reach(a: &[Arg], after: &After) -> Reach {
+        let n = slots(&a[0]);
+        let count = counted(after, 4, n)?;
+        ascend(&after.frames(3, count), n)?;
+        Ok(vec![(3, 0..count), all(4)])
+    }
+}
+
+mod peaks {
+    use super::*;
+    pub fn draw(r: &mut Numbers) -> Vec<Arg> {
+        let m = length(r);
+        let chance = r.between(1, 9) as u64;
+        let mut peaks: Vec<u32> = (0..m as u32).filter(|_| r.once_in(chance)).collect();
+        if r.once_in(10) && !peaks.is_empty() {
+            let k = r.between(0, peaks.len() - 1);
+            peaks[k] = frame(r, m + 2);
+        }
+        let gap = r.between(0, 20);
+        let gap = count(r, gap);
+        vec![input(&peaks), input(&values::<f64>(r, m)), whole(gap), output::<u32>(room(r, peaks.len())), cell(WIDE)]
+    }
+    pub fn bound(_: &mut Numbers, k: u64) -> Option<Vec<Arg>> {
+        let n = around(k, MOST_ROWS)?;
+        let peaks: Vec<u32> = (0..n as u32).collect();
+        Some(vec![input(&peaks), input(&steady(n)), whole(6), output::<u32>(n), cell(WIDE)])
+    }
+    pub fn reach(a: &[Arg], after: &After) -> Reach {
+        let count = counted(after, 4, slots(&a[0]))?;
+        ascend(&after.frames(3, count), slots(&a[1]))?;
+        Ok(vec![(3, 0..count), all(4)])
+    }
+}
+
+mod times {
+    use super::*;
+    pub fn draw(r: &mut Numbers) -> Vec<Arg> {
+        let n = length(r);
+        let frames: Vec<u32> = (0..n).map(|_| frame(r, 1 << 20)).collect();
+        vec![input(&frames), whole(rate(r) as usize), output::<f64>(room(r, n))]
+    }
+    pub fn bound(_: &mut Numbers, k: u64) -> Option<Vec<Arg>> {
+        let n = *[MOST_ROWS, 2 * MOST_ROWS + 1].get(k as usize)?;
+        Some(vec![input(&vec![MOST_FRAME; n]), whole(1), output::<f64>(n)])
+    }
+    pub fn reach(a: &[Arg], _: &After) -> Reach {
+        Ok(vec![(2, 0..slots(&a[0]))])
+    }
+}
+
+mod lags {
+    use super::*;
+    pub fn draw(r: &mut Numbers) -> Vec<Arg> {
+        vec![whole(rate(r) as usize), Arg::Real(bpm(r)), Arg::Real(bpm(r)), cell(WIDE), cell(WIDE)]
+    }
+    pub fn bound(_: &mut Numbers, _: u64) -> Option<Vec<Arg>> {
+        None
+    }
+    pub fn reach(_: &[Arg], after: &After) -> Reach {
+        let (least, most) = (after.whole(3), after.whole(4));
+        must(1 <= least && least < most && most <= MOST_PERIOD, "lags out of range")?;
+        Ok(vec![all(3), all(4)])
+    }
+}
+
+// a search's rate and bounds, with the room of its lag curves; 64 where it is refused. Few have many lags.
+fn search(r: &mut Numbers) -> (u32, f64, f64, usize) {
+    loop {
+        let (rate, low, high) = (rate(r), bpm(r), bpm(r));
+        let room = rooms::lags(rate, TempoOpts::between(low, high)).unwrap_or(64);
+        if room <= 600 || r.once_in(60) {
+            return (rate, low, high, room);
+        }
+    }
+}
+// an envelope, often long enough for the lags
+fn searched(r: &mut Numbers, room: usize) -> Vec<f64> {
+    let n = if r.once_in(3) { length(r) } else { (room * r.between(1, 5)).min(4_000) + r.between(0, 9) };
+    values::<f64>(r, n)
+}
+// rate and bounds with few lags and with the most, and envelopes at the bound and past it
+fn widest(k: u64) -> Option<(u32, f64, f64, usize)> {
+    let widest = [(1, 30.0, 300.0, MOST_ROWS), (1, 30.0, 300.0, MOST_ROWS + 1), (192_000, 1.0, 2.0, 45_003)];
+    widest.get(k as usize).copied()
+}
+
+mod tempo {
+    use super::*;
+    pub fn draw(r: &mut Numbers) -> Vec<Arg> {
+        let (rate, low, high, lags) = search(r);
+        let envelope = searched(r, lags);
+        let onsets = r.one_of(&[0, 1, 2, 3, 9, usize::MAX]);
+        call(rate, low, high, &envelope, onsets, [room(r, lags), room(r, lags), room(r, lags)])
+    }
+    pub fn bound(_: &mut Numbers, k: u64) -> Option<Vec<Arg>> {
+        let (rate, low, high, n) = widest(k)?;
+        let lags = rooms::lags(rate, TempoOpts::between(low, high)).unwrap();
+        Some(call(rate, low, high, &steady(n), 9, [lags; 3]))
+    }
+    fn call(rate: u32, low: f64, high: f64, envelope: &[f64], onsets: usize, rooms: [usize; 3]) -> Vec<Arg> {
+        let mut args = vec![input(envelope), whole(onsets), whole(rate as usize), Arg::Real(low), Arg::Real(high)];
+        args.extend(rooms.map(output::<f64>));
+        args.extend([SMALL, WIDE, WIDE, 3 * WIDE, 3 * WIDE, WIDE].map(cell));
+        args
+    }
+    pub fn reach(a: &[Arg], after: &After) -> Reach {
+        let opts = TempoOpts::between(real(&a[3]), real(&a[4]));
+        let range = lag_range(number(&a[2]) as u32, opts).map_err(|e| e.to_string())?;
+        let count = counted(after, 13, 3)?;
+        match after.whole(8) {
+            0 => must((9..=13).all(|k| after.zeros(k)), "no tempo, but values")?,
+            1 => {
+                must(count >= 1, "a tempo without a winner")?;
+                let lag = |k: usize| usize::from_ne_bytes(after.held[11][8 * k..8 * k + 8].try_into().unwrap());
+                must((0..count).all(|k| (range.min_lag..=range.max_lag).contains(&lag(k))), "a lag out of range")?;
+                must((count..3).all(|k| lag(k) == 0), "an unused candidate isn't zero")?
+            }
+            _ => return Err("found is neither 0 nor 1".into()),
+        }
+        // the work slice is asked for and left alone
+        let mut reach = vec![(5, 0..range.lags()), (6, 0..range.lags())];
+        reach.extend((8..=13).map(all));
+        Ok(reach)
+    }
+}
+
+mod stability {
+    use super::*;
+    pub fn draw(r: &mut Numbers) -> Vec<Arg> {
+        let (rate, low, high, lags) = search(r);
+        let envelope = searched(r, lags);
+        let right = r.between(0, 2 * lags + 40);
+        let lag = if r.once_in(10) { r.one_of(&[0, 45_000, 45_001, usize::MAX]) } else { right };
+        call(rate, low, high, &envelope, lag, [room(r, lags), room(r, lags), room(r, lags)])
+    }
+    pub fn bound(_: &mut Numbers, k: u64) -> Option<Vec<Arg>> {
+        let (rate, low, high, n) = widest(k)?;
+        let lags = rooms::lags(rate, TempoOpts::between(low, high)).unwrap();
+        Some(call(rate, low, high, &steady(n), 2, [lags; 3]))
+    }
+    fn call(rate: u32, low: f64, high: f64, envelope: &[f64], lag: usize, rooms: [usize; 3]) -> Vec<Arg> {
+        let mut args = vec![input(envelope), whole(rate as usize), Arg::Real(low), Arg::Real(high), whole(lag)];
+        args.extend(rooms.map(output::<f64>));
+        args.extend([SMALL, WIDE, WIDE, WIDE].map(cell));
+        args
+    }
+    pub fn reach(a: &[Arg], after: &After) -> Reach {
+        let opts = TempoOpts::between(real(&a[2]), real(&a[3]));
+        let lags = rooms::lags(number(&a[1]) as u32, opts).map_err(|e| e.to_string())?;
+        let (agreeing, windows) = (after.whole(10), after.whole(11));
+        match after.whole(8) {
+            0 => must((9..=11).all(|k| after.zeros(k)), "no stability, but values")?,
+            1 => must((2..=4).contains(&windows) && agreeing <= windows, "counts out of range")?,
+            _ => return Err("found is neither 0 nor 1".into()),
+        }
+        Ok((5..=7).map(|k| (k, 0..lags)).chain((8..=11).map(all)).collect())
+    }
+}
+
+mod grid {
+    use super::*;
+    pub fn draw(r: &mut Numbers) -> Vec<Arg> {
+        let n = length(r).min(600);
+        let near = r.between(0, n + 20);
+        let period = match r.between(0, 19) {
+            0 => r.one_of(&[0, 2_048, 2_049, 45_000, 45_001, usize::MAX, 1 << 63]),
+            1..=9 => r.between(1, 30),
+            _ => near,
+        };
+        call(&values::<f64>(r, n), period, [room(r, n), room(r, n), room(r, n)])
+    }
+    pub fn bound(_: &mut Numbers, k: u64) -> Option<Vec<Arg>> {
+        let (n, period) =
+            *[(MOST_ROWS, 2), (MOST_ROWS + 1, 2), (4_500, 45_000), (9_000, 2_048), (3_000, 2_049)].get(k as usize)?;
+        Some(call(&steady(n), period, [n; 3]))
+    }
+    fn call(envelope: &[f64], period: usize, rooms: [usize; 3]) -> Vec<Arg> {
+        let [score, back, beats] = rooms;
+        vec![
+            input(envelope),
+            whole(period),
+            output::<f64>(score),
+            output::<u32>(back),
+            output::<u32>(beats),
+            cell(WIDE),
+        ]
+    }
+    pub fn reach(a: &[Arg], after: &After) -> Reach {
+        let n = slots(&a[0]);
+        let count = counted(after, 5, n)?;
+        ascend(&after.frames(4, count), n)?;
+        let curves = if count == 0 { 0..0 } else { 0..n };
+        Ok(vec![(2, curves.clone()), (3, curves), (4, 0..count), all(5)])
+    }
+}
+
+mod bars {
+    use super::*;
+    pub fn draw(r: &mut Numbers) -> Vec<Arg> {
+        let (n, m) = (length(r), length(r));
+        let past = r.between(1, 2 * n + 1);
+        let beats: Vec<u32> = (0..m).map(|_| frame(r, past)).collect();
+        vec![input(&values::<f64>(r, n)), input(&beats), output::<u32>(room(r, m)), cell(WIDE)]
+    }
+    pub fn bound(_: &mut Numbers, k: u64) -> Option<Vec<Arg>> {
+        let n = around(k, MOST_ROWS)?;
+        let beats: Vec<u32> = (0..MOST_ROWS as u32).rev().collect();
+        Some(vec![input(&steady(n)), input(&beats), output::<u32>(beats.len()), cell(WIDE)])
+    }
+    pub fn reach(a: &[Arg], after: &After) -> Reach {
+        let count = counted(after, 3, slots(&a[1]).div_ceil(4))?;
+        Ok(vec![(2, 0..count), all(3)])
+    }
+}
+
+mod places {
+    use super::*;
+    pub fn draw(r: &mut Numbers) -> Vec<Arg> {
+        let (n, m) = (length(r), length(r));
+        let mut list = |n| {
+            let mut xs = values::<f64>(r, n);
+            if r.once_in(2) {
+                xs.sort_by(f64::total_cmp);
+            }
+            xs
+        };
+        let (downbeats, beats) = (list(n), list(m));
+        let time = if r.once_in(2) { values::<f64>(r, 1)[0] } else { r.one_of(&[&downbeats[..], &[0.5]].concat()) };
+        vec![Arg::Real(time), input(&downbeats), input(&beats), cell(SMALL), cell(WIDE), cell(WIDE)]
+    }
+    pub fn bound(_: &mut Numbers, k: u64) -> Option<Vec<Arg>> {
+        let n = *[1 << 20, (1 << 20) + 1].get(k as usize)?;
+        Some(vec![Arg::Real(8.0), input(&steady(n)), input(&steady(n)), cell(SMALL), cell(WIDE), cell(WIDE)])
+    }
+    pub fn reach(a: &[Arg], after: &After) -> Reach {
+        let (bar, beat) = (after.whole(4), after.whole(5));
+        match after.whole(3) {
+            0 => must(bar == 0 && beat == 0, "nowhere, but a bar")?,
+            1 => must(
+                1 <= bar && bar <= slots(&a[1]) && 1 <= beat && beat <= slots(&a[2]).max(1),
+                "no such bar or beat",
+            )?,
+            _ => return Err("found is neither 0 nor 1".into()),
+        }
+        Ok((3..=5).map(all).collect())
+    }
+}
+
+// rows of a track's features, few enough to be quick
+fn feature_rows(r: &mut Numbers) -> usize {
+    length(r).min(120)
+}
+
+mod similarity {
+    use super::*;
+    pub fn draw(r: &mut Numbers) -> Vec<Arg> {
+        let rows = feature_rows(r);
+        let mut slab = values::<f64>(r, rows * FEATURE_WIDTH);
+        if r.once_in(20) {
+            slab.truncate(r.between(0, slab.len()));
+        }
+        vec![input(&slab), whole(count(r, rows)), output::<f64>(room(r, rows * SIMILARITY_WIDTH))]
+    }
+    pub fn bound(_: &mut Numbers, k: u64) -> Option<Vec<Arg>> {
+        let rows = around(k, MOST_FEATURE_ROWS)?;
+        Some(vec![input(&steady(rows * FEATURE_WIDTH)), whole(rows), output::<f64>(rows * SIMILARITY_WIDTH)])
+    }
+    pub fn reach(a: &[Arg], _: &After) -> Reach {
+        Ok(vec![(2, 0..number(&a[1]) * SIMILARITY_WIDTH)])
+    }
+}
+
+mod novelty {
+    use super::*;
+    pub fn draw(r: &mut Numbers) -> Vec<Arg> {
+        let rows = feature_rows(r);
+        let mut band = values_up_to::<f64>(r, rows * SIMILARITY_WIDTH, 1.0);
+        if r.once_in(20) {
+            band.truncate(r.between(0, band.len()));
+        }
+        vec![input(&band), whole(count(r, rows)), output::<f64>(room(r, rows))]
+    }
+    pub fn bound(_: &mut Numbers, k: u64) -> Option<Vec<Arg>> {
+        let rows = around(k, MOST_FEATURE_ROWS)?;
+        let band: Vec<f64> = (0..rows * SIMILARITY_WIDTH).map(|i| (i % 5) as f64 / 4.0 - 0.5).collect();
+        Some(vec![input(&band), whole(rows), output::<f64>(rows)])
+    }
+    pub fn reach(a: &[Arg], _: &After) -> Reach {
+        Ok(vec![(2, 0..number(&a[1]))])
+    }
+}
+
+// samples of a feature row
+fn row_length(r: &mut Numbers) -> u64 {
+    match r.between(0, 9) {
+        0 => r.one_of(&[0, 1, 1 << 31, (1 << 31) + 1, u64::MAX, 1 << 32, (1 << 32) + 48_000]),
+        1..=4 => r.between(1, 200_000) as u64,
+        _ => r.one_of(&[24_000, 48_000, 22_050]),
+    }
+}
+
+mod sections {
+    use super::*;
+    pub fn draw(r: &mut Numbers) -> Vec<Arg> {
+        let n = length(r);
+        let most = r.one_of(&[0, 1, 2, 3, 8, 1000, usize::MAX]);
+        let curve = values::<f64>(r, n);
+        call(&curve, row_length(r), rate(r), most, [room(r, n), room(r, n)])
+    }
+    pub fn bound(_: &mut Numbers, k: u64) -> Option<Vec<Arg>> {
+        let n = around(k, MOST_FEATURE_ROWS)?;
+        Some(call(&steady(n), 4_800, 48_000, 40, [n; 2]))
+    }
+    fn call(curve: &[f64], length: u64, rate: u32, most: usize, rooms: [usize; 2]) -> Vec<Arg> {
+        let [rows, work] = rooms;
+        let mut args = vec![input(curve), Arg::Whole(length), whole(rate as usize), whole(most)];
+        args.extend([output::<u32>(rows), output::<f64>(work), cell(WIDE), cell(WIDE), cell(WIDE)]);
+        args
+    }
+    pub fn reach(a: &[Arg], after: &After) -> Reach {
+        let n = slots(&a[0]);
+        let count = counted(after, 7, n.min(number(&a[3]).max(1) - 1))?;
+        must(after.whole(6) == if n == 0 { 0 } else { count + 1 }, "sections aren't boundaries and one")?;
+        ascend(&after.frames(4, count), n)?;
+        Ok(vec![(4, 0..count), (5, 0..n), all(6), all(7), all(8)])
+    }
+}
+
+mod section_times {
+    use super::*;
+    pub fn draw(r: &mut Numbers) -> Vec<Arg> {
+        let n = length(r);
+        let mut rows: Vec<u32> = (0..n).map(|_| r.between(0, MOST_FEATURE_ROWS - 1) as u32).collect();
+        if n > 0 && r.once_in(10) {
+            let k = r.between(0, n - 1);
+            rows[k] = r.one_of(&[49_999, 50_000, u32::MAX]);
+        }
+        vec![input(&rows), Arg::Whole(row_length(r)), whole(rate(r) as usize), output::<f64>(room(r, n))]
+    }
+    pub fn bound(_: &mut Numbers, k: u64) -> Option<Vec<Arg>> {
+        let n = *[MOST_FEATURE_ROWS, 1 << 20].get(k as usize)?;
+        Some(vec![input(&vec![49_999_u32; n]), Arg::Whole(1 << 31), whole(1), output::<f64>(n)])
+    }
+    pub fn reach(a: &[Arg], _: &After) -> Reach {
+        Ok(vec![(3, 0..slots(&a[0]))])
+    }
+}
+
+// the rows that a patch replaces: at both ends, in the middle, none, and now and then too many
+fn replaced(r: &mut Numbers, rows: usize) -> (usize, usize) {
+    let start = match r.between(0, 5) {
+        0 => 0,
+        1 => rows,
+        2 => rows.saturating_sub(1),
+        _ => r.between(0, rows),
+    };
+    let new = r.between(0, rows - start);
+    (start, if r.once_in(20) { new + r.between(1, 3) } else { new })
+}
+// the slots from `before` a patch's first row to `after` its last, cut at the ends
+fn mended(start: usize, new: usize, rows: usize, before: usize, after: usize) -> Range<usize> {
+    if new == 0 {
+        0..0
+    } else {
+        start.saturating_sub(before)..(start + new + after).min(rows)
+    }
+}
+fn named(after: &After, k: usize) -> Range<usize> {
+    after.whole(k)..after.whole(k + 1)
+}
+
+mod magnitudes {
+    use super::*;
+    pub fn draw(r: &mut Numbers) -> Vec<Arg> {
+        let (bins, rows) = (r.one_of(&[1, 1, 2, 3, 4, 5, 8]), length(r).min(200));
+        let (start, new) = replaced(r, rows);
+        let mut patch = values::<f32>(r, new * bins);
+        if r.once_in(20) {
+            patch.truncate(r.between(0, patch.len()));
+        }
+        let (slab, flux, threshold) = (values::<f32>(r, rows * bins), values::<f64>(r, rows), values::<f64>(r, rows));
+        let rooms = [room(r, rows), room(r, rows), room(r, rows.min(21))];
+        call(&slab, [count(r, rows), count(r, bins), count(r, start)], &patch, flux, threshold, rooms)
+    }
+    pub fn bound(_: &mut Numbers, k: u64) -> Option<Vec<Arg>> {
+        let all = MOST_ROWS;
+        let patches =
+            [(all, 0, 9), (all, all - 9, 9), (all, all, 0), (all, 0, all), (all + 1, 0, 9), (all, 500_000, 1_000)];
+        let (rows, start, new) = *patches.get(k as usize)?;
+        let slab: Vec<f32> = (0..rows).map(|i| (i % 7) as f32).collect();
+        let curve = steady(rows);
+        Some(call(&slab, [rows, 1, start], &vec![9.0; new], curve.clone(), curve, [rows, rows, 21]))
+    }
+    fn call(
+        slab: &[f32],
+        told: [usize; 3],
+        patch: &[f32],
+        mut flux: Vec<f64>,
+        mut threshold: Vec<f64>,
+        rooms: [usize; 3],
+    ) -> Vec<Arg> {
+        let [flux_room, threshold_room, work] = rooms;
+        // slots past the formula are not read: they hold what no call accepts
+        flux.resize(flux_room, f64::NAN);
+        threshold.resize(threshold_room, f64::NAN);
+        let mut args = vec![changed(slab), whole(told[0]), whole(told[1]), whole(told[2]), input(patch)];
+        args.extend([changed(&flux), changed(&threshold), output::<f64>(work)]);
+        args.extend([WIDE; 4].map(cell));
+        args
+    }
+    pub fn reach(a: &[Arg], after: &After) -> Reach {
+        let (rows, bins, start) = (number(&a[1]), number(&a[2]), number(&a[3]));
+        let new = slots(&a[4]) / bins;
+        let (flux, threshold) = (mended(start, new, rows, 0, 1), mended(start, new, rows, 10, 11));
+        must(named(after, 8) == flux && named(after, 10) == threshold, "names other slots than those that follow")?;
+        let work = if new == 0 { 0 } else { rows.min(21) };
+        let mut reach = vec![(0, start * bins..(start + new) * bins), (5, flux), (6, threshold), (7, 0..work)];
+        reach.extend((8..=11).map(all));
+        Ok(reach)
+    }
+}
+
+mod features {
+    use super::*;
+    pub fn draw(r: &mut Numbers) -> Vec<Arg> {
+        let rows = feature_rows(r);
+        let (start, new) = replaced(r, rows);
+        let mut patch = values::<f64>(r, new * FEATURE_WIDTH);
+        if r.once_in(20) {
+            patch.truncate(r.between(0, patch.len()));
+        }
+        let slab = values::<f64>(r, rows * FEATURE_WIDTH);
+        let (band, curve) = (values_up_to::<f64>(r, rows * SIMILARITY_WIDTH, 1.0), values::<f64>(r, rows));
+        let rooms = [room(r, rows * SIMILARITY_WIDTH), room(r, rows)];
+        call(&slab, [count(r, rows), count(r, start)], &patch, band, curve, rooms)
+    }
+    pub fn bound(_: &mut Numbers, k: u64) -> Option<Vec<Arg>> {
+        let all = MOST_FEATURE_ROWS;
+        let patches =
+            [(all, 0, 9), (all, all - 9, 9), (all, all, 0), (all, 0, all), (all + 1, 0, 9), (all, 25_000, 40)];
+        let (rows, start, new) = *patches.get(k as usize)?;
+        let band = vec![0.25; rows * SIMILARITY_WIDTH];
+        let (slab, patch) = (steady(rows * FEATURE_WIDTH), steady(new * FEATURE_WIDTH));
+        Some(call(&slab, [rows, start], &patch, band, steady(rows), [rows * SIMILARITY_WIDTH, rows]))
+    }
+    fn call(
+        slab: &[f64],
+        told: [usize; 2],
+        patch: &[f64],
+        mut band: Vec<f64>,
+        mut curve: Vec<f64>,
+        rooms: [usize; 2],
+    ) -> Vec<Arg> {
+        band.resize(rooms[0], f64::NAN);
+        curve.resize(rooms[1], f64::NAN);
+        let mut args =
+            vec![changed(slab), whole(told[0]), whole(told[1]), input(patch), changed(&band), changed(&curve)];
+        args.extend([WIDE; 4].map(cell));
+        args
+    }
+    pub fn reach(a: &[Arg], after: &After) -> Reach {
+        let (rows, start) = (number(&a[1]), number(&a[2]));
+        let new = slots(&a[3]) / FEATURE_WIDTH;
+        let curve = mended(start, new, rows, 7, 8);
+        // from the pair of the first row that reaches the patch with the patch's first row, to the end of the patch's last row
+        let first = start.saturating_sub(16);
+        let band = if new == 0 { 0..0 } else { first * 17 + (start - first)..(start + new) * 17 };
+        must(named(after, 6) == band && named(after, 8) == curve, "names other slots than those that follow")?;
+        let mut reach = vec![(0, start * FEATURE_WIDTH..(start + new) * FEATURE_WIDTH), (4, band), (5, curve)];
+        reach.extend((6..=9).map(all));
+        Ok(reach)
+    }
+}

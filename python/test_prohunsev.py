@@ -1,0 +1,446 @@
+"""Tests of prohunsev.py, with the standard library alone; those that need NumPy are skipped where it isn't installed."""
+import concurrent.futures
+import contextlib
+import ctypes
+import io
+import math
+import os
+import pathlib
+import random
+import re
+import subprocess
+import sys
+import unittest
+import unittest.mock
+from array import array
+
+import prohunsev as ph
+
+try:
+    import numpy
+except ImportError:
+    numpy = None
+
+RATE = 48_000
+OPTS = ph.TempoOpts()
+# what slots hold before a call
+WAS, WAS_FRAME = -7.5, 77
+TOO_LARGE = 2.0 ** 151
+
+
+def reals(*values):
+    return array("d", values)
+
+
+def singles(*values):
+    return array("f", values)
+
+
+def frames(*values):
+    return array("I", values)
+
+
+def room(slots):
+    return array("d", [WAS]) * slots
+
+
+def frame_room(slots):
+    return array("I", [WAS_FRAME]) * slots
+
+
+def pulses(n, period=94):
+    return array("d", [(t % 7) * 0.01 + (2.0 if t % period == 5 else 0.0) for t in range(n)])
+
+
+class Marked(unittest.TestCase):
+    """Document 01's marked numbers."""
+
+    def test_m1_the_upper_middle(self):
+        self.assertEqual(ph.median_of(reals(1, 2, 3, 4), room(4)), 3.0)
+
+    def suppressed(self, peaks, heights):
+        curve = array("d", [0.0]) * (peaks[-1] + 1)
+        for p, h in zip(peaks, heights):
+            curve[p] = h
+        out = frame_room(len(peaks))
+        return list(out[:ph.suppress_close_peaks(peaks, curve, 6, out)])
+
+    def test_m2_to_m4_close_peaks(self):
+        self.assertEqual(self.suppressed(frames(10, 16), [5, 5]), [10])
+        self.assertEqual(self.suppressed(frames(10, 17), [5, 5]), [10, 17])
+        self.assertEqual(self.suppressed(frames(10, 16, 22), [5, 6, 7]), [22])
+
+    def test_m5_to_m8_lags(self):
+        self.assertEqual(ph.lag_range(RATE), (38, 375))
+        self.assertEqual(ph.lag_range(RATE).lags, 338)
+        self.assertEqual(ph.lag_range(RATE, ph.TempoOpts(200, 100)), (56, 113))
+        self.assertEqual(ph.lag_range(RATE, ph.TempoOpts(0, 0)), (5_625, 11_250))
+        self.assertEqual(ph.lag_range(1), (1, 2))
+
+    def test_m11_and_m12_grids(self):
+        envelope, score, back, beats = reals(0, 4, 0, 4, 0, 4), room(6), frame_room(6), frame_room(6)
+        count = ph.beat_grid(envelope, 2, score, back, beats)
+        self.assertEqual(list(beats), [1, 3, 5] + 3 * [WAS_FRAME])
+        self.assertEqual((back[1], back[3]), (ph.NO_LINK, 1))
+        downs = frame_room(3)
+        self.assertEqual((ph.downbeats(envelope, beats[:count], downs), downs[0]), (1, 1))
+        self.assertEqual(ph.beat_grid(reals(4, 4, 4, 4), 2, score, back, beats), 0)
+
+
+class Calls(unittest.TestCase):
+    """Each call, answered."""
+
+    def test_medians(self):
+        self.assertEqual(ph.mad_of(reals(1, 2, 3, 9, 2), 2.0, room(5)), 1.0)
+
+    def test_onsets(self):
+        flux, threshold, out = room(4), room(4), frame_room(4)
+        ph.spectral_flux(singles(0, 0, 5, 0), 4, 1, flux)
+        self.assertEqual(list(flux), [0, 0, 5, 0])
+        ph.adaptive_threshold(flux, threshold, room(ph.threshold_room(4)))
+        self.assertEqual(list(threshold), [0.000001] * 4)
+        count = ph.pick_onsets(flux, threshold, RATE, out)
+        self.assertEqual(list(out), [2] + 3 * [WAS_FRAME])
+        ms = room(2)
+        ph.frame_times(out[:count], 1_000, ms)
+        self.assertEqual(list(ms), [1024.0, WAS])
+
+    def test_tempo(self):
+        envelope, curves = pulses(2_000), [room(338) for _ in range(3)]
+        found = ph.estimate(envelope, 20, RATE, OPTS, *curves)
+        self.assertEqual(found.candidates[0].lag, 94)
+        self.assertAlmostEqual(found.tempo.bpm, 11250 / 94)
+        self.assertEqual(found.tempo.clarity, found.candidates[0].salience)
+        self.assertEqual(list(curves[2]), [WAS] * 338)
+        self.assertEqual(ph.stability_of(envelope, RATE, OPTS, 94, *curves), (1.0, 4, 4))
+        self.assertEqual(ph.estimate(pulses(300), 20, RATE, OPTS, *curves), (None, ()))
+        self.assertIsNone(ph.stability_of(envelope, RATE, OPTS, 0, *curves))
+
+    def test_bars(self):
+        bars, beats = reals(0.5, 2.5), reals(0.5, 1.0, 1.5, 2.0, 2.5, 3.0)
+        self.assertEqual(ph.bar_beat_at(1.6, bars, beats), (1, 3))
+        self.assertIsNone(ph.bar_beat_at(0.4, bars, beats))
+        self.assertIsNone(ph.bar_beat_at(math.nan, bars, beats))
+        self.assertEqual(ph.bar_beat_at(math.inf, bars, reals()), (2, 1))
+
+    def test_sections(self):
+        rows = 40
+        features = array("d", [float((i // 16 < 20) == (i % 16 < 8)) for i in range(16 * rows)])
+        band, curve = room(ph.similarity_room(rows)), room(rows)
+        ph.similarity(features, rows, band)
+        ph.novelty(band, rows, curve)
+        out = frame_room(rows)
+        found = ph.boundaries(curve, RATE, RATE, 8, out, room(rows))
+        self.assertEqual((found.sections, list(out[:found.count])), (2, [20]))
+        self.assertTrue(0.0 < found.confidence <= 1.0)
+        ms = room(1)
+        ph.boundary_times(out[:1], RATE, RATE, ms)
+        self.assertEqual(ms[0], 20_000.0)
+
+
+class Refusals(unittest.TestCase):
+    """Each call refuses with the lowest number that applies, and changes nothing."""
+
+    def refuses(self, number, call, *words):
+        before = [bytes(w) if isinstance(w, array) else None for w in words]
+        with self.assertRaises(ph.Refused) as caught:
+            call(*words)
+        self.assertEqual((caught.exception.number, caught.exception.call), (number, call.__name__))
+        self.assertEqual(before, [bytes(w) if isinstance(w, array) else None for w in words])
+        self.assertIn(f"{call.__name__} refused with {number}: ", str(caught.exception))
+
+    def test_medians(self):
+        self.refuses(1, ph.median_of, reals(), room(2))
+        self.refuses(3, ph.median_of, reals(1, math.nan), room(1))
+        self.refuses(4, ph.median_of, reals(1, math.nan), room(2))
+        self.refuses(4, ph.mad_of, reals(1, 2), math.inf, room(2))
+
+    def test_onsets(self):
+        self.refuses(1, ph.spectral_flux, singles(), 0, 0, room(1))
+        self.refuses(1, ph.spectral_flux, singles(), 2 ** 64 - 1, 1, room(1))
+        self.refuses(2, ph.spectral_flux, singles(1), 2, 1, room(2))
+        self.refuses(3, ph.spectral_flux, singles(1, 1), 2, 1, room(1))
+        self.refuses(4, ph.spectral_flux, singles(1, math.inf), 2, 1, room(2))
+        self.refuses(3, ph.adaptive_threshold, reals(1, 1), room(2), room(1))
+        self.refuses(4, ph.adaptive_threshold, reals(TOO_LARGE), room(1), room(1))
+        self.refuses(1, ph.pick_onsets, reals(1), reals(1), 0, frame_room(1))
+        self.refuses(2, ph.pick_onsets, reals(1), reals(), RATE, frame_room(1))
+        self.refuses(1, ph.suppress_close_peaks, frames(3, 3), reals(0, 0, 0, 0), 1, frame_room(2))
+        self.refuses(1, ph.frame_times, frames(1_048_576), RATE, room(1))
+        self.refuses(3, ph.frame_times, frames(1, 2), RATE, room(1))
+
+    def test_tempo(self):
+        self.refuses(1, ph.lag_range, 192_001)
+        self.refuses(1, ph.lag_range, RATE, ph.TempoOpts(math.nan, 300))
+        self.refuses(3, ph.estimate, reals(), 0, RATE, OPTS, room(338), room(337), room(338))
+        self.refuses(4, ph.estimate, reals(math.nan), 0, RATE, OPTS, room(338), room(338), room(338))
+        self.refuses(1, ph.stability_of, reals(1), RATE, OPTS, 45_001, room(338), room(338), room(338))
+
+    def test_beats(self):
+        self.refuses(1, ph.beat_grid, reals(1, 2), 45_001, room(2), frame_room(2), frame_room(2))
+        self.refuses(3, ph.beat_grid, reals(1, 2), 1, room(2), frame_room(1), frame_room(2))
+        self.refuses(1, ph.downbeats, reals(1, 2), frames(1_048_576), frame_room(1))
+        self.refuses(3, ph.downbeats, reals(1, 2), frames(0, 1), frame_room(1))
+
+    def test_sections(self):
+        self.refuses(2, ph.similarity, room(31), 2, room(34))
+        self.refuses(3, ph.similarity, room(32), 2, room(33))
+        self.refuses(4, ph.novelty, room(17), 1, room(1))
+        self.refuses(1, ph.boundaries, room(1), 0, RATE, 1, frame_room(1), room(1))
+        self.refuses(1, ph.boundary_times, frames(50_000), 1, RATE, room(1))
+
+    def test_patches(self):
+        rows = singles(1, 2)
+        self.refuses(1, ph.patch_magnitudes, rows, 2, 1, 3, singles(), room(2), room(2), room(2))
+        self.refuses(2, ph.patch_magnitudes, rows, 2, 1, 2, singles(5), room(2), room(2), room(2))
+        self.refuses(3, ph.patch_magnitudes, rows, 2, 1, 0, singles(5), room(2), room(1), room(2))
+        self.refuses(4, ph.patch_magnitudes, rows, 2, 1, 0, singles(math.nan), room(2), room(2), room(2))
+        self.refuses(4, ph.patch_features, room(16), 1, 0, room(16), room(17), room(1))
+
+
+class Declarations(unittest.TestCase):
+    """What each call hands over has the types that the header declares, in its order: ctypes itself checks nothing of the kind."""
+
+    HEADER = pathlib.Path(__file__).resolve().parent.parent / "include/prohunsev.h"
+    TYPES = {"double": ctypes.c_double, "float": ctypes.c_float, "size_t": ctypes.c_size_t, "uint32_t": ctypes.c_uint32,
+             "uint64_t": ctypes.c_uint64}
+    LENT = {"float64": ctypes.c_double, "float32": ctypes.c_float, "uint32": ctypes.c_uint32}
+
+    def declared(self):
+        text = re.sub(r"/\*.*?\*/", "", self.HEADER.read_text(), flags=re.S)
+        for name, parameters in re.findall(r"uint32_t ph_(\w+)\(([^)]*)\);", text):
+            words = []
+            for parameter in parameters.split(","):
+                const, kind, pointer, many = re.fullmatch(r"(const )?(\w+) (\*)?\w+(?:\[(\d+)\])?", " ".join(parameter.split())).groups()
+                words.append((bool(pointer or many) and ("read" if const else "written"), self.TYPES[kind], int(many or 1)))
+            yield name, words
+
+    def handed(self, part):
+        if isinstance(part, ph._Slice):
+            return [("written" if part.written else "read", self.LENT[part.kind], 1), (False, ctypes.c_size_t, 1)]
+        if isinstance(part, ctypes.Array):
+            return [("written", part._type_, part._length_)]
+        if hasattr(part, "_obj"):
+            return [("written", type(part._obj), 1)]
+        return [(False, type(part), 1)]
+
+    @unittest.skipUnless(HEADER.is_file(), "the header is not beside this folder")
+    def test_types(self):
+        d, f, i = reals(1), singles(1), frames(1)
+        words = {
+            "median_of": (d, d), "mad_of": (d, 1.0, d), "spectral_flux": (f, 1, 1, d), "adaptive_threshold": (d, d, d),
+            "pick_onsets": (d, d, 1, i), "suppress_close_peaks": (i, d, 1, i), "frame_times": (i, 1, d), "lag_range": (1, OPTS),
+            "estimate": (d, 1, 1, OPTS, d, d, d), "stability_of": (d, 1, OPTS, 1, d, d, d), "beat_grid": (d, 1, d, i, i),
+            "downbeats": (d, i, i), "bar_beat_at": (1.0, d, d), "similarity": (d, 1, d), "novelty": (d, 1, d),
+            "boundaries": (d, 1, 1, 1, i, d), "boundary_times": (i, 1, 1, d), "patch_magnitudes": (f, 1, 1, 1, f, d, d, d),
+            "patch_features": (d, 1, 1, d, d, d),
+        }
+        declared = dict(self.declared())
+        self.assertLessEqual(words.keys(), declared.keys())
+        for call, given in words.items():
+            seen = []
+            with unittest.mock.patch.object(ph, "_call", lambda name, *parts: seen.append((name, parts))):
+                getattr(ph, call)(*given)
+            (name, parts), = seen
+            self.assertEqual((name, [word for part in parts for word in self.handed(part)]), (call, declared[call]))
+
+
+class Lending(unittest.TestCase):
+    """What may be lent, and what a wrong loan says. Nothing is copied."""
+
+    def test_read_only_inputs(self):
+        values = memoryview(bytes(reals(3, 1, 2))).cast("d")
+        self.assertTrue(values.readonly)
+        self.assertEqual(ph.median_of(values, room(3)), 2.0)
+
+    def test_outputs_are_written_in_place(self):
+        slab = array("d", [WAS]) * 8
+        ph.frame_times(frames(0, 1, 2), 1_000, memoryview(slab)[2:5])
+        self.assertEqual(list(slab), [WAS, WAS, 512.0, 768.0, 1024.0, WAS, WAS, WAS])
+
+    def wrong(self, error, word, call, *words):
+        before = [bytes(w) for w in words if isinstance(w, array)]
+        with self.assertRaises(error) as caught:
+            call(*words)
+        self.assertIn(word, str(caught.exception))
+        self.assertEqual(before, [bytes(w) for w in words if isinstance(w, array)])
+
+    def test_wrong_buffers(self):
+        self.wrong(TypeError, "values must be a contiguous buffer of float64", ph.median_of, [1.0, 2.0], room(2))
+        self.wrong(TypeError, "format 'f'", ph.median_of, singles(1, 2), room(2))
+        self.wrong(TypeError, "format 'B'", ph.median_of, bytes(16), room(2))
+        self.wrong(TypeError, "format 'q'", ph.median_of, array("q", [1, 2]), room(2))
+        self.wrong(TypeError, "format 'i'", ph.frame_times, array("i", [1]), RATE, room(1))
+        self.wrong(TypeError, "work must be", ph.median_of, reals(1), memoryview(bytes(8)).cast("d"))
+        self.wrong(TypeError, "contiguous", ph.median_of, memoryview(reals(1, 2, 3, 4))[::2], room(2))
+        self.wrong(TypeError, "contiguous", ph.median_of, reals(1, 2), memoryview(room(4))[::2])
+        self.wrong(TypeError, "", ph.median_of, None, room(2))
+
+    def test_misaligned(self):
+        slab = bytearray(8 * 3 + 1)
+        self.wrong(TypeError, "aligned", ph.median_of, reals(1), memoryview(slab)[1:9].cast("d"))
+
+    def test_overlap(self):
+        slab = memoryview(room(10))
+        self.wrong(ValueError, "work overlaps values", ph.median_of, slab[:4], slab[3:7])
+        self.wrong(ValueError, "threshold overlaps", ph.adaptive_threshold, reals(1, 2), slab[:4], slab[:2])
+        # inputs may be one buffer, and neighbours don't overlap
+        flux = reals(0, 0, 5, 0)
+        self.assertEqual(ph.pick_onsets(flux, flux, RATE, frame_room(4)), 0)
+        slab[:3] = reals(3, 1, 2)
+        self.assertEqual(ph.median_of(slab[:3], slab[3:6]), 2.0)
+
+    def test_numbers(self):
+        self.wrong(OverflowError, "rate is -1", ph.lag_range, -1)
+        self.wrong(OverflowError, "rate is 4295015296", ph.lag_range, 2 ** 32 + RATE)
+        self.wrong(OverflowError, "rows is", ph.spectral_flux, singles(1), 2 ** 64 + 1, 1, room(1))
+        self.wrong(TypeError, "", ph.lag_range, 48_000.0)
+        self.wrong(TypeError, "", ph.bar_beat_at, "now", reals(), reals())
+
+    def test_empty_slices(self):
+        ph.spectral_flux(singles(), 0, 1, reals())
+        self.assertEqual(ph.pick_onsets(reals(), reals(), RATE, frames()), 0)
+        self.assertEqual(ph.boundaries(reals(), 1, RATE, 3, frames(), reals()), (0, 0, 0.0))
+
+    def test_buffers_are_handed_back(self):
+        values, work, short = reals(1, 2), room(2), room(1)
+        ph.median_of(values, work)
+        self.assertRaises(ph.Refused, ph.median_of, values, short)
+        self.assertRaises(TypeError, ph.median_of, values, frames(1, 2))
+        self.assertRaises(ValueError, ph.median_of, values, values)
+        for lent in (values, work, short):
+            lent.append(1.0)  # an array that is still lent cannot grow
+
+    def test_library_is_named_when_missing(self):
+        here = os.path.dirname(ph.__file__)
+        tried = subprocess.run([sys.executable, "-B", "-c", "import prohunsev"], cwd=here, capture_output=True, text=True,
+                               env={**os.environ, "PROHUNSEV_LIBRARY": "/nowhere/lib.so"})
+        self.assertEqual(tried.returncode, 1)
+        self.assertIn("ImportError: the proved functions are not compiled yet: run tools/callers", tried.stderr)
+
+
+class Patches(unittest.TestCase):
+    """Patching equals starting over, bit for bit."""
+
+    def test_runs_of_magnitude_patches(self):
+        r = random.Random(1)
+        for rows, bins in ((1, 1), (12, 3), (60, 2)):
+            magnitudes = array("f", (r.uniform(-1, 1) for _ in range(rows * bins)))
+
+            def fresh():
+                flux, threshold = room(rows), room(rows)
+                ph.spectral_flux(magnitudes, rows, bins, flux)
+                ph.adaptive_threshold(flux, threshold, room(rows))
+                return flux, threshold
+
+            flux, threshold = fresh()
+            for _ in range(20):
+                start = r.randint(0, rows)
+                new = array("f", (r.uniform(-1, 1) for _ in range(bins * r.randint(0, rows - start))))
+                patched = ph.patch_magnitudes(magnitudes, rows, bins, start, new, flux, threshold, room(21))
+                past = start + len(new) // bins
+                self.assertEqual(patched.flux, range(start, min(rows, past + 1)) if new else range(0))
+                self.assertEqual(patched.threshold, range(max(0, start - 10), min(rows, past + 11)) if new else range(0))
+                self.assertEqual((bytes(flux), bytes(threshold)), tuple(map(bytes, fresh())))
+
+    def test_runs_of_feature_patches(self):
+        r = random.Random(2)
+        for rows in (1, 17, 40):
+            features = array("d", (r.uniform(-1, 1) for _ in range(rows * 16)))
+
+            def fresh():
+                band, curve = room(17 * rows), room(rows)
+                ph.similarity(features, rows, band)
+                ph.novelty(band, rows, curve)
+                return band, curve
+
+            band, curve = fresh()
+            for _ in range(10):
+                start = r.randint(0, rows)
+                new = array("d", (r.uniform(-1, 1) for _ in range(16 * r.randint(0, rows - start))))
+                patched = ph.patch_features(features, rows, start, new, band, curve)
+                past = start + len(new) // 16
+                self.assertEqual(patched.novelty, range(max(0, start - 7), min(rows, past + 8)) if new else range(0))
+                self.assertEqual((bytes(band), bytes(curve)), tuple(map(bytes, fresh())))
+
+
+class Tracks(unittest.TestCase):
+    """Whole tracks through one set of buffers."""
+
+    @staticmethod
+    def told(track):
+        return track[:3] + tuple(list(view) for view in track[3:])
+
+    def test_buffers_used_again(self):
+        buffers = ph.Buffers(3_000, RATE)
+        self.assertEqual(buffers.room.bytes, 40 * 3_000 + 32 * 338 + 8 * 338)
+        for n in (3_000, 700, 0, 2_999, 700):
+            envelope = pulses(n)
+            rows = array("f", envelope)
+            for analyse in (lambda b: b.analyse_envelope(envelope, RATE), lambda b: b.analyse_magnitudes(rows, n, 1, RATE)):
+                self.assertEqual(self.told(analyse(buffers)), self.told(analyse(ph.Buffers(n, RATE))))
+        self.assertEqual(buffers.analyse_envelope(pulses(2_000), RATE).candidates[0].lag, 94)
+        with self.assertRaises(ph.Refused) as caught:
+            buffers.analyse_envelope(pulses(3_001), RATE)
+        self.assertEqual(caught.exception.number, 3)
+
+    def test_threads(self):
+        envelope = pulses(3_000)
+        alone = self.told(ph.Buffers(3_000, RATE).analyse_envelope(envelope, RATE))
+        self.assertIsNotNone(alone[0])
+        with concurrent.futures.ThreadPoolExecutor(8) as pool:
+            for told in pool.map(lambda _: self.told(ph.Buffers(3_000, RATE).analyse_envelope(envelope, RATE)), range(16)):
+                self.assertEqual(told, alone)
+
+
+@unittest.skipUnless(numpy, "NumPy is not installed")
+class Arrays(unittest.TestCase):
+    """NumPy arrays, lent as they are."""
+
+    def test_tags_a_track(self):
+        rows, bins = 2_000, 4
+        magnitudes = numpy.zeros((rows, bins), numpy.float32)
+        magnitudes[5::94] = 1.0
+        flux, threshold = numpy.empty(rows), numpy.empty(rows)
+        ph.spectral_flux(magnitudes, rows, bins, flux)
+        self.assertEqual(flux[5], 4.0)
+        ph.adaptive_threshold(flux, threshold, numpy.empty(21))
+        onsets = numpy.empty(rows, numpy.uint32)
+        count = ph.pick_onsets(flux, threshold, RATE, onsets)
+        numpy.testing.assert_array_equal(onsets[:count], numpy.arange(5, rows - 1, 94))
+        track = ph.Buffers(rows, RATE).analyse_magnitudes(magnitudes, rows, bins, RATE)
+        self.assertEqual(track.candidates[0].lag, 94)
+        numpy.testing.assert_array_equal(numpy.asarray(track.onsets), onsets[:count])
+
+    def test_wrong_arrays(self):
+        ok = numpy.ones(4)
+        for values in (numpy.ones(4, numpy.float32), numpy.ones(4, numpy.int64), numpy.ones(4, ">f8"), numpy.ones(8)[::2],
+                       numpy.ones((2, 2)).T, numpy.ones(4, complex)):
+            with self.assertRaises(TypeError, msg=repr(values)):
+                ph.median_of(values, numpy.empty(4))
+        ok.flags.writeable = False
+        self.assertEqual(ph.median_of(ok, numpy.empty(4)), 1.0)
+        with self.assertRaises(TypeError):
+            ph.median_of(numpy.ones(4), ok)
+        with self.assertRaises(TypeError):
+            ph.median_of(numpy.ones(4), numpy.empty(8)[::2])
+        with self.assertRaises(TypeError):
+            ph.frame_times(numpy.ones(1, numpy.int32), RATE, numpy.empty(1))
+        with self.assertRaises(ValueError):
+            both = numpy.ones(3)
+            ph.median_of(both, both[1:])
+
+    def test_readme(self):
+        text = (pathlib.Path(__file__).parent / "README.md").read_text()
+        said = io.StringIO()
+        with contextlib.redirect_stdout(said):
+            exec(text.split("```python\n")[1].split("```")[0], {})
+        self.assertEqual(said.getvalue(), "None 0 []\n")
+
+    def test_numbers_of_numpy(self):
+        self.assertEqual(ph.lag_range(numpy.uint32(RATE)), (38, 375))
+        self.assertEqual(ph.mad_of(numpy.arange(5.0), numpy.float64(2.0), numpy.empty(5)), 1.0)
+
+
+if __name__ == "__main__":
+    unittest.main()

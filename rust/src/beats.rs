@@ -1,0 +1,116 @@
+//! Beats and bars.
+use crate::ffi;
+use crate::Refusal;
+
+/// A place in the music: bar and beat, both counted from 1.
+#[derive(Clone, Copy, Debug, PartialEq, Eq)]
+pub struct BarBeat {
+    /// The bar.
+    pub bar: usize,
+    /// The beat of the bar.
+    pub beat: usize,
+}
+
+/// Lays the beat grid of an envelope, beats about `period` frames apart (the winner's lag of a tempo). Answers how many beats there
+/// are: none for an empty or flat envelope or a period of 0, and then nothing is written.
+///
+/// Room: `envelope.len()` slots of each of `score`, `back` and `beats`. Beats are listed as frames, ascending; `score` and `back` then
+/// hold each frame's score and the beat before it ([`NO_LINK`](crate::limits::NO_LINK) where there is none).
+/// Refuses [`OutOfBounds`](Refusal::OutOfBounds) (the envelope's length, the period), [`TooLittleRoom`](Refusal::TooLittleRoom), and
+/// [`WrongValue`](Refusal::WrongValue) (an envelope value).
+///
+/// ```
+/// # use prohunsev::*;
+/// let (mut score, mut back, mut beats) = ([0.0; 6], [0; 6], [0; 6]);
+/// let count = beat_grid(&[0.0, 4.0, 0.0, 4.0, 0.0, 4.0], 2, &mut score, &mut back, &mut beats)?;
+/// assert_eq!(beats[..count], [1, 3, 5]);
+/// assert_eq!((back[1], back[3]), (limits::NO_LINK, 1));
+/// # Ok::<(), Refusal>(())
+/// ```
+pub fn beat_grid(
+    envelope: &[f64],
+    period: usize,
+    score: &mut [f64],
+    back: &mut [u32],
+    beats: &mut [u32],
+) -> Result<usize, Refusal> {
+    let mut count = 0;
+    // SAFETY: the pointers and lengths are those of borrowed slices and a local (the reason in lib.rs)
+    let number = unsafe {
+        ffi::ph_beat_grid(
+            envelope.as_ptr(),
+            envelope.len(),
+            period,
+            score.as_mut_ptr(),
+            score.len(),
+            back.as_mut_ptr(),
+            back.len(),
+            beats.as_mut_ptr(),
+            beats.len(),
+            &mut count,
+        )
+    };
+    Refusal::unless_answered(number)?;
+    Ok(count)
+}
+
+/// Lists the downbeats of a beat list in common time: every fourth beat, from the one that makes their flux sum greatest. Answers how
+/// many there are.
+///
+/// Room: `beats.len()` slots of `frames`. A beat past the envelope counts as silent.
+/// Refuses [`OutOfBounds`](Refusal::OutOfBounds) (the envelope's length, a beat above 1,048,575),
+/// [`TooLittleRoom`](Refusal::TooLittleRoom), and [`WrongValue`](Refusal::WrongValue) (an envelope value).
+///
+/// ```
+/// # use prohunsev::*;
+/// let mut frames = [0; 3];
+/// let count = downbeats(&[0.0, 4.0, 0.0, 4.0, 0.0, 4.0], &[1, 3, 5], &mut frames)?;
+/// assert_eq!(frames[..count], [1]);
+/// # Ok::<(), Refusal>(())
+/// ```
+pub fn downbeats(envelope: &[f64], beats: &[u32], frames: &mut [u32]) -> Result<usize, Refusal> {
+    let mut count = 0;
+    // SAFETY: the pointers and lengths are those of borrowed slices and a local (the reason in lib.rs)
+    let number = unsafe {
+        ffi::ph_downbeats(
+            envelope.as_ptr(),
+            envelope.len(),
+            beats.as_ptr(),
+            beats.len(),
+            frames.as_mut_ptr(),
+            frames.len(),
+            &mut count,
+        )
+    };
+    Refusal::unless_answered(number)?;
+    Ok(count)
+}
+
+/// Says which bar and beat a time lies in: the last bar whose downbeat it has reached, and how many of its beats. `None` before the
+/// first bar. All three are times in one unit, seconds in the original; both tests have a slack of 0.000001. Refuses nothing.
+///
+/// ```
+/// # use prohunsev::*;
+/// let (bars, beats) = ([0.5, 2.5], [0.5, 1.0, 1.5, 2.0, 2.5, 3.0]);
+/// assert_eq!(bar_beat_at(1.6, &bars, &beats), Some(BarBeat { bar: 1, beat: 3 }));
+/// assert_eq!(bar_beat_at(2.5, &bars, &beats), Some(BarBeat { bar: 2, beat: 1 }));
+/// assert_eq!(bar_beat_at(0.4, &bars, &beats), None);
+/// ```
+pub fn bar_beat_at(time: f64, downbeats: &[f64], beats: &[f64]) -> Option<BarBeat> {
+    let (mut found, mut bar, mut beat) = (0, 0, 0);
+    // SAFETY: the pointers and lengths are those of borrowed slices and locals (the reason in lib.rs)
+    let number = unsafe {
+        ffi::ph_bar_beat_at(
+            time,
+            downbeats.as_ptr(),
+            downbeats.len(),
+            beats.as_ptr(),
+            beats.len(),
+            &mut found,
+            &mut bar,
+            &mut beat,
+        )
+    };
+    debug_assert_eq!(number, 0, "bar_beat_at refuses nothing");
+    (found != 0).then_some(BarBeat { bar, beat })
+}

@@ -1,0 +1,63 @@
+//! The rhythm of a track, proved: onset strength, tempo, beat grid, bars and sections, from magnitude rows or feature rows.
+//!
+//! Every call is a thin, safe door to a function that is proved to meet its contract for every input. All memory is lent: slices go in,
+//! answers come back by value, and outputs are slices of the caller's, whose size is a formula ([`rooms`]). Nothing is allocated, nothing
+//! is kept from call to call, and any number of threads may call at once.
+//!
+//! - A call answers, or refuses with a [`Refusal`], and then nothing that was lent has changed.
+//! - "No tempo" and "no stability" are answers: `Ok` of a `None`.
+//! - A call that lists answers how many entries it listed; they stand first in the slice, and the slots behind them are unchanged.
+//! - Times come from frames: a frame is 256 samples after the one before it ([`frame_times`] in milliseconds).
+//!
+//! [`Buffers`] owns the room of one analysis and runs a whole track through it, track after track, in the same memory:
+//!
+//! ```
+//! use prohunsev::{Buffers, TempoOpts};
+//!
+//! // a click every half second: 120 beats a minute
+//! let rate = 48_000;
+//! let mut envelope = vec![0.0; 4_000];
+//! for beat in 0..42 {
+//!     envelope[20 + beat * 375 / 4] = 1.0;
+//! }
+//! let mut buffers = Buffers::for_tracks(envelope.len(), rate, TempoOpts::new())?;
+//! let track = buffers.analyse_envelope(&envelope, rate, TempoOpts::new())?;
+//! let tempo = track.tempo.expect("clicks have a tempo");
+//! assert!((tempo.bpm - 120.0).abs() < 1.0);
+//! assert_eq!(track.onsets.len(), 42);
+//! assert!(track.beats.len() > 35 && track.downbeats.len() > 8);
+//! # Ok::<(), prohunsev::Refusal>(())
+//! ```
+#![deny(missing_docs)]
+#![deny(unsafe_op_in_unsafe_fn)]
+
+mod beats;
+mod ffi;
+pub mod limits;
+mod medians;
+mod onsets;
+mod patches;
+mod refusal;
+pub mod rooms;
+mod sections;
+mod tempo;
+mod track;
+
+pub use beats::{bar_beat_at, beat_grid, downbeats, BarBeat};
+pub use medians::{mad_of, median_of};
+pub use onsets::{adaptive_threshold, frame_times, pick_onsets, spectral_flux, suppress_close_peaks};
+pub use patches::{patch_features, patch_magnitudes, Patched, PatchedFeatures};
+pub use refusal::Refusal;
+pub use sections::{boundaries, boundary_times, novelty, similarity, Sections};
+pub use tempo::{estimate, lag_range, stability_of, Candidate, LagRange, Stability, Tempo, TempoEstimate, TempoOpts};
+pub use track::{Analysis, Buffers};
+
+// Every unsafe block of this crate calls one function of `ffi`, and is sound for one reason, to which each refers: a pointer and the
+// length after it are those of one slice (a pointer alone is a local's), aligned and not null also where it is empty, and borrowed for
+// as long as the call lasts; what is lent as `*mut` is borrowed mutably and so overlaps nothing else. The functions are proved to read
+// and write inside what they are lent and to keep no pointer.
+
+// the example of the README is tried with the others
+#[cfg(doctest)]
+#[doc = include_str!("../README.md")]
+struct Readme;

@@ -1,0 +1,100 @@
+//! Room: how many slots each lent slice needs, from the counts alone.
+//!
+//! With fewer slots a call refuses with [`Refusal::TooLittleRoom`] and changes nothing; with exactly these it never does.
+use crate::{lag_range, limits, Refusal, TempoOpts};
+
+/// Slots of `flux` for so many magnitude rows.
+pub const fn flux(rows: usize) -> usize {
+    rows
+}
+
+/// Slots of `threshold` for a flux of so many slots.
+pub const fn threshold(slots: usize) -> usize {
+    slots
+}
+
+/// Slots of `work` for the threshold of so many slots, also while patching: one window, at most 21.
+pub const fn threshold_work(slots: usize) -> usize {
+    if slots < 21 {
+        slots
+    } else {
+        21
+    }
+}
+
+/// Slots of `frames` for the onsets of a flux of so many slots.
+pub const fn onsets(slots: usize) -> usize {
+    slots
+}
+
+/// Slots of each lag curve and of the work slice beside them, for [`estimate`](crate::estimate) and
+/// [`stability_of`](crate::stability_of). Refuses as [`lag_range`] does.
+///
+/// ```
+/// # use prohunsev::*;
+/// assert_eq!(rooms::lags(48_000, TempoOpts::new()), Ok(338));
+/// ```
+pub fn lags(rate: u32, opts: TempoOpts) -> Result<usize, Refusal> {
+    Ok(lag_range(rate, opts)?.lags())
+}
+
+/// Slots of each of `score`, `back` and `beats` for an envelope of so many slots.
+pub const fn beats(slots: usize) -> usize {
+    slots
+}
+
+/// Slots of `similarity` for so many feature rows: 17 each.
+pub const fn similarity(rows: usize) -> usize {
+    rows.saturating_mul(limits::SIMILARITY_WIDTH)
+}
+
+/// Slots of `novelty` for so many feature rows.
+pub const fn novelty(rows: usize) -> usize {
+    rows
+}
+
+/// Slots of each of `rows` and `work` of [`boundaries`](crate::boundaries) for so many feature rows.
+pub const fn boundaries(rows: usize) -> usize {
+    rows
+}
+
+/// Slots for a list made of another, entry by entry: suppressed peaks, times, downbeats; and a median's `work`.
+pub const fn entries(count: usize) -> usize {
+    count
+}
+
+/// The room of one whole analysis, as three numbers.
+#[derive(Clone, Copy, Debug, PartialEq, Eq)]
+pub struct Track {
+    /// Slots of flux, threshold and score (f64), and of onsets, back links, beats and downbeats (u32).
+    pub rows: usize,
+    /// Slots of each of four lag curves (f64): clarity and weight of the whole track, and of a window.
+    pub lags: usize,
+    /// Slots of the work slice (f64) that all calls share: the greater of the lags and the threshold's window.
+    pub sorting: usize,
+}
+
+impl Track {
+    /// The room for a track of at most so many rows. Refuses [`Refusal::OutOfBounds`] for more than 1,048,576 rows, for the rate, and for
+    /// a bound that isn't finite.
+    ///
+    /// ```
+    /// # use prohunsev::*;
+    /// let room = rooms::Track::of(67_500, 48_000, TempoOpts::new())?; // six minutes
+    /// assert_eq!((room.rows, room.lags, room.sorting), (67_500, 338, 338));
+    /// assert_eq!(room.bytes(), 2_713_520);
+    /// # Ok::<(), Refusal>(())
+    /// ```
+    pub fn of(rows: usize, rate: u32, opts: TempoOpts) -> Result<Track, Refusal> {
+        let lags = lags(rate, opts)?;
+        if rows > limits::MOST_ROWS {
+            return Err(Refusal::OutOfBounds);
+        }
+        Ok(Track { rows, lags, sorting: lags.max(threshold_work(rows)) })
+    }
+
+    /// All of it in bytes: 40 a row, 32 a lag and 8 a slot of sorting.
+    pub const fn bytes(self) -> usize {
+        40 * self.rows + 32 * self.lags + 8 * self.sorting
+    }
+}

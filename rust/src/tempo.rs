@@ -1,0 +1,247 @@
+//! Tempo: how fast the pulse of an envelope is, and how steady.
+use crate::ffi;
+use crate::Refusal;
+
+/// The bounds of the tempo search in beats a minute, 30 to 300 where nothing else is said. They may come in either order.
+///
+/// ```
+/// # use prohunsev::*;
+/// assert_eq!(TempoOpts::new(), TempoOpts::between(30.0, 300.0));
+/// assert_eq!(TempoOpts::new().with_max_bpm(200.0).max_bpm, 200.0);
+/// ```
+#[derive(Clone, Copy, Debug, PartialEq)]
+pub struct TempoOpts {
+    /// The slowest tempo that is looked for.
+    pub min_bpm: f64,
+    /// The fastest tempo that is looked for.
+    pub max_bpm: f64,
+}
+
+impl TempoOpts {
+    /// A slow ballad heard in half time.
+    pub const DEFAULT_MIN_BPM: f64 = 30.0;
+    /// A dance track heard in double time.
+    pub const DEFAULT_MAX_BPM: f64 = 300.0;
+
+    /// The defaults, 30 to 300.
+    pub const fn new() -> TempoOpts {
+        TempoOpts::between(TempoOpts::DEFAULT_MIN_BPM, TempoOpts::DEFAULT_MAX_BPM)
+    }
+
+    /// Both bounds. Refuses nothing: the calls that are lent the options do.
+    pub const fn between(min_bpm: f64, max_bpm: f64) -> TempoOpts {
+        TempoOpts { min_bpm, max_bpm }
+    }
+
+    /// The same options with another lower bound.
+    #[must_use]
+    pub const fn with_min_bpm(self, min_bpm: f64) -> TempoOpts {
+        TempoOpts { min_bpm, ..self }
+    }
+
+    /// The same options with another upper bound.
+    #[must_use]
+    pub const fn with_max_bpm(self, max_bpm: f64) -> TempoOpts {
+        TempoOpts { max_bpm, ..self }
+    }
+}
+
+impl Default for TempoOpts {
+    fn default() -> TempoOpts {
+        TempoOpts::new()
+    }
+}
+
+/// The lags, in frames, that the bounds of a search stand for.
+#[derive(Clone, Copy, Debug, PartialEq, Eq)]
+pub struct LagRange {
+    /// The least lag, the fastest tempo's; at least 1.
+    pub min_lag: usize,
+    /// The greatest lag, the slowest tempo's; above the least.
+    pub max_lag: usize,
+}
+
+impl LagRange {
+    /// How many lags there are, both ends counted: the room of each lag curve.
+    pub const fn lags(self) -> usize {
+        self.max_lag - self.min_lag + 1
+    }
+}
+
+/// A tempo with its clarity.
+#[derive(Clone, Copy, Debug, PartialEq)]
+pub struct Tempo {
+    /// Beats a minute.
+    pub bpm: f64,
+    /// How clearly the envelope repeats at this tempo, 0 to 1.
+    pub clarity: f64,
+}
+
+/// A tempo that the envelope may be heard at.
+#[derive(Clone, Copy, Debug, Default, PartialEq)]
+pub struct Candidate {
+    /// Frames from beat to beat.
+    pub lag: usize,
+    /// Its clarity, 0 to 1.
+    pub salience: f64,
+}
+
+/// The answer of [`estimate`].
+#[derive(Clone, Copy, Debug, Default, PartialEq)]
+pub struct TempoEstimate {
+    /// The tempo; `None` where the envelope is too short or too flat, has fewer than two onsets, or repeats at no lag.
+    pub tempo: Option<Tempo>,
+    slots: [Candidate; 3],
+    count: usize,
+}
+
+impl TempoEstimate {
+    /// The candidates, at most three, the winner first; none without a tempo.
+    pub fn candidates(&self) -> &[Candidate] {
+        &self.slots[..self.count]
+    }
+
+    /// The winner's lag: the period of the beat grid. `None` without a tempo.
+    pub fn lag(&self) -> Option<usize> {
+        self.candidates().first().map(|winner| winner.lag)
+    }
+}
+
+/// How many windows of a track keep its tempo.
+#[derive(Clone, Copy, Debug, PartialEq)]
+pub struct Stability {
+    /// The share of windows that agree, 0 to 1.
+    pub fraction: f64,
+    /// The windows whose own tempo is the whole track's, or half, twice, a quarter or four times it.
+    pub agreeing: usize,
+    /// All windows, 2 to 4.
+    pub windows: usize,
+}
+
+/// The lags that the options' bounds stand for.
+///
+/// Refuses [`OutOfBounds`](Refusal::OutOfBounds) (the rate, a bound that isn't finite).
+///
+/// ```
+/// # use prohunsev::*;
+/// let range = lag_range(48_000, TempoOpts::new())?;
+/// assert_eq!((range.min_lag, range.max_lag, range.lags()), (38, 375, 338));
+/// # Ok::<(), Refusal>(())
+/// ```
+pub fn lag_range(rate: u32, opts: TempoOpts) -> Result<LagRange, Refusal> {
+    let mut range = LagRange { min_lag: 0, max_lag: 0 };
+    // SAFETY: the pointers are those of a local's two fields (the reason in lib.rs)
+    let number = unsafe { ffi::ph_lag_range(rate, opts.min_bpm, opts.max_bpm, &mut range.min_lag, &mut range.max_lag) };
+    Refusal::unless_answered(number)?;
+    Ok(range)
+}
+
+/// Finds the tempo of an envelope and at most three candidates. `onsets` says how many onsets the envelope has: below two, no tempo.
+///
+/// Room: [`rooms::lags`](crate::rooms::lags) slots of each of `clarity`, `weight` and `work`, also where there is no tempo. With a
+/// tempo, `clarity` and `weight` then hold the clarity and the weight of each lag.
+/// Refuses [`OutOfBounds`](Refusal::OutOfBounds) (the envelope's length, the rate, a bound that isn't finite),
+/// [`TooLittleRoom`](Refusal::TooLittleRoom), and [`WrongValue`](Refusal::WrongValue) (an envelope value).
+///
+/// ```
+/// # use prohunsev::*;
+/// let envelope: Vec<f64> = (0..800).map(|t| if t % 80 == 0 { 1.0 } else { 0.0 }).collect();
+/// let lags = rooms::lags(48_000, TempoOpts::new())?;
+/// let (mut clarity, mut weight, mut work) = (vec![0.0; lags], vec![0.0; lags], vec![0.0; lags]);
+/// let found = estimate(&envelope, 10, 48_000, TempoOpts::new(), &mut clarity, &mut weight, &mut work)?;
+/// assert_eq!(found.lag(), Some(80));
+/// assert_eq!(found.tempo.unwrap().bpm, 140.625);
+/// # Ok::<(), Refusal>(())
+/// ```
+pub fn estimate(
+    envelope: &[f64],
+    onsets: usize,
+    rate: u32,
+    opts: TempoOpts,
+    clarity: &mut [f64],
+    weight: &mut [f64],
+    work: &mut [f64],
+) -> Result<TempoEstimate, Refusal> {
+    let (mut found, mut bpm, mut clear, mut count) = (0, 0.0, 0.0, 0);
+    let (mut lags, mut saliences) = ([0; 3], [0.0; 3]);
+    // SAFETY: the pointers and lengths are those of borrowed slices and locals (the reason in lib.rs)
+    let number = unsafe {
+        ffi::ph_estimate(
+            envelope.as_ptr(),
+            envelope.len(),
+            onsets,
+            rate,
+            opts.min_bpm,
+            opts.max_bpm,
+            clarity.as_mut_ptr(),
+            clarity.len(),
+            weight.as_mut_ptr(),
+            weight.len(),
+            work.as_mut_ptr(),
+            work.len(),
+            &mut found,
+            &mut bpm,
+            &mut clear,
+            &mut lags,
+            &mut saliences,
+            &mut count,
+        )
+    };
+    Refusal::unless_answered(number)?;
+    let mut slots = [Candidate::default(); 3];
+    for (slot, (lag, salience)) in slots.iter_mut().zip(lags.into_iter().zip(saliences)) {
+        *slot = Candidate { lag, salience };
+    }
+    let tempo = (found != 0).then_some(Tempo { bpm, clarity: clear });
+    Ok(TempoEstimate { tempo, slots, count })
+}
+
+/// Says how steady a track's tempo is: its envelope is cut into up to four windows, and each is searched for a tempo of its own.
+/// `None` where fewer than two windows fit, or where `whole_lag`, the lag of the whole track's tempo, is 0.
+///
+/// Room: [`rooms::lags`](crate::rooms::lags) slots of each of `clarity`, `weight` and `work`; all three then hold anything.
+/// Refuses as [`estimate`] does, and [`OutOfBounds`](Refusal::OutOfBounds) for a lag above 45,000.
+///
+/// ```
+/// # use prohunsev::*;
+/// let envelope: Vec<f64> = (0..2_000).map(|t| if t % 80 == 0 { 1.0 } else { 0.0 }).collect();
+/// let lags = rooms::lags(48_000, TempoOpts::new())?;
+/// let (mut clarity, mut weight, mut work) = (vec![0.0; lags], vec![0.0; lags], vec![0.0; lags]);
+/// let steady = stability_of(&envelope, 48_000, TempoOpts::new(), 80, &mut clarity, &mut weight, &mut work)?;
+/// assert_eq!(steady, Some(Stability { fraction: 1.0, agreeing: 4, windows: 4 }));
+/// # Ok::<(), Refusal>(())
+/// ```
+pub fn stability_of(
+    envelope: &[f64],
+    rate: u32,
+    opts: TempoOpts,
+    whole_lag: usize,
+    clarity: &mut [f64],
+    weight: &mut [f64],
+    work: &mut [f64],
+) -> Result<Option<Stability>, Refusal> {
+    let (mut found, mut fraction, mut agreeing, mut windows) = (0, 0.0, 0, 0);
+    // SAFETY: the pointers and lengths are those of borrowed slices and locals (the reason in lib.rs)
+    let number = unsafe {
+        ffi::ph_stability_of(
+            envelope.as_ptr(),
+            envelope.len(),
+            rate,
+            opts.min_bpm,
+            opts.max_bpm,
+            whole_lag,
+            clarity.as_mut_ptr(),
+            clarity.len(),
+            weight.as_mut_ptr(),
+            weight.len(),
+            work.as_mut_ptr(),
+            work.len(),
+            &mut found,
+            &mut fraction,
+            &mut agreeing,
+            &mut windows,
+        )
+    };
+    Refusal::unless_answered(number)?;
+    Ok((found != 0).then_some(Stability { fraction, agreeing, windows }))
+}
