@@ -1,0 +1,107 @@
+//! The speed of each stage beside the Rust of docs/src: the same inputs, one process, bits compared before anything is timed.
+//!
+//!   bench          every size, and how cost grows
+//!   bench quick    tracks up to three minutes and 3,600 feature rows, and no growth
+mod clock;
+mod growth;
+mod music;
+mod stages;
+
+use clock::in_turns;
+use stages::{Line, counted};
+
+// What original / ours should reach, from the study of forms; at 3,600 feature rows and at more where there are two.
+fn aim(stage: &str, feature_rows: usize) -> Option<f64> {
+    Some(match stage {
+        "flux" => 1.25,
+        "threshold" => 8.0,
+        "lag curves" => 5.0,
+        "stability" => 4.0,
+        "beats" => 25.0,
+        "similarity" => 1.3,
+        "novelty" => 50.0,
+        "boundaries" if feature_rows > 3_600 => 4.0,
+        "boundaries" => 2.4,
+        "whole track" => 6.0,
+        _ => return None,
+    })
+}
+
+fn tell(line: &Line, feature_rows: usize) {
+    let ratio = line.rust / line.port;
+    let verdict = match aim(line.stage, feature_rows) {
+        Some(aim) => format!("{aim} | {}", if ratio >= aim { "reached" } else { "not reached" }),
+        None => " | ".into(),
+    };
+    println!(
+        "| {} | {} | {:.3} | {:.3} | {ratio:.2} | {verdict} |",
+        line.stage,
+        line.size,
+        1e3 * line.rust,
+        1e3 * line.port
+    );
+}
+
+// A patch stands beside the full runs that it saves: the port's own, and the Rust's, which has no patch.
+fn tell_patch(line: &Line) {
+    let full = line.full.unwrap_or(line.rust);
+    let (rust, port, own) = (1e3 * line.rust, 1e3 * line.port, 1e3 * full);
+    println!("| {} | {} | {port:.3} | {own:.3} | {:.1} % | {rust:.3} |", line.stage, line.size, 100.0 * port / own);
+}
+
+// The square root has no call of its own. Similarity takes one a row: 112 rows, a block of it, less as many rows of zeros, whose root is
+// no work.
+fn root(rounds: usize) {
+    let (values, zeros, mut a, mut b) =
+        (music::features(112, 3), [0.0; 16 * 112], vec![0.0; 17 * 112], vec![0.0; 17 * 112]);
+    let [with, without] = in_turns(
+        rounds,
+        [&mut || prohunsev::similarity(&values, 112, &mut a).unwrap(), &mut || {
+            prohunsev::similarity(&zeros, 112, &mut b).unwrap()
+        }],
+    );
+    println!("\na square root, inside similarity: {:.0} ns", 1e9 * (with - without) / 112.0);
+}
+
+fn main() {
+    let quick = match std::env::args().nth(1).as_deref() {
+        None => false,
+        Some("quick") => true,
+        Some(_) => {
+            eprintln!("bench [quick]");
+            std::process::exit(2)
+        }
+    };
+    // Rows, bins, rounds: what the aims were set on, three minutes, an hour, and the most rows. Of the magnitudes there are two copies, the
+    // Rust's in rows of their own and ours; the last has half the bins so that they stay below 4 GB.
+    let tracks = [(8_000, 513, 15), (33_750, 513, 9), (675_000, 513, 3), (1_048_576, 257, 3)];
+    println!("| stage | size | original ms | ours ms | original / ours | aim | |");
+    println!("|---|---|---|---|---|---|---|");
+    let mut patches = Vec::new();
+    let mut take = |line: Line, feature_rows: usize| {
+        if line.full.is_some() {
+            patches.push(line);
+        } else {
+            tell(&line, feature_rows);
+        }
+    };
+    for (rows, bins, rounds) in &tracks[..if quick { 2 } else { 4 }] {
+        stages::track(*rows, *bins, *rounds, &mut |line| take(line, 0));
+    }
+    if !quick {
+        let flux: Vec<f64> = music::magnitudes(16_384, 1, 1).iter().map(|&x| f64::from(x)).collect();
+        let [rust, port] = stages::beats(&flux, 3_000, 3);
+        take(Line { stage: "beats, period 3,000", size: counted(16_384), rust, port, full: None }, 0);
+    }
+    for rows in if quick { vec![3_600] } else { vec![3_600, 50_000] } {
+        stages::sections(rows, 15, &mut |line| take(line, rows));
+    }
+    println!("\n| patch | of | ours ms | our full run ms | part | original's full run ms |");
+    println!("|---|---|---|---|---|---|");
+    patches.iter().for_each(tell_patch);
+    root(25);
+    if !quick {
+        println!();
+        growth::tell(7);
+    }
+}
