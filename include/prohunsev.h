@@ -29,8 +29,10 @@
  *   F       novelty, boundary rows, and the work slice beside them
  *   one for each entry: suppressed peaks, times, downbeats; a median's work slice
  *   min(21, N)  the work slice of a threshold
- * Work slices hold anything after an answer, in the slots of their formula; ph_stability_of treats its lag curves the same way. Lists
- * have their entries first, as many as the count says. All other slots stay as they were.
+ *   a whole track at once: what ph_room_of answers
+ * Work slices hold anything after an answer, in the slots of their formula, unless the function's own comment says more;
+ * ph_stability_of treats its lag curves the same way. Lists have their entries first, as many as the count says. All other slots stay
+ * as they were.
  *
  * Threads. Nothing is allocated, nothing is kept from call to call, and there is no global state: any number of threads may call any
  * of these at the same time, each with slices and numbers of its own to write into; what is only read may be shared. Every call ends.
@@ -171,6 +173,37 @@ uint32_t ph_patch_magnitudes(float *magnitudes, size_t magnitudes_len, size_t ro
 uint32_t ph_patch_features(double *features, size_t features_len, size_t rows, size_t start, const double *new_rows, size_t new_rows_len,
                            double *similarity, size_t similarity_len, double *novelty, size_t novelty_len,
                            size_t *similarity_first, size_t *similarity_past, size_t *novelty_first, size_t *novelty_past);
+
+/* ---- a whole track */
+
+/* The room of a whole analysis: *row_slots for each slice with a slot a row, *lag_slots for each of the four lag curves, *work_slots for work.
+ * With exactly this room neither analysis below refuses with 3, and with one slot fewer anywhere both do.
+ * Refuses 1 for rows above 1,048,576, the rate or a bound that isn't finite. */
+uint32_t ph_room_of(size_t rows, uint32_t rate, double min_bpm, double max_bpm, size_t *row_slots, size_t *lag_slots, size_t *work_slots);
+
+/* Onsets, tempo, candidates, stability, beats and downbeats of an envelope, as the calls above give them one after the other; *steady is ph_stability_of's *found.
+ * Without a tempo there is no stability and no beat. Room: by ph_room_of; window_clarity, window_weight and work then hold anything, in those slots.
+ * Refuses 1 for the length, the rate or a bound, 3, and 4 for a value; a threshold above 2^150, made from a lent envelope that large, refuses nothing here. */
+uint32_t ph_analyse_envelope(const double *envelope, size_t envelope_len, uint32_t rate, double min_bpm, double max_bpm,
+                             double *threshold, size_t threshold_len, uint32_t *onsets, size_t onsets_len,
+                             double *clarity_curve, size_t clarity_curve_len, double *weight_curve, size_t weight_curve_len,
+                             double *window_clarity, size_t window_clarity_len, double *window_weight, size_t window_weight_len,
+                             double *score, size_t score_len, uint32_t *back, size_t back_len, uint32_t *beats, size_t beats_len,
+                             uint32_t *downbeats, size_t downbeats_len, double *work, size_t work_len,
+                             size_t *onset_count, uint32_t *found, double *bpm, double *clarity, size_t lags[3], double saliences[3], size_t *count,
+                             uint32_t *steady, double *fraction, size_t *agreeing, size_t *windows, size_t *beat_count, size_t *downbeat_count);
+
+/* The same from magnitudes: their flux, which goes into flux, is the envelope.
+ * Room: row_slots of flux, and else as ph_analyse_envelope.
+ * Refuses 1 for rows, bins, the rate or a bound, 2 where there aren't rows times bins magnitudes, 3, and 4 for a magnitude. */
+uint32_t ph_analyse_magnitudes(const float *magnitudes, size_t magnitudes_len, size_t rows, size_t bins, uint32_t rate, double min_bpm, double max_bpm,
+                               double *flux, size_t flux_len, double *threshold, size_t threshold_len, uint32_t *onsets, size_t onsets_len,
+                               double *clarity_curve, size_t clarity_curve_len, double *weight_curve, size_t weight_curve_len,
+                               double *window_clarity, size_t window_clarity_len, double *window_weight, size_t window_weight_len,
+                               double *score, size_t score_len, uint32_t *back, size_t back_len, uint32_t *beats, size_t beats_len,
+                               uint32_t *downbeats, size_t downbeats_len, double *work, size_t work_len,
+                               size_t *onset_count, uint32_t *found, double *bpm, double *clarity, size_t lags[3], double saliences[3], size_t *count,
+                               uint32_t *steady, double *fraction, size_t *agreeing, size_t *windows, size_t *beat_count, size_t *downbeat_count);
 
 #ifdef __cplusplus
 }

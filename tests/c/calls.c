@@ -375,6 +375,108 @@ static void feature_patches(struct run *run)
     CHECK(same(fresh_similarity, similarity, sizeof similarity) && same(fresh_novelty, novelty, sizeof novelty));
 }
 
+/* what a whole analysis is lent, with room to spare behind each slice */
+enum { TRACK = 600, TRACK_LAGS = 181, SPARE = 3 };
+
+struct track {
+    double flux[TRACK + SPARE], threshold[TRACK + SPARE], score[TRACK + SPARE];
+    double clarity_curve[TRACK_LAGS + SPARE], weight_curve[TRACK_LAGS + SPARE], window_clarity[TRACK_LAGS + SPARE], window_weight[TRACK_LAGS + SPARE];
+    double work[TRACK_LAGS + SPARE];
+    uint32_t onsets[TRACK + SPARE], back[TRACK + SPARE], beats[TRACK + SPARE], downbeats[TRACK + SPARE];
+    double bpm, clarity, saliences[3], fraction;
+    size_t onset_count, lags[3], count, agreeing, windows, beat_count, downbeat_count;
+    uint32_t found, steady;
+};
+
+static void poison_track(struct track *t)
+{
+    memset(t, 0, sizeof *t);
+    poison(t->flux, TRACK + SPARE), poison(t->threshold, TRACK + SPARE), poison(t->score, TRACK + SPARE);
+    poison(t->clarity_curve, TRACK_LAGS + SPARE), poison(t->weight_curve, TRACK_LAGS + SPARE);
+    poison(t->window_clarity, TRACK_LAGS + SPARE), poison(t->window_weight, TRACK_LAGS + SPARE), poison(t->work, TRACK_LAGS + SPARE);
+    poison_frames(t->onsets, TRACK + SPARE), poison_frames(t->back, TRACK + SPARE);
+    poison_frames(t->beats, TRACK + SPARE), poison_frames(t->downbeats, TRACK + SPARE);
+    t->bpm = t->clarity = t->saliences[0] = t->saliences[2] = t->fraction = POISON;
+    t->onset_count = t->count = t->agreeing = t->windows = t->beat_count = t->downbeat_count = t->lags[0] = t->lags[2] = POISON_SIZE;
+    t->found = t->steady = POISON_FRAME;
+}
+
+static uint32_t analyse_envelope(const double *envelope, uint32_t rate, struct track *t, size_t work_len)
+{
+    return ph_analyse_envelope(envelope, TRACK, rate, 30.0, 300.0, t->threshold, TRACK + SPARE, t->onsets, TRACK + SPARE, t->clarity_curve,
+                               TRACK_LAGS + SPARE, t->weight_curve, TRACK_LAGS + SPARE, t->window_clarity, TRACK_LAGS + SPARE, t->window_weight,
+                               TRACK_LAGS + SPARE, t->score, TRACK + SPARE, t->back, TRACK + SPARE, t->beats, TRACK + SPARE, t->downbeats,
+                               TRACK + SPARE, t->work, work_len, &t->onset_count, &t->found, &t->bpm, &t->clarity, t->lags, t->saliences,
+                               &t->count, &t->steady, &t->fraction, &t->agreeing, &t->windows, &t->beat_count, &t->downbeat_count);
+}
+
+static uint32_t analyse_magnitudes(const float *magnitudes, size_t bins, uint32_t rate, struct track *t)
+{
+    return ph_analyse_magnitudes(magnitudes, TRACK, TRACK, bins, rate, 30.0, 300.0, t->flux, TRACK + SPARE, t->threshold, TRACK + SPARE,
+                                 t->onsets, TRACK + SPARE, t->clarity_curve, TRACK_LAGS + SPARE, t->weight_curve, TRACK_LAGS + SPARE,
+                                 t->window_clarity, TRACK_LAGS + SPARE, t->window_weight, TRACK_LAGS + SPARE, t->score, TRACK + SPARE, t->back,
+                                 TRACK + SPARE, t->beats, TRACK + SPARE, t->downbeats, TRACK + SPARE, t->work, TRACK_LAGS + SPARE,
+                                 &t->onset_count, &t->found, &t->bpm, &t->clarity, t->lags, t->saliences, &t->count, &t->steady,
+                                 &t->fraction, &t->agreeing, &t->windows, &t->beat_count, &t->downbeat_count);
+}
+
+/* one call for the whole track, and its parts called in turn */
+static void whole_tracks(struct run *run)
+{
+    enum { RATE = 25600 };
+    struct track *whole = malloc(sizeof *whole), *parts = malloc(sizeof *parts);
+    float magnitudes[TRACK];
+    double envelope[TRACK];
+    size_t rows = POISON_SIZE, lag_slots = POISON_SIZE, sorting = POISON_SIZE;
+
+    CHECK(whole != NULL && parts != NULL);
+    CHECK(ph_room_of(1048577, RATE, 30.0, 300.0, &rows, &lag_slots, &sorting) == 1);
+    CHECK(rows == POISON_SIZE && lag_slots == POISON_SIZE && sorting == POISON_SIZE);
+    CHECK(ph_room_of(TRACK, RATE, 30.0, 300.0, &rows, &lag_slots, &sorting) == 0);
+    CHECK(rows == TRACK && lag_slots == TRACK_LAGS && sorting == TRACK_LAGS);
+
+    for (size_t i = 0; i < TRACK; i++)
+        magnitudes[i] = i % 50 == 0 ? 1.0f : 0.0f;
+    poison_track(whole), poison_track(parts);
+    CHECK(analyse_magnitudes(magnitudes, 2, RATE, whole) == 2);
+    CHECK(analyse_magnitudes(magnitudes, 1, 0, whole) == 1);
+    CHECK(same(whole, parts, sizeof *whole));
+
+    CHECK(ph_spectral_flux(magnitudes, TRACK, TRACK, 1, parts->flux, TRACK + SPARE) == 0);
+    memcpy(envelope, parts->flux, sizeof envelope);
+    CHECK(ph_adaptive_threshold(envelope, TRACK, parts->threshold, TRACK + SPARE, parts->work, TRACK_LAGS) == 0);
+    CHECK(ph_pick_onsets(envelope, TRACK, parts->threshold, TRACK, RATE, parts->onsets, TRACK + SPARE, &parts->onset_count) == 0);
+    CHECK(ph_estimate(envelope, TRACK, parts->onset_count, RATE, 30.0, 300.0, parts->clarity_curve, TRACK_LAGS + SPARE, parts->weight_curve,
+                      TRACK_LAGS + SPARE, parts->work, TRACK_LAGS, &parts->found, &parts->bpm, &parts->clarity, parts->lags, parts->saliences,
+                      &parts->count) == 0);
+    CHECK(ph_stability_of(envelope, TRACK, RATE, 30.0, 300.0, parts->lags[0], parts->window_clarity, TRACK_LAGS + SPARE, parts->window_weight,
+                          TRACK_LAGS + SPARE, parts->work, TRACK_LAGS, &parts->steady, &parts->fraction, &parts->agreeing, &parts->windows) == 0);
+    CHECK(ph_beat_grid(envelope, TRACK, parts->lags[0], parts->score, TRACK + SPARE, parts->back, TRACK + SPARE, parts->beats, TRACK + SPARE,
+                       &parts->beat_count) == 0);
+    CHECK(ph_downbeats(envelope, TRACK, parts->beats, parts->beat_count, parts->downbeats, TRACK + SPARE, &parts->downbeat_count) == 0);
+    CHECK(parts->onset_count == 11 && parts->found == 1 && parts->bpm == 120.0 && parts->beat_count > 2 && parts->downbeat_count > 0);
+
+    CHECK(analyse_magnitudes(magnitudes, 1, RATE, whole) == 0);
+    CHECK(kept(whole->window_clarity, TRACK_LAGS, TRACK_LAGS + SPARE) && kept(whole->window_weight, TRACK_LAGS, TRACK_LAGS + SPARE));
+    CHECK(kept(whole->work, TRACK_LAGS, TRACK_LAGS + SPARE));
+    /* what is worked in holds anything */
+    memcpy(whole->window_clarity, parts->window_clarity, sizeof whole->window_clarity);
+    memcpy(whole->window_weight, parts->window_weight, sizeof whole->window_weight);
+    memcpy(whole->work, parts->work, sizeof whole->work);
+    CHECK(same(whole, parts, sizeof *whole));
+
+    poison_track(whole);
+    CHECK(analyse_envelope(envelope, RATE, whole, TRACK_LAGS - 1) == 3);
+    CHECK(whole->found == POISON_FRAME && whole->beat_count == POISON_SIZE && kept(whole->threshold, 0, TRACK + SPARE) && kept(whole->work, 0, TRACK_LAGS + SPARE));
+    CHECK(analyse_envelope(envelope, RATE, whole, TRACK_LAGS) == 0);
+    memcpy(whole->flux, parts->flux, sizeof whole->flux);
+    memcpy(whole->window_clarity, parts->window_clarity, sizeof whole->window_clarity);
+    memcpy(whole->window_weight, parts->window_weight, sizeof whole->window_weight);
+    memcpy(whole->work, parts->work, sizeof whole->work);
+    CHECK(same(whole, parts, sizeof *whole));
+    free(whole), free(parts);
+}
+
 static void *all(void *given)
 {
     struct run *run = given;
@@ -390,6 +492,7 @@ static void *all(void *given)
         sections(run);
         row_patches(run);
         feature_patches(run);
+        whole_tracks(run);
     }
     return NULL;
 }

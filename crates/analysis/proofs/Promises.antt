@@ -1,5 +1,5 @@
 -- What follows from the promises: any two outcomes coincide, but for the slots that are left open; the analysis of magnitudes is the analysis of
--- their flux; and there is a tempo exactly where the beats have a period. Assumes nothing.
+-- their flux. Assumes nothing.
 use mathlib.Core.Path.{_≡_, refl, sym, ap, _∙_, subst}
 use mathlib.Core.Bool.{Bool, true, false}
 use mathlib.Core.Logic.{⊎-elim}

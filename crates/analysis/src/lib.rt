@@ -247,9 +247,10 @@ fn analyse(
 }
 
 // Analyses an envelope of onset strength. Room, as `room_of` names it for N slots: rows each for threshold, onsets, score, back, beats and
-// downbeats; lags each for the four lag curves; sorting for work. Afterwards threshold, clarity, weight, score and back hold their curves and
-// onsets, beats and downbeats their frames; where there is no tempo score, back, beats, downbeats and the window curves are as they were. Refuses 1 for N, the
-// rate or a bound, 3 for too little room, 4 for a value that isn't finite or is larger than 2^150, and then writes nothing.
+// downbeats; lags each for the four lag curves; sorting for work. Afterwards threshold holds its curve and onsets its frames; clarity and
+// weight hold theirs as `estimate` leaves them, score, back and beats as `beat_grid` does at the tempo's lag, downbeats their frames. Where there is
+// no tempo the window curves, score, back, beats and downbeats are as they were. Refuses 1 for N, the rate or a bound, 3 for too little room, 4 for a value that isn't finite
+// or of size above 2^150, and then writes nothing.
 pub fn analyse_envelope(
     envelope: &[f64],
     rate: u32,

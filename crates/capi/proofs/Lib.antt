@@ -2,3 +2,4 @@
 pub mod Hands
 pub mod Tellings
 pub mod Outcomes
+pub mod TrackTellings

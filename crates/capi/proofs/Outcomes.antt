@@ -88,10 +88,11 @@ boundaries-unique p q = (
 
 pub rows-unique : {rows bins : ℕ} {was : magnitudes.Track} {patch : Patch} {work : List Float} {lent₀ : Ranges} {a b : ℕ} {x y : magnitudes.Track} {u v : List Float} {s t : Ranges}
     → RowsPromise rows bins was patch work lent₀ a x u s → RowsPromise rows bins was patch work lent₀ b y v t
-    → ((a ≡ b) × (s ≡ t)) × ((x ≡ y) × (length u ≡ length v))
+    → let sorted = magnitudes.sortedIn (magnitudes.numberOf rows bins was patch (length work)) rows patch in
+    ((a ≡ b) × (s ≡ t)) × ((x ≡ y) × (length u ≡ length v) × (drop sorted u ≡ drop sorted v))
 rows-unique p q = (
   handed-unique (p .handed) (q .handed),
-  (p .slices .track-is ∙ sym (q .slices .track-is), p .slices .work-length ∙ sym (q .slices .work-length)),
+  (p .slices .track-is ∙ sym (q .slices .track-is), p .slices .work-length ∙ sym (q .slices .work-length), p .slices .work-keeps ∙ sym (q .slices .work-keeps)),
 )
 
 pub features-unique : {rows : ℕ} {was : features.Track} {patch : Patch} {lent₀ : Ranges} {a b : ℕ} {x y : features.Track} {s t : Ranges}

@@ -4,3 +4,4 @@ pub mod Tempos
 pub mod Grids
 pub mod Forms
 pub mod Repairs
+pub mod Tracks

@@ -10,3 +10,4 @@ pub mod tempos; // tempos.rt: lags, tempo and stability
 pub mod grids; // grids.rt: beats, downbeats, bars
 pub mod forms; // forms.rt: similarity, novelty, sections
 pub mod repairs; // repairs.rt: patches
+pub mod tracks; // tracks.rt: one whole track in one call

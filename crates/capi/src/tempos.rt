@@ -56,8 +56,8 @@ pub extern "C" fn ph_lag_range(
     )
 }
 
-// Stores the kind of a tempo, and its values, +0 without one.
-fn put_tempo(tempo: Tempo, found: &mut u32, bpm: &mut f64, clarity: &mut f64)
+// Inner: stores the kind of a tempo, and its values, +0 without one.
+pub fn put_tempo(tempo: Tempo, found: &mut u32, bpm: &mut f64, clarity: &mut f64)
     ensures { λ _. ⌜ (now (found .exit) ≡ foundIn tempo) × (now (bpm .exit) ≡ bpmIn tempo) × (now (clarity .exit) ≡ clarityIn tempo) ⌝ }
 {
     match tempo {
@@ -77,8 +77,8 @@ fn put_tempo(tempo: Tempo, found: &mut u32, bpm: &mut f64, clarity: &mut f64)
     }
 }
 
-// Stores the lags and the saliences of the candidates.
-fn put_candidates(candidates: [Candidate; 3], lags: &mut [usize; 3], saliences: &mut [f64; 3])
+// Inner: stores the lags and the saliences of the candidates.
+pub fn put_candidates(candidates: [Candidate; 3], lags: &mut [usize; 3], saliences: &mut [f64; 3])
     ensures { λ _. ⌜ (now (lags .exit) ≡ lagsOf candidates) × (now (saliences .exit) ≡ saliencesOf candidates) ⌝ }
 {
     let first = candidates[0];
@@ -143,8 +143,8 @@ pub extern "C" fn ph_estimate(
     put_estimate(answer, found, bpm, clarity, lags, saliences, count)
 }
 
-// Stores the kind of a stability, and its values, zeros without one.
-fn put_stability(
+// Inner: stores the kind of a stability, and its values, zeros without one.
+pub fn put_stability(
     stability: Stability,
     found: &mut u32,
     fraction: &mut f64,

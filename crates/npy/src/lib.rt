@@ -1,6 +1,7 @@
 // The NumPy array that the reporting program reads: what its first bytes and its header say, and its rows of values.
 //
-// Document 01, The reporting program. No call refuses anything or prints: a malformed header is an answer.
+// Document 01, The reporting program. Inner calls all: the reporting program is their only caller.
+// No call refuses anything or prints: a malformed header is an answer.
 ghost use mathlib.Core.Path.{_≡_};
 ghost use Prim.Native.Nat.{_+_, _-_, _*_, _≤_};
 ghost use lib.ListN.{length, drop};

@@ -1,5 +1,5 @@
 -- Document 01, "For each input, refused or not, a promise determines the result and each lent slot afterwards; prove that any two outcomes it
--- permits coincide." One statement for each promise, named by its call. Slots that are sorted in, and stability's lag curves, are the
+-- permits coincide." One statement for each promise, named by its call or by the record that several calls share. Slots that are sorted in, and stability's lag curves, are the
 -- exceptions: of those slices two outcomes have one length and agree past the slots that the formula names, or in all where a call refuses.
 -- Assumes nothing.
 use mathlib.Core.List.{List}
@@ -8,18 +8,20 @@ use Prim.Native.Nat.{ℕ}
 use denote.Ref.{RefT, now}
 use lib.Ieee.{Float}
 use lib.ListN.{length, drop}
-use Rattle.numbers.specs.Lists.{listed}
+use Rattle.numbers.specs.Lists.{curve, listed}
 use Rattle.numbers.specs.Refusals.{unlessRefused}
 use Rattle.numbers.specs.declared.Listing.{Listing}
 use Rattle.frames.specs.Frames.{RowOf}
 use Rattle.frames.proofs.Laws.{one-part}
 use Rattle.median.specs.Answers.{Answered, sortedIn}
 use Rattle.median.specs.declared.Answer.{Answer}
+use Rattle.onsets.specs.Flux.{fluxAt}
 use Rattle.onsets.specs.Outcomes.{Written, Lists}
 use Rattle.onsets.specs.Threshold.{sortingRoom, Thresholds}
 use Rattle.onsets.proofs.Outcomes.{written-unique, lists-unique}
 use Rattle.onsets.proofs.Thresholds.{thresholds-unique}
-use Rattle.lags.specs.Lags.{minLag, maxLag}
+use Rattle.lags.specs.Lags.{minLag, maxLag, lagRange}
+use Rattle.lags.specs.declared.LagRange.{LagRange}
 use Rattle.lags.specs.declared.TempoOpts.{TempoOpts}
 use Rattle.tempo.specs.Answers.{Estimated}
 use Rattle.tempo.specs.declared.TempoEstimate.{TempoEstimate}
@@ -28,7 +30,9 @@ use Rattle.stability.specs.Answers.{stabilityRefusal, leftOpen, Steadied}
 use Rattle.stability.specs.declared.Steadiness.{Steadiness}
 use Rattle.stability.proofs.Promises as stability
 use Rattle.beats.specs.Grids.{scoresOf, linksOf, gridOf, Gridded}
+use Rattle.bars.specs.BarBeats.{barBeatOf}
 use Rattle.bars.specs.Downbeats.{Downbeats}
+use Rattle.bars.specs.declared.BarBeat.{BarBeat}
 use Rattle.structure.specs.Similarity.{SimilarityDone}
 use Rattle.structure.specs.Novelty.{NoveltyDone}
 use Rattle.sections.specs.Outcomes.{Found}
@@ -41,14 +45,25 @@ use Rattle.patch_magnitudes.proofs.Outcomes as magnitude-outcomes
 use Rattle.patch_features.specs.Features as features
 use Rattle.patch_features.specs.declared.PatchedFeatures.{PatchedFeatures}
 use Rattle.patch_features.proofs.Outcomes as feature-outcomes
-use Rattle.analysis.specs.Rooms.{Results, Spare}
+use Rattle.analysis.specs.Rooms.{Results, Spare, roomOf, magnitudesNumber}
 use Rattle.analysis.specs.Analyses.{openLags, openWork, Analysed, AnalysedMagnitudes}
 use Rattle.analysis.specs.declared.Analysis.{Analysis}
+use Rattle.analysis.specs.declared.Room.{Room}
 use Rattle.analysis.proofs.Promises as analyses
 
--- `lag_range`, `bar_beat_at`, and the constructors and setters of the options: the answer equals a value of the inputs
-pub equation : {A : Type 0} {value a b : A} → a ≡ value → b ≡ value → a ≡ b
-equation p q = p ∙ sym q
+-- `lag_range`, `room_of`, `bar_beat_at`
+pub lag-range : (rate : ℕ) (o : TempoOpts) {a b : LagRange} → a ≡ lagRange rate o → b ≡ lagRange rate o → a ≡ b
+lag-range rate o p q = p ∙ sym q
+
+pub room-of : (rows rate : ℕ) (o : TempoOpts) {a b : Room} → a ≡ roomOf rows rate o → b ≡ roomOf rows rate o → a ≡ b
+room-of rows rate o p q = p ∙ sym q
+
+pub bar-beat-at : (time : Float) (bars beats : List Float) {a b : BarBeat} → a ≡ barBeatOf time bars beats → b ≡ barBeatOf time bars beats → a ≡ b
+bar-beat-at time bars beats p q = p ∙ sym q
+
+-- `TempoOpts::new`, `between`, `with_min_bpm`, `with_max_bpm`: the options equal a value of the inputs
+pub options : {value a b : TempoOpts} → a ≡ value → b ≡ value → a ≡ b
+options p q = p ∙ sym q
 
 -- `spectral_flux`, `frame_times`, `boundary_times`: a number, and one lent list
 pub written : {A : Type 0} (number : ℕ) (done was : List A) {a b : ℕ} {x y : List A} → Written number done was a x → Written number done was b y
@@ -60,11 +75,15 @@ pub listing : (number : ℕ) (entries was : List ℕ) {a b : Listing} {x y : Lis
     → (a .number ≡ b .number) × (a .count ≡ b .count) × (x ≡ y)
 listing number entries was = lists-unique number entries was
 
--- the frame reader: one place in memory, and what it holds
+-- `frames_of`: the reader holds the slab that it was given, and the bins
+pub frames-of : {slab r s : RefT (List Float)} {bins m n : ℕ} → (r ≡ slab) × (m ≡ bins) → (s ≡ slab) × (n ≡ bins) → (r ≡ s) × (m ≡ n)
+frames-of p q = (p .0 ∙ sym (q .0), p .1 ∙ sym (q .1))
+
+-- `row_of`, `Frames::row`, `row_at`: one place in memory, and what it holds
 pub row : {slab p q : RefT (List Float)} {bins t : ℕ} → RowOf slab bins t p → RowOf slab bins t q → (p .ptr ≡ q .ptr) × (now p ≡ now q)
 row = one-part
 
--- `median_of`, `mad_of`
+-- `median_of`, `mad_of`: `MedianPromise` and `MadPromise` are `Answered` of their own numbers and values
 pub median : {number : ℕ} {value : Float} {xs work : List Float} {a b : Answer} {v w : List Float}
     → Answered number value xs work a v → Answered number value xs work b w
     → (a ≡ b) × (length v ≡ length w) × (drop (sortedIn number xs) v ≡ drop (sortedIn number xs) w)
@@ -120,7 +139,7 @@ pub novelty : {similarities : List Float} {rows : ℕ} {was : List Float} {m n :
     → NoveltyDone similarities rows was m x → NoveltyDone similarities rows was n y → (m ≡ n) × (x ≡ y)
 novelty p q = (p .answer ∙ sym (q .answer), p .slots ∙ sym (q .slots))
 
--- `boundaries`
+-- `boundaries`: `BoundariesPromise` is `Found` of its number and its boundaries
 pub boundaries : (number : ℕ) (curve : List Float) (bounds rows : List ℕ) (work : List Float) {a b : Sections} {x y : List ℕ} {u v : List Float}
     → Found number curve bounds rows work a x u → Found number curve bounds rows work b y v
     → ((a .number ≡ b .number) × (a .sections ≡ b .sections) × (a .count ≡ b .count) × (a .confidence ≡ b .confidence) × (x ≡ y)
@@ -139,7 +158,7 @@ pub patch-features : (rows : ℕ) (was : features.Track) (patch : Patch) {a b : 
     → features.Patches rows was patch a x → features.Patches rows was patch b y → (a ≡ b) × (x ≡ y)
 patch-features rows was patch p q = feature-outcomes.unique rows was patch p q
 
--- `analyse_envelope`, and `analyse_magnitudes` with its flux: the answer and each result; what is worked in, past the slots left open
+-- `analyse_envelope`: the answer and each result; what is worked in, past the slots left open
 pub analysis : {number : ℕ} {env : List Float} {rate : ℕ} {o : TempoOpts} {was : Results} {lent : Spare} {a b : Analysis} {x y : Results} {s t : Spare}
     → Analysed number env rate o was lent a x s → Analysed number env rate o was lent b y t
     → (a ≡ b) × (x ≡ y)
@@ -155,7 +174,14 @@ analysis p q =
       analyses.open-coincide (p .works) (q .works),
     )
 
+-- `analyse_magnitudes`: the flux too
 pub analysis-of-magnitudes : {m : List Float} {rows bins rate : ℕ} {o : TempoOpts} {flux : List Float} {was : Results} {lent : Spare}
     {a b : Analysis} {f g : List Float} {x y : Results} {s t : Spare}
-    → AnalysedMagnitudes m rows bins rate o flux was lent a f x s → AnalysedMagnitudes m rows bins rate o flux was lent b g y t → (a ≡ b) × (f ≡ g) × (x ≡ y)
-analysis-of-magnitudes = analyses.magnitudes-coincide
+    → AnalysedMagnitudes m rows bins rate o flux was lent a f x s → AnalysedMagnitudes m rows bins rate o flux was lent b g y t
+    → let number = magnitudesNumber m rows bins rate o flux was lent in
+    let env = curve (fluxAt m bins) rows in
+    (a ≡ b) × (f ≡ g) × (x ≡ y)
+    × ((length (s .windowClarity) ≡ length (t .windowClarity)) × (drop (openLags number env rate o) (s .windowClarity) ≡ drop (openLags number env rate o) (t .windowClarity)))
+    × ((length (s .windowWeight) ≡ length (t .windowWeight)) × (drop (openLags number env rate o) (s .windowWeight) ≡ drop (openLags number env rate o) (t .windowWeight)))
+    × ((length (s .work) ≡ length (t .work)) × (drop (openWork number env rate o) (s .work) ≡ drop (openWork number env rate o) (t .work)))
+analysis-of-magnitudes p q = let one = analysis (p .analysed) (q .analysed) in (one .0, p .fluxes ∙ sym (q .fluxes), one .1, one .2, one .3, one .4)

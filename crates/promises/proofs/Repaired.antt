@@ -4,9 +4,10 @@
 -- `Ran` is any run of calls, told by what each promises: patches, refused and empty ones among them, and calls of any rows and bins that are
 -- refused. `Fresh` says that the curves are those that demand 2 gives the rows, `analysed` is one analysis from nothing.
 -- Each theorem holds for every input, and assumes nothing.
-use mathlib.Core.List.{List, []}
+use mathlib.Core.List.{List, [], _∷_}
 use mathlib.Core.Path.{_≡_}
-use Prim.Native.Nat.{ℕ}
+use Prim.Native.Nat.{ℕ, zero, suc, _+_, _-_, min}
+use native.Mathlib.Omega.{arith}
 use lib.Ieee.{Float}
 use lib.ListN.{length, take}
 use Rattle.numbers.specs.declared.Listing.{Listing}
@@ -19,15 +20,16 @@ use Rattle.stability.specs.Answers.{Steadied}
 use Rattle.stability.specs.declared.Steadiness.{Steadiness}
 use Rattle.beats.specs.Grids.{Gridded}
 use Rattle.bars.specs.Downbeats.{Downbeats}
-use Rattle.patching.specs.Patches.{Patch, patchOf, edited}
+use Rattle.patching.specs.Patches.{Patch, patchOf, pastRow, edited}
 use Rattle.patch_magnitudes.specs.declared.Patched.{Patched}
 use Rattle.patch_magnitudes.specs.declared.Patched.the-variants.{Refused, Wrote}
-use Rattle.patch_magnitudes.specs.Magnitudes.{Track, track, numberOf, Patches}
+use Rattle.patch_magnitudes.specs.Magnitudes.{Track, track, fluxFirst, fluxPast, thresholdFirst, thresholdPast, numberOf, answered, Patches}
 use Rattle.patch_magnitudes.specs.Runs.{fluxCurve, thresholdCurve, Fresh, Kept, Sound, Good, analysed, Ran}
 use Rattle.patch_magnitudes.proofs.Repairs as repairs
-use Rattle.analysis.specs.Rooms.{Results, Spare}
-use Rattle.analysis.specs.Analyses.{AnalysedEnvelope}
+use Rattle.analysis.specs.Rooms.{Results, Spare, magnitudesNumber}
+use Rattle.analysis.specs.Analyses.{AnalysedEnvelope, AnalysedMagnitudes}
 use Rattle.analysis.specs.declared.Analysis.{Analysis}
+use Rattle.analysis.proofs.Promises.{flux-is-the-envelope}
 use Rattle.promises.proofs.Determined.{listing, estimate, stability-of, beat-grid, downbeats, analysis}
 
 -- ---- one patch
@@ -41,6 +43,25 @@ patching-equals-starting-over = repairs.call-is-fresh
 pub rows-are-edited : (rows bins : ℕ) (was : Track) (patch : Patch) (work : List Float) (f g t u : ℕ) (now : Track) (work′ : List Float)
     → Patches rows bins was patch work (Wrote f g t u) now work′ → now .magnitudes ≡ edited bins (was .magnitudes) patch
 rows-are-edited = repairs.accepted-is-edited
+
+named : (rows bins start : ℕ) (x : Float) (xs : List Float) (n f g t u : ℕ) → Wrote f g t u ≡ answered n rows bins (patchOf start (x ∷ xs))
+    → let past = pastRow bins (patchOf start (x ∷ xs)) in (f ≡ start) × (g ≡ min (past + 1) rows) × (t ≡ start - 10) × (u ≡ min (past + 10 + 1) rows)
+unfolding answered
+named rows bins start x xs (suc n) f g t u e = let z : _≡_ {A = ℕ} 0 1 = cc in absurd (omega arith)
+named rows bins start x xs zero f g t u e =
+    let patch = patchOf start (x ∷ xs) in
+    let p : f ≡ fluxFirst patch = cc in
+    let q : g ≡ fluxPast rows bins patch = cc in
+    let r : t ≡ thresholdFirst patch = cc in
+    let s : u ≡ thresholdPast rows bins patch = cc in
+    (p, q, r, s)
+
+-- The slots that it names are demand 3's: flux a to b, threshold a-10 to b+10, cut at the ends; 0 to 0 where the patch is empty.
+pub names-its-slots : (rows bins : ℕ) (was : Track) (start : ℕ) (x : Float) (xs work : List Float) (f g t u : ℕ) (now : Track) (work′ : List Float)
+    → Patches rows bins was (patchOf start (x ∷ xs)) work (Wrote f g t u) now work′
+    → let past = pastRow bins (patchOf start (x ∷ xs)) in (f ≡ start) × (g ≡ min (past + 1) rows) × (t ≡ start - 10) × (u ≡ min (past + 10 + 1) rows)
+names-its-slots rows bins was start x xs work f g t u now work′ done =
+    named rows bins start x xs (numberOf rows bins was (patchOf start (x ∷ xs)) (length work)) f g t u (done .answer-is)
 
 -- Outside them and the slots that the answer names nothing differs.
 pub outside-stays : (rows bins : ℕ) (was : Track) (patch : Patch) (work : List Float) (f g t u : ℕ) (now : Track) (work′ : List Float)
@@ -123,3 +144,13 @@ module _ (rows bins : ℕ) (was last : Track) (fresh : Fresh rows bins was) (ran
       → AnalysedEnvelope (fluxCurve rows bins (last .magnitudes)) rate o results lent b y t
       → (a ≡ b) × (x ≡ y)
   same-analysis rate o results lent p q = let one = analysis (rw flux-is at p) q in (one .0, one .1)
+
+  -- and it is the full run's, from the last rows of magnitudes on
+  pub same-as-full-run : (rate : ℕ) (o : TempoOpts) (flux : List Float) (results : Results) (lent : Spare) {a b : Analysis} {f : List Float} {x y : Results} {s t : Spare}
+      → magnitudesNumber (last .magnitudes) rows bins rate o flux results lent ≡ 0
+      → AnalysedEnvelope (take rows (last .flux)) rate o results lent a x s
+      → AnalysedMagnitudes (last .magnitudes) rows bins rate o flux results lent b f y t
+      → (a ≡ b) × (x ≡ y)
+  unfolding fluxCurve
+  same-as-full-run rate o flux results lent z p q =
+      same-analysis rate o results lent p (flux-is-the-envelope (last .magnitudes) rows bins rate o flux results lent z q)

@@ -1,17 +1,18 @@
 -- Demand 3, "Likewise for feature rows with their similarity and novelty curves", and what follows for the sections. The words are those of
 -- Repaired. Each theorem holds for every input, and assumes nothing.
-use mathlib.Core.List.{List, []}
+use mathlib.Core.List.{List, [], _∷_}
 use mathlib.Core.Path.{_≡_}
-use Prim.Native.Nat.{ℕ}
+use Prim.Native.Nat.{ℕ, zero, suc, _+_, _-_, _*_, min}
+use native.Mathlib.Omega.{arith}
 use lib.Ieee.{Float}
 use lib.ListN.{take}
 use Rattle.numbers.specs.Limits.{featureWidth}
 use Rattle.sections.specs.Outcomes.{BoundariesPromise}
 use Rattle.sections.specs.declared.Sections.{Sections}
-use Rattle.patching.specs.Patches.{Patch, patchOf, edited}
+use Rattle.patching.specs.Patches.{Patch, patchOf, pastRow, edited}
 use Rattle.patch_features.specs.declared.PatchedFeatures.{PatchedFeatures}
 use Rattle.patch_features.specs.declared.PatchedFeatures.the-variants.{Refused, Wrote}
-use Rattle.patch_features.specs.Features.{Track, track, numberOf, Patches}
+use Rattle.patch_features.specs.Features.{Track, track, similarityFirst, similarityPast, noveltyFirst, noveltyPast, numberOf, answered, Patches}
 use Rattle.patch_features.specs.Runs.{noveltyCurve, Fresh, Kept, Sound, Good, analysed, Ran}
 use Rattle.patch_features.proofs.Repairs as repairs
 use Rattle.promises.proofs.Determined.{boundaries}
@@ -26,6 +27,25 @@ patching-equals-starting-over = repairs.call-is-fresh
 pub rows-are-edited : (rows : ℕ) (was : Track) (patch : Patch) (f g t u : ℕ) (now : Track) → Patches rows was patch (Wrote f g t u) now
     → now .features ≡ edited featureWidth (was .features) patch
 rows-are-edited = repairs.accepted-is-edited
+
+named : (rows start : ℕ) (x : Float) (xs : List Float) (n f g t u : ℕ) → Wrote f g t u ≡ answered n rows (patchOf start (x ∷ xs))
+    → let past = pastRow featureWidth (patchOf start (x ∷ xs)) in
+    (f ≡ (start - 16) * 17 + min start 16) × (g ≡ past * 17) × (t ≡ start - 7) × (u ≡ min (past + 8) rows)
+unfolding answered
+named rows start x xs (suc n) f g t u e = let z : _≡_ {A = ℕ} 0 1 = cc in absurd (omega arith)
+named rows start x xs zero f g t u e =
+    let patch = patchOf start (x ∷ xs) in
+    let p : f ≡ similarityFirst patch = cc in
+    let q : g ≡ similarityPast patch = cc in
+    let r : t ≡ noveltyFirst patch = cc in
+    let s : u ≡ noveltyPast rows patch = cc in
+    (p, q, r, s)
+
+-- The slots that it names are demand 3's: from pair (max(0, a - 16), a) to 17·b, and novelty a-7 to b+7, cut at the ends.
+pub names-its-slots : (rows : ℕ) (was : Track) (start : ℕ) (x : Float) (xs : List Float) (f g t u : ℕ) (now : Track) → Patches rows was (patchOf start (x ∷ xs)) (Wrote f g t u) now
+    → let past = pastRow featureWidth (patchOf start (x ∷ xs)) in
+    (f ≡ (start - 16) * 17 + min start 16) × (g ≡ past * 17) × (t ≡ start - 7) × (u ≡ min (past + 8) rows)
+names-its-slots rows was start x xs f g t u now done = named rows start x xs (numberOf rows was (patchOf start (x ∷ xs))) f g t u (done .answer-is)
 
 -- Outside them, the pairs that touch one of them and the slots that the answer names nothing differs.
 pub outside-stays : (rows : ℕ) (was : Track) (patch : Patch) (f g t u : ℕ) (now : Track) → Patches rows was patch (Wrote f g t u) now → Kept patch f g t u was now

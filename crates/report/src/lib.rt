@@ -1,4 +1,4 @@
-// The reporting program's work, apart from its reading and writing: rows that come one after the other, the number of refusal, and the text.
+// The reporting program's work, apart from its reading and writing: rows that come one after the other, and the number of refusal.
 //
 // Document 01, The reporting program. Inner calls all: the crate that reads and writes is their only caller.
 pub mod stream; // stream.rt: the flux of rows that come one after the other, with two of them kept

@@ -296,7 +296,7 @@ const KERNEL: [[f64; 16]; 16] = [
     ],
 ];
 
-// The table as a value. A caller copies it once and lends it down: an index into the constant itself copies the table at each use.
+// Inner: the table as a value. A caller copies it once and lends it down: an index into the constant itself copies the table at each use.
 pub fn kernel() -> [[f64; 16]; 16]
     ensures { λ r. ⌜ r ≡ kernelTable ⌝ }
 {

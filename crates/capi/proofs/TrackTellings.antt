@@ -1,0 +1,66 @@
+-- What the two analyses promise to C, from what the proved calls promise of their answer and from how it is handed over. Assumes nothing.
+use Prim.Native.Nat.{ℕ, zero, suc}
+use mathlib.Core.Path.{_≡_, refl, sym, ap, _∙_}
+use mathlib.Core.List.{List}
+use lib.Ieee.{Float}
+use Rattle.numbers.specs.Refusals.{unlessRefused}
+use Rattle.lags.specs.declared.TempoOpts.{TempoOpts}
+use Rattle.analysis.specs.declared.Analysis.{Analysis}
+use Rattle.analysis.specs.Rooms.{Results, Spare}
+use Rattle.analysis.specs.Analyses.{analysisOf, withoutAnalysis, Analysed, AnalysedMagnitudes}
+use Rattle.capi.specs.Handed.{Handed}
+use Rattle.capi.specs.Tempos.{TempoLent, tempoLent, ShareLent}
+use Rattle.capi.specs.Tracks.{TrackLent, trackParts, TrackTold, MagnitudesPromise}
+use Rattle.capi.proofs.Hands.{handed-on}
+use Rattle.capi.proofs.Outcomes.{handed-unique}
+
+-- the lent numbers of an estimate, and of a track, part by part
+pub tempo-made : {f f′ : ℕ} {b b′ c c′ : Float} {l l′ : List ℕ} {s s′ : List Float} (n : ℕ) → f ≡ f′ → b ≡ b′ → c ≡ c′ → l ≡ l′ → s ≡ s′
+    → tempoLent f b c l s n ≡ tempoLent f′ b′ c′ l′ s′ n
+tempo-made n f b c l s = rw (f, b, c, l, s)
+
+pub track-made : {t t′ : TempoLent} {s s′ : ShareLent} (onsets beats downbeats : ℕ) → t ≡ t′ → s ≡ s′
+    → _≡_ {A = TrackLent} (record { onsets = onsets; tempo = t; share = s; beats = beats; downbeats = downbeats })
+    (record { onsets = onsets; tempo = t′; share = s′; beats = beats; downbeats = downbeats })
+track-made onsets beats downbeats t s = rw (t, s)
+
+-- the number of an analysis is the one that it is told by
+number-of : (n : ℕ) (env : List Float) (rate : ℕ) (o : TempoOpts) → unlessRefused n (analysisOf env rate o) (withoutAnalysis n) .number ≡ n
+unfolding analysisOf
+number-of zero env rate o = refl
+number-of (suc k) env rate o = refl
+
+parts-of : (n : ℕ) (a b : Analysis) → trackParts (unlessRefused n a b) ≡ unlessRefused n (trackParts a) (trackParts b)
+parts-of zero a b = refl
+parts-of (suc k) a b = refl
+
+pub track-told : {number : ℕ} {env : List Float} {rate : ℕ} {o : TempoOpts} {was : Results} {spare : Spare} {own : Analysis} {after : Results} {left : Spare}
+    {lent₀ : TrackLent} {answer : ℕ} {lent : TrackLent}
+    → Analysed number env rate o was spare own after left → Handed (own .number) (trackParts own) lent₀ answer lent
+    → TrackTold number env rate o was spare lent₀ answer after left lent
+track-told {number} {env} {rate} {o} p h =
+    record {
+      handed =
+          handed-on number (trackParts (analysisOf env rate o)) (trackParts (withoutAnalysis number)) (rw (p .answered) (number-of number env rate o))
+          (rw (p .answered) (parts-of number (analysisOf env rate o) (withoutAnalysis number))) h;
+      slices =
+          record {
+            answered = refl;
+            written = p .written;
+            window-clarities = p .window-clarities;
+            window-weights = p .window-weights;
+            works = p .works;
+          };
+    }
+
+pub magnitudes-told : {magnitudes : List Float} {rows bins rate : ℕ} {o : TempoOpts} {flux : List Float} {was : Results} {spare : Spare} {own : Analysis} {flux′ : List Float}
+    {after : Results} {left : Spare} {lent₀ : TrackLent} {answer : ℕ} {lent : TrackLent}
+    → AnalysedMagnitudes magnitudes rows bins rate o flux was spare own flux′ after left → Handed (own .number) (trackParts own) lent₀ answer lent
+    → MagnitudesPromise magnitudes rows bins rate o flux was spare lent₀ answer flux′ after left lent
+magnitudes-told p h = record { fluxes = p .fluxes; track = track-told (p .analysed) h }
+
+-- any two outcomes coincide, but for what is worked in
+pub track-unique : {number : ℕ} {env : List Float} {rate : ℕ} {o : TempoOpts} {was : Results} {spare : Spare} {lent₀ : TrackLent}
+    {a b : ℕ} {x y : Results} {u v : Spare} {s t : TrackLent}
+    → TrackTold number env rate o was spare lent₀ a x u s → TrackTold number env rate o was spare lent₀ b y v t → ((a ≡ b) × (s ≡ t)) × (x ≡ y)
+track-unique p q = (handed-unique (p .handed) (q .handed), p .slices .written ∙ sym (q .slices .written))

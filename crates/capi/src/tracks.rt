@@ -1,0 +1,223 @@
+// The calls of crate analysis, for C: one whole track in one call, and the room that it needs.
+use crate::tempos::put_candidates;
+use crate::tempos::put_stability;
+use crate::tempos::put_tempo;
+use analysis::Analysis;
+use analysis::Room;
+use lags::TempoOpts;
+ghost use mathlib.Core.Path.{_≡_};
+ghost use Rattle.lags.specs.Options.{optionsOf};
+ghost use Rattle.analysis.specs.Rooms.{results, spare, roomOf};
+ghost use Rattle.capi.specs.Handed.{Handed};
+ghost use Rattle.capi.specs.Tracks.{roomLent, roomParts, trackLent, trackParts, EnvelopePromise, MagnitudesPromise};
+
+// Stores the room unless the call refused, and answers its number.
+fn put_room(room: Room, row_slots: &mut usize, lag_slots: &mut usize, work_slots: &mut usize) -> u32
+    ensures { λ r. ⌜ Handed (room .number) (roomParts room) (roomLent (now («row_slots» .entry)) (now («lag_slots» .entry)) (now («work_slots» .entry))) r (roomLent (now («row_slots» .exit)) (now («lag_slots» .exit)) (now («work_slots» .exit))) ⌝ }
+{
+    if room.number != 0 {
+        return room.number;
+    }
+    *row_slots = room.rows;
+    *lag_slots = room.lags;
+    *work_slots = room.sorting;
+    0
+}
+
+// `analysis::room_of`, for C.
+#[no_mangle]
+pub extern "C" fn ph_room_of(
+    rows: usize,
+    rate: u32,
+    min_bpm: f64,
+    max_bpm: f64,
+    row_slots: &mut usize,
+    lag_slots: &mut usize,
+    work_slots: &mut usize,
+) -> u32
+    ensures { λ r. ⌜ Handed (roomOf rows rate (optionsOf «min_bpm» «max_bpm») .number) (roomParts (roomOf rows rate (optionsOf «min_bpm» «max_bpm»))) (roomLent (now («row_slots» .entry)) (now («lag_slots» .entry)) (now («work_slots» .entry))) r (roomLent (now («row_slots» .exit)) (now («lag_slots» .exit)) (now («work_slots» .exit))) ⌝ }
+{
+    put_room(
+        analysis::room_of(rows, rate, TempoOpts::between(min_bpm, max_bpm)),
+        row_slots,
+        lag_slots,
+        work_slots,
+    )
+}
+
+// Stores the parts of an analysis unless the call refused, and answers its number.
+fn put_analysis(
+    answer: Analysis,
+    onset_count: &mut usize,
+    found: &mut u32,
+    bpm: &mut f64,
+    clarity: &mut f64,
+    lags: &mut [usize; 3],
+    saliences: &mut [f64; 3],
+    count: &mut usize,
+    steady: &mut u32,
+    fraction: &mut f64,
+    agreeing: &mut usize,
+    windows: &mut usize,
+    beat_count: &mut usize,
+    downbeat_count: &mut usize,
+) -> u32
+    ensures { λ r. ⌜ Handed (answer .number) (trackParts answer) (trackLent (now («onset_count» .entry)) (now (found .entry)) (now (bpm .entry)) (now (clarity .entry)) (now (lags .entry)) (now (saliences .entry)) (now (count .entry)) (now (steady .entry)) (now (fraction .entry)) (now (agreeing .entry)) (now (windows .entry)) (now («beat_count» .entry)) (now («downbeat_count» .entry))) r (trackLent (now («onset_count» .exit)) (now (found .exit)) (now (bpm .exit)) (now (clarity .exit)) (now (lags .exit)) (now (saliences .exit)) (now (count .exit)) (now (steady .exit)) (now (fraction .exit)) (now (agreeing .exit)) (now (windows .exit)) (now («beat_count» .exit)) (now («downbeat_count» .exit))) ⌝ }
+{
+    if answer.number != 0 {
+        return answer.number;
+    }
+    let tempo = answer.tempo;
+    let candidates = answer.candidates;
+    let stability = answer.stability;
+    put_tempo(tempo, found, bpm, clarity);
+    put_candidates(candidates, lags, saliences);
+    put_stability(stability, steady, fraction, agreeing, windows);
+    *onset_count = answer.onsets;
+    *count = answer.count;
+    *beat_count = answer.beats;
+    *downbeat_count = answer.downbeats;
+    0
+}
+
+// `analysis::analyse_envelope`, for C.
+#[no_mangle]
+pub extern "C" fn ph_analyse_envelope(
+    envelope: &[f64],
+    rate: u32,
+    min_bpm: f64,
+    max_bpm: f64,
+    threshold: &mut [f64],
+    onsets: &mut [u32],
+    clarity_curve: &mut [f64],
+    weight_curve: &mut [f64],
+    window_clarity: &mut [f64],
+    window_weight: &mut [f64],
+    score: &mut [f64],
+    back: &mut [u32],
+    beats: &mut [u32],
+    downbeats: &mut [u32],
+    work: &mut [f64],
+    onset_count: &mut usize,
+    found: &mut u32,
+    bpm: &mut f64,
+    clarity: &mut f64,
+    lags: &mut [usize; 3],
+    saliences: &mut [f64; 3],
+    count: &mut usize,
+    steady: &mut u32,
+    fraction: &mut f64,
+    agreeing: &mut usize,
+    windows: &mut usize,
+    beat_count: &mut usize,
+    downbeat_count: &mut usize,
+) -> u32
+    ensures { λ r. ⌜ EnvelopePromise (now (envelope .entry)) rate (optionsOf «min_bpm» «max_bpm») (results (now (threshold .entry)) (now (onsets .entry)) (now («clarity_curve» .entry)) (now («weight_curve» .entry)) (now (score .entry)) (now (back .entry)) (now (beats .entry)) (now (downbeats .entry))) (spare (now («window_clarity» .entry)) (now («window_weight» .entry)) (now (work .entry))) (trackLent (now («onset_count» .entry)) (now (found .entry)) (now (bpm .entry)) (now (clarity .entry)) (now (lags .entry)) (now (saliences .entry)) (now (count .entry)) (now (steady .entry)) (now (fraction .entry)) (now (agreeing .entry)) (now (windows .entry)) (now («beat_count» .entry)) (now («downbeat_count» .entry))) r (results (now (threshold .exit)) (now (onsets .exit)) (now («clarity_curve» .exit)) (now («weight_curve» .exit)) (now (score .exit)) (now (back .exit)) (now (beats .exit)) (now (downbeats .exit))) (spare (now («window_clarity» .exit)) (now («window_weight» .exit)) (now (work .exit))) (trackLent (now («onset_count» .exit)) (now (found .exit)) (now (bpm .exit)) (now (clarity .exit)) (now (lags .exit)) (now (saliences .exit)) (now (count .exit)) (now (steady .exit)) (now (fraction .exit)) (now (agreeing .exit)) (now (windows .exit)) (now («beat_count» .exit)) (now («downbeat_count» .exit))) ⌝ }
+{
+    let answer = analysis::analyse_envelope(
+        envelope,
+        rate,
+        TempoOpts::between(min_bpm, max_bpm),
+        threshold,
+        onsets,
+        clarity_curve,
+        weight_curve,
+        window_clarity,
+        window_weight,
+        score,
+        back,
+        beats,
+        downbeats,
+        work,
+    );
+    put_analysis(
+        answer,
+        onset_count,
+        found,
+        bpm,
+        clarity,
+        lags,
+        saliences,
+        count,
+        steady,
+        fraction,
+        agreeing,
+        windows,
+        beat_count,
+        downbeat_count,
+    )
+}
+
+// `analysis::analyse_magnitudes`, for C.
+#[no_mangle]
+pub extern "C" fn ph_analyse_magnitudes(
+    magnitudes: &[f32],
+    rows: usize,
+    bins: usize,
+    rate: u32,
+    min_bpm: f64,
+    max_bpm: f64,
+    flux: &mut [f64],
+    threshold: &mut [f64],
+    onsets: &mut [u32],
+    clarity_curve: &mut [f64],
+    weight_curve: &mut [f64],
+    window_clarity: &mut [f64],
+    window_weight: &mut [f64],
+    score: &mut [f64],
+    back: &mut [u32],
+    beats: &mut [u32],
+    downbeats: &mut [u32],
+    work: &mut [f64],
+    onset_count: &mut usize,
+    found: &mut u32,
+    bpm: &mut f64,
+    clarity: &mut f64,
+    lags: &mut [usize; 3],
+    saliences: &mut [f64; 3],
+    count: &mut usize,
+    steady: &mut u32,
+    fraction: &mut f64,
+    agreeing: &mut usize,
+    windows: &mut usize,
+    beat_count: &mut usize,
+    downbeat_count: &mut usize,
+) -> u32
+    ensures { λ r. ⌜ MagnitudesPromise (now (magnitudes .entry)) rows bins rate (optionsOf «min_bpm» «max_bpm») (now (flux .entry)) (results (now (threshold .entry)) (now (onsets .entry)) (now («clarity_curve» .entry)) (now («weight_curve» .entry)) (now (score .entry)) (now (back .entry)) (now (beats .entry)) (now (downbeats .entry))) (spare (now («window_clarity» .entry)) (now («window_weight» .entry)) (now (work .entry))) (trackLent (now («onset_count» .entry)) (now (found .entry)) (now (bpm .entry)) (now (clarity .entry)) (now (lags .entry)) (now (saliences .entry)) (now (count .entry)) (now (steady .entry)) (now (fraction .entry)) (now (agreeing .entry)) (now (windows .entry)) (now («beat_count» .entry)) (now («downbeat_count» .entry))) r (now (flux .exit)) (results (now (threshold .exit)) (now (onsets .exit)) (now («clarity_curve» .exit)) (now («weight_curve» .exit)) (now (score .exit)) (now (back .exit)) (now (beats .exit)) (now (downbeats .exit))) (spare (now («window_clarity» .exit)) (now («window_weight» .exit)) (now (work .exit))) (trackLent (now («onset_count» .exit)) (now (found .exit)) (now (bpm .exit)) (now (clarity .exit)) (now (lags .exit)) (now (saliences .exit)) (now (count .exit)) (now (steady .exit)) (now (fraction .exit)) (now (agreeing .exit)) (now (windows .exit)) (now («beat_count» .exit)) (now («downbeat_count» .exit))) ⌝ }
+{
+    let answer = analysis::analyse_magnitudes(
+        magnitudes,
+        rows,
+        bins,
+        rate,
+        TempoOpts::between(min_bpm, max_bpm),
+        flux,
+        threshold,
+        onsets,
+        clarity_curve,
+        weight_curve,
+        window_clarity,
+        window_weight,
+        score,
+        back,
+        beats,
+        downbeats,
+        work,
+    );
+    put_analysis(
+        answer,
+        onset_count,
+        found,
+        bpm,
+        clarity,
+        lags,
+        saliences,
+        count,
+        steady,
+        fraction,
+        agreeing,
+        windows,
+        beat_count,
+        downbeat_count,
+    )
+}
