@@ -332,7 +332,8 @@ def lag_range(rate, opts=TempoOpts()):
 def estimate(envelope, onsets, rate, opts, clarity, weight, work):
     """The tempo of an envelope with so many onsets, and its candidates.
 
-    Room: lag_range(rate, opts).lags slots of each of the last three. With a tempo, clarity and weight then hold each lag's."""
+    Room: lag_range(rate, opts).lags slots of each of the last three. Unless the envelope is too short or flat or has fewer than two
+    onsets, clarity and weight then hold each lag's."""
     found, bpm, clear, count = ctypes.c_uint32(), ctypes.c_double(), ctypes.c_double(), ctypes.c_size_t()
     lags, saliences = (ctypes.c_size_t * 3)(), (ctypes.c_double * 3)()
     _call("estimate", _reals("envelope", envelope), _size("onsets", onsets), _small("rate", rate), ctypes.c_double(opts.min_bpm),
@@ -446,10 +447,10 @@ class Room(NamedTuple):
 
 def room_of(rows, rate, opts=TempoOpts()):
     """The room for a track of at most so many rows."""
-    lags = lag_range(rate, opts).lags
-    if not 0 <= rows <= 1_048_576:
-        raise Refused("room_of", 1)
-    return Room(rows, lags, max(lags, threshold_room(rows)))
+    slots = [ctypes.c_size_t() for _ in range(3)]
+    _call("room_of", _size("rows", rows), _small("rate", rate), ctypes.c_double(opts.min_bpm), ctypes.c_double(opts.max_bpm),
+          *map(ctypes.byref, slots))
+    return Room(*(slot.value for slot in slots))
 
 
 class Analysis(NamedTuple):
@@ -463,10 +464,11 @@ class Analysis(NamedTuple):
 
 
 class Buffers:
-    """The room of one analysis, made once and used for track after track."""
+    """The room of one analysis, made once and used for track after track. A call that refuses changes no view handed out before."""
 
     def __init__(self, rows, rate, opts=TempoOpts()):
         self.room = room_of(rows, rate, opts)
+        rows = self.room.rows
 
         def reals(slots):
             return memoryview(array.array("d", bytes(8 * slots)))
@@ -481,19 +483,27 @@ class Buffers:
 
     def analyse_magnitudes(self, magnitudes, rows, bins, rate, opts=TempoOpts()):
         """Analyses a track from its magnitudes, rows rows of bins float32 values."""
-        spectral_flux(magnitudes, rows, bins, self._flux)
-        return self.analyse_envelope(self._flux[:rows], rate, opts)
+        return self._analyse("analyse_magnitudes", (_Slice("magnitudes", magnitudes, _FLOAT32, False), _size("rows", rows),
+                                                    _size("bins", bins)), rate, opts, (_reals_out("flux", self._flux),))
 
     def analyse_envelope(self, envelope, rate, opts=TempoOpts()):
         """Analyses a track from its envelope of float64 values, one slot a frame."""
-        n = memoryview(envelope).nbytes // 8
-        adaptive_threshold(envelope, self._threshold, self._work)
-        onsets = pick_onsets(envelope, self._threshold[:n], rate, self._onsets)
-        found = estimate(envelope, onsets, rate, opts, self._clarity, self._weight, self._work)
-        stability, beats, downs = None, 0, 0
-        if found.tempo:
-            lag = found.candidates[0].lag
-            stability = stability_of(envelope, rate, opts, lag, self._window_clarity, self._window_weight, self._work)
-            beats = beat_grid(envelope, lag, self._score, self._back, self._beats)
-            downs = downbeats(envelope, self._beats[:beats], self._downbeats)
-        return Analysis(found.tempo, found.candidates, stability, self._onsets[:onsets], self._beats[:beats], self._downbeats[:downs])
+        return self._analyse("analyse_envelope", (_reals("envelope", envelope),), rate, opts, ())
+
+    def _analyse(self, call, lent, rate, opts, flux):
+        onsets, count, agreeing, windows, beats, downbeats = (ctypes.c_size_t() for _ in range(6))
+        found, steady = ctypes.c_uint32(), ctypes.c_uint32()
+        bpm, clarity, fraction = (ctypes.c_double() for _ in range(3))
+        lags, saliences = (ctypes.c_size_t * 3)(), (ctypes.c_double * 3)()
+        _call(call, *lent, _small("rate", rate), ctypes.c_double(opts.min_bpm), ctypes.c_double(opts.max_bpm), *flux,
+              _reals_out("threshold", self._threshold), _frames_out("onsets", self._onsets), _reals_out("clarity", self._clarity),
+              _reals_out("weight", self._weight), _reals_out("window_clarity", self._window_clarity),
+              _reals_out("window_weight", self._window_weight), _reals_out("score", self._score), _frames_out("back", self._back),
+              _frames_out("beats", self._beats), _frames_out("downbeats", self._downbeats), _reals_out("work", self._work),
+              ctypes.byref(onsets), ctypes.byref(found), ctypes.byref(bpm), ctypes.byref(clarity), lags, saliences, ctypes.byref(count),
+              ctypes.byref(steady), ctypes.byref(fraction), ctypes.byref(agreeing), ctypes.byref(windows), ctypes.byref(beats),
+              ctypes.byref(downbeats))
+        return Analysis(Tempo(bpm.value, clarity.value) if found.value else None,
+                        tuple(Candidate(lags[k], saliences[k]) for k in range(count.value)),
+                        Stability(fraction.value, agreeing.value, windows.value) if steady.value else None,
+                        self._onsets[:onsets.value], self._beats[:beats.value], self._downbeats[:downbeats.value])

@@ -233,14 +233,15 @@ class Declarations(unittest.TestCase):
             "estimate": (d, 1, 1, OPTS, d, d, d), "stability_of": (d, 1, OPTS, 1, d, d, d), "beat_grid": (d, 1, d, i, i),
             "downbeats": (d, i, i), "bar_beat_at": (1.0, d, d), "similarity": (d, 1, d), "novelty": (d, 1, d),
             "boundaries": (d, 1, 1, 1, i, d), "boundary_times": (i, 1, 1, d), "patch_magnitudes": (f, 1, 1, 1, f, d, d, d),
-            "patch_features": (d, 1, 1, d, d, d),
+            "patch_features": (d, 1, 1, d, d, d), "room_of": (1, 1, OPTS), "analyse_envelope": (d, 1, OPTS),
+            "analyse_magnitudes": (f, 1, 1, 1, OPTS),
         }
-        declared = dict(self.declared())
-        self.assertLessEqual(words.keys(), declared.keys())
+        declared, buffers = dict(self.declared()), ph.Buffers(1, 1)
+        self.assertEqual(words.keys(), declared.keys())
         for call, given in words.items():
             seen = []
             with unittest.mock.patch.object(ph, "_call", lambda name, *parts: seen.append((name, parts))):
-                getattr(ph, call)(*given)
+                getattr(buffers if call.startswith("analyse_") else ph, call)(*given)
             (name, parts), = seen
             self.assertEqual((name, [word for part in parts for word in self.handed(part)]), (call, declared[call]))
 
@@ -383,6 +384,61 @@ class Tracks(unittest.TestCase):
         with self.assertRaises(ph.Refused) as caught:
             buffers.analyse_envelope(pulses(3_001), RATE)
         self.assertEqual(caught.exception.number, 3)
+
+    def test_a_refused_track(self):
+        buffers, other = ph.Buffers(1_000, RATE), ph.TempoOpts(5, 300)
+        track = buffers.analyse_envelope(pulses(1_000), RATE)
+        was = self.told(track)
+        self.assertTrue(was[4])
+        nothing = array("f", [0.0])
+        # one call, judged before it begins: the lowest number, and no view that was handed out changes
+        for number, analyse, words in (
+            (1, buffers.analyse_envelope, (pulses(1_001), 0)),
+            (1, buffers.analyse_magnitudes, (nothing * 1_001, 1_001, 1, 0)),
+            (1, buffers.analyse_magnitudes, (singles(math.nan), 1, 1, 0)),
+            (2, buffers.analyse_magnitudes, (singles(math.nan), 2, 1, RATE)),
+            (3, buffers.analyse_magnitudes, (singles(math.nan) * 1_001, 1_001, 1, RATE)),
+            (3, buffers.analyse_envelope, (pulses(1_000), RATE, other)),
+            (4, buffers.analyse_magnitudes, (singles(0, math.nan), 2, 1, RATE)),
+            (4, buffers.analyse_envelope, (reals(9, TOO_LARGE), RATE)),
+        ):
+            with self.assertRaises(ph.Refused) as caught:
+                analyse(*words)
+            self.assertEqual((caught.exception.number, caught.exception.call), (number, analyse.__name__))
+            self.assertEqual(self.told(track), was)
+        self.assertRaises(TypeError, buffers.analyse_envelope, singles(1), RATE)
+        self.assertEqual(self.told(track), was)
+
+    def test_the_largest_values_are_answered(self):
+        # its thresholds come out above 2**150, and are no lent values
+        most = 2.0 ** 150
+        track = ph.Buffers(3, RATE).analyse_envelope(reals(most, -most, 0), RATE)
+        self.assertEqual((track.tempo, len(track.beats)), (None, 0))
+
+    def test_room(self):
+        self.assertEqual(ph.room_of(67_500, RATE), (67_500, 338, 338))
+        self.assertEqual(ph.room_of(30, 1), (30, 2, 21))
+        self.assertEqual(ph.room_of(30, 1).bytes, 40 * 30 + 32 * 2 + 8 * 21)
+        for words in ((1_048_577, RATE), (1, 0), (1, RATE, ph.TempoOpts(math.inf, 300))):
+            with self.assertRaises(ph.Refused) as caught:
+                ph.room_of(*words)
+            self.assertEqual(caught.exception.number, 1)
+
+    def test_in_parts(self):
+        n = 2_000
+        rows, flux, threshold, work = array("f", pulses(n)), room(n), room(n), room(338)
+        ph.spectral_flux(rows, n, 1, flux)
+        ph.adaptive_threshold(flux, threshold, work)
+        onsets, curves = frame_room(n), (room(338), room(338), work)
+        heard = ph.pick_onsets(flux, threshold, RATE, onsets)
+        found = ph.estimate(flux, heard, RATE, OPTS, *curves)
+        lag = found.candidates[0].lag
+        steady = ph.stability_of(flux, RATE, OPTS, lag, *curves)
+        beats, downs = frame_room(n), frame_room(n)
+        laid = ph.beat_grid(flux, lag, room(n), frame_room(n), beats)
+        begun = ph.downbeats(flux, beats[:laid], downs)
+        track = self.told(ph.Buffers(n, RATE).analyse_magnitudes(rows, n, 1, RATE))
+        self.assertEqual(track, (*found, steady, list(onsets[:heard]), list(beats[:laid]), list(downs[:begun])))
 
     def test_threads(self):
         envelope = pulses(3_000)

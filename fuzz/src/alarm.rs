@@ -53,6 +53,9 @@ const PATIENCE: i64 = 120;
 // the timer that runs while this process does: a busy or halted machine uses up no patience
 const ITIMER_VIRTUAL: c_int = 1;
 
+/// The most arguments that a call has.
+pub const MOST_ARGUMENTS: usize = 32;
+
 /// What is being called, for the handler to say.
 #[derive(Clone, Copy)]
 pub struct Now {
@@ -60,7 +63,7 @@ pub struct Now {
     pub case: Case,
     pub guard: &'static str,
     // where each lent slice begins and how many bytes it has
-    pub slices: [(usize, usize); 24],
+    pub slices: [(usize, usize); MOST_ARGUMENTS],
 }
 
 /// Which input: drawn number so-and-so of a seed, or one of those at the bounds.
@@ -82,8 +85,12 @@ impl std::fmt::Display for Case {
 struct Shared(UnsafeCell<Now>);
 // SAFETY: the program has one thread; the handler runs on it, in the middle of a call into the library, while nothing writes here
 unsafe impl Sync for Shared {}
-static NOW: Shared =
-    Shared(UnsafeCell::new(Now { call: "nothing", case: Case::Bound { number: 0 }, guard: "", slices: [(0, 0); 24] }));
+static NOW: Shared = Shared(UnsafeCell::new(Now {
+    call: "nothing",
+    case: Case::Bound { number: 0 },
+    guard: "",
+    slices: [(0, 0); MOST_ARGUMENTS],
+}));
 
 /// Says what is called next, and gives it its time.
 pub fn about_to(now: Now) {

@@ -2,7 +2,7 @@
 use crate::lend::{cell, changed, input, output, whole, After, Arg, Word};
 use crate::numbers::*;
 use prohunsev::limits::*;
-use prohunsev::{lag_range, rooms, TempoOpts};
+use prohunsev::{lag_range, rooms, LagRange, TempoOpts};
 use std::ops::Range;
 
 extern "C" {
@@ -173,6 +173,106 @@ extern "C" {
         novelty_first: *mut usize,
         novelty_past: *mut usize,
     ) -> u32;
+    #[rustfmt::skip]
+    fn ph_room_of(
+        rows: usize,
+        rate: u32,
+        min_bpm: f64,
+        max_bpm: f64,
+        row_slots: *mut usize,
+        lag_slots: *mut usize,
+        work_slots: *mut usize,
+    ) -> u32;
+    #[rustfmt::skip]
+    fn ph_analyse_envelope(
+        envelope: *const f64,
+        n: usize,
+        rate: u32,
+        min_bpm: f64,
+        max_bpm: f64,
+        threshold: *mut f64,
+        t: usize,
+        onsets: *mut u32,
+        o: usize,
+        clarities: *mut f64,
+        c: usize,
+        weights: *mut f64,
+        w: usize,
+        window_clarities: *mut f64,
+        wc: usize,
+        window_weights: *mut f64,
+        ww: usize,
+        score: *mut f64,
+        s: usize,
+        back: *mut u32,
+        b: usize,
+        beats: *mut u32,
+        g: usize,
+        downbeats: *mut u32,
+        d: usize,
+        work: *mut f64,
+        room: usize,
+        onset_count: *mut usize,
+        found: *mut u32,
+        bpm: *mut f64,
+        clarity: *mut f64,
+        lags: *mut usize,
+        saliences: *mut f64,
+        count: *mut usize,
+        steady: *mut u32,
+        fraction: *mut f64,
+        agreeing: *mut usize,
+        windows: *mut usize,
+        beat_count: *mut usize,
+        downbeat_count: *mut usize,
+    ) -> u32;
+    #[rustfmt::skip]
+    fn ph_analyse_magnitudes(
+        magnitudes: *const f32,
+        n: usize,
+        rows: usize,
+        bins: usize,
+        rate: u32,
+        min_bpm: f64,
+        max_bpm: f64,
+        flux: *mut f64,
+        f: usize,
+        threshold: *mut f64,
+        t: usize,
+        onsets: *mut u32,
+        o: usize,
+        clarities: *mut f64,
+        c: usize,
+        weights: *mut f64,
+        w: usize,
+        window_clarities: *mut f64,
+        wc: usize,
+        window_weights: *mut f64,
+        ww: usize,
+        score: *mut f64,
+        s: usize,
+        back: *mut u32,
+        b: usize,
+        beats: *mut u32,
+        g: usize,
+        downbeats: *mut u32,
+        d: usize,
+        work: *mut f64,
+        room: usize,
+        onset_count: *mut usize,
+        found: *mut u32,
+        bpm: *mut f64,
+        clarity: *mut f64,
+        lags: *mut usize,
+        saliences: *mut f64,
+        count: *mut usize,
+        steady: *mut u32,
+        fraction: *mut f64,
+        agreeing: *mut usize,
+        windows: *mut usize,
+        beat_count: *mut usize,
+        downbeat_count: *mut usize,
+    ) -> u32;
 }
 
 /// Ranges of slots by argument, or what is wrong with an answer.
@@ -243,7 +343,7 @@ macro_rules! call {
     };
 }
 
-pub const CALLS: [Call; 19] = [
+pub const CALLS: [Call; 22] = [
     call!(median_of, ph_median_of, median, s s p),
     call!(mad_of, ph_mad_of, mad, s f s p),
     call!(spectral_flux, ph_spectral_flux, flux, s n n s),
@@ -263,6 +363,14 @@ pub const CALLS: [Call; 19] = [
     call!(boundary_times, ph_boundary_times, section_times, s l u s),
     call!(patch_magnitudes, ph_patch_magnitudes, magnitudes, s n n n s s s s p p p p),
     call!(patch_features, ph_patch_features, features, s n n s s s p p p p),
+    call!(room_of, ph_room_of, track_rooms, n u f f p p p),
+    call!(analyse_envelope, ph_analyse_envelope, tracks, s u f f s s s s s s s s s s s p p p p p p p p p p p p p),
+    call!(
+        analyse_magnitudes,
+        ph_analyse_magnitudes,
+        slabs,
+        s n n u f f s s s s s s s s s s s s p p p p p p p p p p p p p
+    ),
 ];
 
 // ---- what the calls' arguments have in common
@@ -491,6 +599,38 @@ fn widest(k: u64) -> Option<(u32, f64, f64, usize)> {
     widest.get(k as usize).copied()
 }
 
+// the lent numbers of a tempo, from `found` at this argument on
+fn tempo_fits(after: &After, found: usize, range: LagRange) -> Result<(), String> {
+    let count = counted(after, found + 5, 3)?;
+    match after.whole(found) {
+        0 => must((found + 1..=found + 5).all(|k| after.zeros(k)), "no tempo, but values"),
+        1 => {
+            must(count >= 1, "a tempo without a winner")?;
+            let lag = |k: usize| usize::from_ne_bytes(after.held[found + 3][8 * k..8 * k + 8].try_into().unwrap());
+            must((0..count).all(|k| (range.min_lag..=range.max_lag).contains(&lag(k))), "a lag out of range")?;
+            must((count..3).all(|k| lag(k) == 0), "an unused candidate isn't zero")
+        }
+        _ => Err("found is neither 0 nor 1".into()),
+    }
+}
+// the slots of the lag curves: none where the envelope is too short or has fewer than two onsets
+fn heard_at(n: usize, onsets: usize, range: LagRange) -> Range<usize> {
+    if n > range.max_lag + 1 && onsets >= 2 {
+        0..range.lags()
+    } else {
+        0..0
+    }
+}
+// the lent numbers of a stability, from `found` at this argument on
+fn stability_fits(after: &After, found: usize) -> Result<(), String> {
+    let (agreeing, windows) = (after.whole(found + 2), after.whole(found + 3));
+    match after.whole(found) {
+        0 => must((found + 1..=found + 3).all(|k| after.zeros(k)), "no stability, but values"),
+        1 => must((2..=4).contains(&windows) && agreeing <= windows, "counts out of range"),
+        _ => Err("found is neither 0 nor 1".into()),
+    }
+}
+
 mod tempo {
     use super::*;
     pub fn draw(r: &mut Numbers) -> Vec<Arg> {
@@ -513,19 +653,10 @@ mod tempo {
     pub fn reach(a: &[Arg], after: &After) -> Reach {
         let opts = TempoOpts::between(real(&a[3]), real(&a[4]));
         let range = lag_range(number(&a[2]) as u32, opts).map_err(|e| e.to_string())?;
-        let count = counted(after, 13, 3)?;
-        match after.whole(8) {
-            0 => must((9..=13).all(|k| after.zeros(k)), "no tempo, but values")?,
-            1 => {
-                must(count >= 1, "a tempo without a winner")?;
-                let lag = |k: usize| usize::from_ne_bytes(after.held[11][8 * k..8 * k + 8].try_into().unwrap());
-                must((0..count).all(|k| (range.min_lag..=range.max_lag).contains(&lag(k))), "a lag out of range")?;
-                must((count..3).all(|k| lag(k) == 0), "an unused candidate isn't zero")?
-            }
-            _ => return Err("found is neither 0 nor 1".into()),
-        }
+        tempo_fits(after, 8, range)?;
         // the work slice is asked for and left alone
-        let mut reach = vec![(5, 0..range.lags()), (6, 0..range.lags())];
+        let curves = heard_at(slots(&a[0]), number(&a[1]), range);
+        let mut reach = vec![(5, curves.clone()), (6, curves)];
         reach.extend((8..=13).map(all));
         Ok(reach)
     }
@@ -554,13 +685,10 @@ mod stability {
     pub fn reach(a: &[Arg], after: &After) -> Reach {
         let opts = TempoOpts::between(real(&a[2]), real(&a[3]));
         let lags = rooms::lags(number(&a[1]) as u32, opts).map_err(|e| e.to_string())?;
-        let (agreeing, windows) = (after.whole(10), after.whole(11));
-        match after.whole(8) {
-            0 => must((9..=11).all(|k| after.zeros(k)), "no stability, but values")?,
-            1 => must((2..=4).contains(&windows) && agreeing <= windows, "counts out of range")?,
-            _ => return Err("found is neither 0 nor 1".into()),
-        }
-        Ok((5..=7).map(|k| (k, 0..lags)).chain((8..=11).map(all)).collect())
+        stability_fits(after, 8)?;
+        // without a stability no window was searched
+        let searched = if after.whole(8) == 1 { 0..lags } else { 0..0 };
+        Ok((5..=7).map(|k| (k, searched.clone())).chain((8..=11).map(all)).collect())
     }
 }
 
@@ -875,6 +1003,170 @@ mod features {
         must(named(after, 6) == band && named(after, 8) == curve, "names other slots than those that follow")?;
         let mut reach = vec![(0, start * FEATURE_WIDTH..(start + new) * FEATURE_WIDTH), (4, band), (5, curve)];
         reach.extend((6..=9).map(all));
+        Ok(reach)
+    }
+}
+
+// ---- whole tracks
+
+mod track_rooms {
+    use super::*;
+    pub fn draw(r: &mut Numbers) -> Vec<Arg> {
+        let rows = length(r);
+        call(count(r, rows), rate(r), bpm(r), bpm(r))
+    }
+    pub fn bound(_: &mut Numbers, k: u64) -> Option<Vec<Arg>> {
+        Some(call(around(k, MOST_ROWS)?, 48_000, 30.0, 300.0))
+    }
+    fn call(rows: usize, rate: u32, low: f64, high: f64) -> Vec<Arg> {
+        let mut args = vec![whole(rows), whole(rate as usize), Arg::Real(low), Arg::Real(high)];
+        args.extend([WIDE; 3].map(cell));
+        args
+    }
+    pub fn reach(a: &[Arg], after: &After) -> Reach {
+        let (rows, rate) = (number(&a[0]), number(&a[1]) as u32);
+        let lags = rooms::lags(rate, TempoOpts::between(real(&a[2]), real(&a[3]))).map_err(|e| e.to_string())?;
+        let need = [rows, lags, lags.max(rows.min(21))];
+        must([4, 5, 6].map(|k| after.whole(k)) == need, "another room than the calls of its own ask for")?;
+        Ok((4..=6).map(all).collect())
+    }
+}
+
+// the slices of a track's analysis, from its thresholds to its work slice, and the lent numbers behind them
+const TRACK_SLICES: usize = 11;
+fn track_needs(n: usize, lags: usize) -> [usize; TRACK_SLICES] {
+    [n, n, lags, lags, lags, lags, n, n, n, n, lags.max(n.min(21))]
+}
+// mostly room for all of it; at times one slice is short
+fn track_room(r: &mut Numbers, n: usize, lags: usize) -> [usize; TRACK_SLICES] {
+    let mut rooms = track_needs(n, lags).map(|need| need + r.one_of(&[0, 0, 1, 9]));
+    let k = r.between(0, 4 * TRACK_SLICES);
+    if k < TRACK_SLICES {
+        rooms[k] = room(r, track_needs(n, lags)[k]);
+    }
+    rooms
+}
+fn lend_track(args: &mut Vec<Arg>, rooms: [usize; TRACK_SLICES]) {
+    let lists = [1, 7, 8, 9];
+    args.extend(rooms.iter().enumerate().map(
+        |(k, &n)| {
+            if lists.contains(&k) {
+                output::<u32>(n)
+            } else {
+                output::<f64>(n)
+            }
+        },
+    ));
+    let (tempo, steady) = ([SMALL, WIDE, WIDE, 3 * WIDE, 3 * WIDE, WIDE], [SMALL, WIDE, WIDE, WIDE]);
+    args.extend([&[WIDE], &tempo[..], &steady, &[WIDE, WIDE]].concat().into_iter().map(cell));
+}
+// what a track of n frames may have changed, its thresholds being argument k
+fn track_reach(after: &After, k: usize, n: usize, range: LagRange) -> Reach {
+    let first = k + TRACK_SLICES;
+    let [onsets, found, steady, beats, bars] = [0, 1, 7, 11, 12].map(|i| first + i);
+    let heard = counted(after, onsets, n)?;
+    let heard_frames = after.frames(k + 1, heard);
+    ascend(&heard_frames, n)?;
+    tempo_fits(after, found, range)?;
+    stability_fits(after, steady)?;
+    let laid = counted(after, beats, n)?;
+    let laid_frames = after.frames(k + 8, laid);
+    ascend(&laid_frames, n)?;
+    let begun = counted(after, bars, laid.div_ceil(4))?;
+    let among = after.frames(k + 9, begun).iter().all(|d| laid_frames.binary_search(d).is_ok());
+    must(among, "a downbeat that is no beat")?;
+    must(after.whole(found) == 1 || after.whole(steady) == 0 && laid == 0, "no tempo, but a stability or beats")?;
+
+    let lags = range.lags();
+    let curves = heard_at(n, heard, range);
+    let searched = if after.whole(steady) == 1 { 0..lags } else { 0..0 };
+    let links = if laid == 0 { 0..0 } else { 0..n };
+    let slices = [
+        0..n,
+        0..heard,
+        curves.clone(),
+        curves,
+        searched.clone(),
+        searched,
+        links.clone(),
+        links,
+        0..laid,
+        0..begun,
+        0..lags.max(n.min(21)),
+    ];
+    Ok((k..).zip(slices).chain((first..first + 13).map(all)).collect())
+}
+// so many frames at most, so that many tracks are tried
+const TRACK_FRAMES: usize = 1_600;
+
+mod tracks {
+    use super::*;
+    pub fn draw(r: &mut Numbers) -> Vec<Arg> {
+        let (rate, low, high, lags) = search(r);
+        let mut envelope = searched(r, lags);
+        envelope.truncate(TRACK_FRAMES);
+        let rooms = track_room(r, envelope.len(), lags);
+        call(&envelope, rate, low, high, rooms)
+    }
+    pub fn bound(_: &mut Numbers, k: u64) -> Option<Vec<Arg>> {
+        let tracks = [(1, 30.0, 300.0, MOST_ROWS), (1, 30.0, 300.0, MOST_ROWS + 1), (192_000, 1.0, 2.0, TRACK_FRAMES)];
+        let (rate, low, high, n) = *tracks.get(k as usize)?;
+        let lags = rooms::lags(rate, TempoOpts::between(low, high)).unwrap();
+        Some(call(&steady(n), rate, low, high, track_needs(n, lags)))
+    }
+    fn call(envelope: &[f64], rate: u32, low: f64, high: f64, rooms: [usize; TRACK_SLICES]) -> Vec<Arg> {
+        let mut args = vec![input(envelope), whole(rate as usize), Arg::Real(low), Arg::Real(high)];
+        lend_track(&mut args, rooms);
+        args
+    }
+    pub fn reach(a: &[Arg], after: &After) -> Reach {
+        let opts = TempoOpts::between(real(&a[2]), real(&a[3]));
+        let range = lag_range(number(&a[1]) as u32, opts).map_err(|e| e.to_string())?;
+        track_reach(after, 4, slots(&a[0]), range)
+    }
+}
+
+mod slabs {
+    use super::*;
+    pub fn draw(r: &mut Numbers) -> Vec<Arg> {
+        let (rate, low, high, lags) = search(r);
+        let bins = r.one_of(&[1, 1, 1, 2, 3, 4]);
+        let rows = searched(r, lags).len().min(TRACK_FRAMES / bins);
+        let mut slab = values::<f32>(r, rows * bins);
+        if r.once_in(30) {
+            slab.truncate(r.between(0, slab.len()));
+        }
+        let flux = if r.once_in(20) { room(r, rows) } else { rows + r.between(0, 3) };
+        let rooms = track_room(r, rows, lags);
+        call(&slab, [count(r, rows), count(r, bins)], rate, [low, high], flux, rooms)
+    }
+    pub fn bound(_: &mut Numbers, k: u64) -> Option<Vec<Arg>> {
+        let shapes = [(MOST_ROWS, 1), (MOST_ROWS + 1, 1), (300, MOST_BINS), (300, MOST_BINS + 1)];
+        let (rows, bins) = *shapes.get(k as usize)?;
+        let slab: Vec<f32> = (0..rows * bins).map(|i| if i / bins % 16 == 3 { 9.0 } else { 0.0 }).collect();
+        let lags = rooms::lags(900, TempoOpts::new()).unwrap();
+        Some(call(&slab, [rows, bins], 900, [30.0, 300.0], rows, track_needs(rows, lags)))
+    }
+    fn call(
+        slab: &[f32],
+        told: [usize; 2],
+        rate: u32,
+        bounds: [f64; 2],
+        flux: usize,
+        rooms: [usize; TRACK_SLICES],
+    ) -> Vec<Arg> {
+        let mut args = vec![input(slab), whole(told[0]), whole(told[1]), whole(rate as usize)];
+        args.extend(bounds.map(Arg::Real));
+        args.push(output::<f64>(flux));
+        lend_track(&mut args, rooms);
+        args
+    }
+    pub fn reach(a: &[Arg], after: &After) -> Reach {
+        let opts = TempoOpts::between(real(&a[4]), real(&a[5]));
+        let range = lag_range(number(&a[3]) as u32, opts).map_err(|e| e.to_string())?;
+        let rows = number(&a[1]);
+        let mut reach = track_reach(after, 7, rows, range)?;
+        reach.push((6, 0..rows));
         Ok(reach)
     }
 }

@@ -1,5 +1,5 @@
 //! One call: its arguments, lent between guards, and what came of it.
-use crate::alarm::{self, Case, Now};
+use crate::alarm::{self, Case, Now, MOST_ARGUMENTS};
 use crate::guard::{page, Pool, Region};
 
 /// An argument of a call.
@@ -163,7 +163,7 @@ pub fn call(
 ) -> Result<After, String> {
     let mut regions: Vec<Option<(Region, usize)>> = Vec::with_capacity(args.len());
     let mut words = Vec::with_capacity(args.len());
-    let mut slices = [(0, 0); 24];
+    let mut slices = [(0, 0); MOST_ARGUMENTS];
     for (k, arg) in args.iter().enumerate() {
         let (word, region) = match arg {
             Arg::Whole(n) => (Word::Whole(*n), None),

@@ -151,9 +151,9 @@ pub fn stability_of(f: &[Field]) -> Expected {
     let rooms = [f[5].size(), f[6].size(), f[7].size()];
     let number = table::stability_of(envelope, f[1].whole(), bpm, f[4].whole(), rooms, || lag_count(rate, bpm));
     let mut answers = vec![cell::<u32>().bits(), cell::<f64>().bits(), cell::<usize>().bits(), cell::<usize>().bits()];
+    // lag room is open only where windows are searched
     let mut formula = 0;
     if number == 0 {
-        formula = lag_count(rate, bpm);
         let (min, max) = lags(rate, bpm.0, bpm.1);
         let share = tempo::open::stability_of(envelope, min, max, tempo::open::frame_rate(rate), whole_lag);
         answers = vec![0; 4];
@@ -161,6 +161,7 @@ pub fn stability_of(f: &[Field]) -> Expected {
             let windows = (envelope.len() / (max + 2)).min(4);
             let agreeing = (share * windows as f64).round() as usize;
             answers = vec![1, share.bits(), agreeing.bits(), windows.bits()];
+            formula = lag_count(rate, bpm);
         }
     }
     Expected { number, answers, slots: rooms.map(|r| room(r, formula, number)).into() }
@@ -231,7 +232,8 @@ fn track(number: u32, envelope: &[f64], rate: u32, bpm: (f64, f64), f: &[Field])
         let enough = [field(lags), field(lags), field(lags)];
         let steady = stability_of(&[&[lent(), hertz, low, high, lag.clone()][..], &enough].concat());
         answers[5..9].copy_from_slice(&steady.answers);
-        (slots[4].open, slots[5].open) = (lags, lags);
+        let open = if answers[5] == 1 { lags } else { 0 };
+        (slots[4].open, slots[5].open) = (open, open);
         let grid = beat_grid(&[lent(), lag, field(room_at(6)), field(room_at(7)), field(room_at(8))]);
         answers[9] = grid.answers[0];
         let beats: Vec<u32> = grid.slots[2].bits.iter().take(answers[9] as usize).map(|&t| t as u32).collect();
@@ -361,7 +363,9 @@ pub fn patch_magnitudes(f: &[Field]) -> Expected {
         let fresh = onsets::open::adaptive_threshold(&flux[..rows]);
         threshold[ranges[2]..ranges[3]].copy_from_slice(&fresh[ranges[2]..ranges[3]]);
     }
-    let sorting = room(f[7].size(), table::window(rows), number);
+    // an empty patch sorts nothing
+    let sorted = if new.is_empty() { 0 } else { table::window(rows) };
+    let sorting = room(f[7].size(), sorted, number);
     let slots = vec![fixed(bits_of(&slab)), fixed(bits_of(&flux)), fixed(bits_of(&threshold)), sorting];
     Expected { number, answers: named(number, ranges), slots }
 }

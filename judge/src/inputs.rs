@@ -452,7 +452,7 @@ pub fn novelty(r: &mut Numbers) -> Fields {
 }
 
 pub fn all_boundaries(each: &mut dyn FnMut(Fields)) {
-    // every placing of up to three equal or unequal peaks among sixteen rows
+    // every set of peaks at the odd ones of sixteen rows, of heights 1 to 3
     for set in 0..1u32 << 8 {
         for most in 0..5u64 {
             for length in [24_000, 96_000] {
@@ -720,6 +720,21 @@ pub fn at_the_bounds(call: &str, each: &mut dyn FnMut(Fields)) {
             "stability_of" => each(vec![Reals(saw(n)), Whole(900), Real(30.0), Real(300.0), Whole(3), Whole(9), Whole(9), Whole(9)]),
             "beat_grid" => each(vec![Reals(saw(n)), Whole(5), size(n), size(n), size(n)]),
             "downbeats" => each(vec![Reals(saw(n)), Frames((0..n.min(MOST_ROWS) as u32).step_by(97).collect()), size(n)]),
+            "patch_magnitudes" => {
+                let slab: Vec<f32> = (0..n).map(|t| (t * t % 101) as f32).collect();
+                let (bins, start, new) = (Whole(1), size(n - 9), Singles(vec![50.0; 9]));
+                each(vec![Singles(slab), size(n), bins, start, new, Reals(saw(n)), Reals(saw(n)), Whole(21)]);
+            }
+            "room_of" => each(vec![size(n), Whole(48_000), Real(30.0), Real(300.0)]),
+            "analyse_envelope" => {
+                let rooms = [vec![size(n); 2], vec![Whole(9); 4], vec![size(n); 4], vec![Whole(21)]].concat();
+                each([vec![Reals(saw(n)), Whole(900), Real(30.0), Real(300.0)], rooms].concat());
+            }
+            "analyse_magnitudes" => {
+                let slab: Vec<f32> = (0..n).map(|t| (t * t % 101) as f32).collect();
+                let rooms = [vec![size(n); 3], vec![Whole(9); 4], vec![size(n); 4], vec![Whole(21)]].concat();
+                each([vec![Singles(slab), size(n), Whole(1), Whole(900), Real(30.0), Real(300.0)], rooms].concat());
+            }
             _ => {}
         }
     }

@@ -72,9 +72,9 @@ impl<T: Slot> Lent<T> {
         }
         self.slots[GUARD..n - GUARD].iter().map(|x| x.bits()).collect()
     }
-    /// An input comes back as it went.
+    /// An input comes back as it went, and its guards stand.
     pub fn same(self, values: &[T], harm: &mut bool) {
-        let kept = self.slots[GUARD..self.slots.len() - GUARD].iter().zip(values).all(|(a, b)| a.bits() == b.bits());
+        let kept = self.end(harm).into_iter().eq(values.iter().map(|x| x.bits()));
         *harm |= !kept;
     }
 }

@@ -4,7 +4,6 @@
 //!   judge run SEED CALL..  these calls alone
 //!   judge case 'LINE'      one case, in the form in which `run` prints a difference
 //!   judge sample           the Rust's answers to the fixed inputs of crates/replay: its file stdout
-#![cfg_attr(not(whole_tracks), allow(dead_code))]
 mod cases;
 mod differences;
 mod expected;
@@ -62,16 +61,13 @@ pub const CALLS: &[Call] = &[
     call!(beat_grid, "envelope period score back beats", all_grids, 25_000),
     call!(downbeats, "envelope beats frames", all_downbeats, 40_000),
     call!(bar_beat_at, "time downbeats beats", all_bars, 60_000),
-    #[cfg(whole_tracks)]
     call!(room_of, "rows rate min_bpm max_bpm", all_rooms, 40_000),
-    #[cfg(whole_tracks)]
     call!(
         analyse_envelope,
         "envelope rate min_bpm max_bpm threshold onsets clarity_curve weight_curve window_clarity window_weight score back beats downbeats work",
         all_envelopes,
         15_000
     ),
-    #[cfg(whole_tracks)]
     call!(
         analyse_magnitudes,
         "magnitudes rows bins rate min_bpm max_bpm flux threshold onsets clarity_curve weight_curve window_clarity window_weight score back beats downbeats work",
@@ -206,9 +202,6 @@ fn together(seed: u64) -> Vec<(&'static str, Tally)> {
 
 fn run(seed: u64, only: &[&str]) -> bool {
     differences::tell();
-    if cfg!(not(whole_tracks)) {
-        println!("the calls for a whole track are not in this archive, and are not judged");
-    }
     println!("seed {seed}");
     println!(
         "{:24}{:>10}{:>10}{:>10}{:>8}{:>8}{:>8}{:>8}{:>13}",

@@ -151,10 +151,7 @@ pub fn track(r: &mut Numbers) -> (u64, Option<String>) {
     let opts = if r.once_in(4) { TempoOpts { min_bpm: r.real(20.0, 300.0), max_bpm: r.real(20.0, 300.0) } } else { TempoOpts::default() };
     let mut w = Worker { calls: 0, refused: false };
     let is = by_the_port(&mut w, &slab, rows, bins, rate, &opts);
-    #[cfg(whole_tracks)]
     let at_once = by_one_call(&mut w, &slab, rows, bins, rate, &opts);
-    #[cfg(not(whole_tracks))]
-    let at_once = is.clone();
     let must = by_the_rust(&slab, bins, rate, &opts);
     let names = ["onset times", "tempo", "candidates", "stability", "beat times", "downbeat times"];
     let wrong = (0..6).find(|&k| is[k] != must[k] || at_once[k] != must[k]).map(|k| names[k]).or(w.refused.then_some("a refusal"));

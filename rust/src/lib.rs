@@ -9,7 +9,7 @@
 //! - A call that lists answers how many entries it listed; they stand first in the slice, and the slots behind them are unchanged.
 //! - Times come from frames: a frame is 256 samples after the one before it ([`frame_times`] in milliseconds).
 //!
-//! [`Buffers`] owns the room of one analysis and runs a whole track through it, track after track, in the same memory:
+//! [`Buffers`] owns the room of one analysis and runs a whole track through it in one call, track after track, in the same memory:
 //!
 //! ```
 //! use prohunsev::{Buffers, TempoOpts};

@@ -1,7 +1,7 @@
 //! Room: how many slots each lent slice needs, from the counts alone.
 //!
 //! With fewer slots a call refuses with [`Refusal::TooLittleRoom`] and changes nothing; with exactly these it never does.
-use crate::{lag_range, limits, Refusal, TempoOpts};
+use crate::{ffi, lag_range, limits, Refusal, TempoOpts};
 
 /// Slots of `flux` for so many magnitude rows.
 pub const fn flux(rows: usize) -> usize {
@@ -86,11 +86,13 @@ impl Track {
     /// # Ok::<(), Refusal>(())
     /// ```
     pub fn of(rows: usize, rate: u32, opts: TempoOpts) -> Result<Track, Refusal> {
-        let lags = lags(rate, opts)?;
-        if rows > limits::MOST_ROWS {
-            return Err(Refusal::OutOfBounds);
-        }
-        Ok(Track { rows, lags, sorting: lags.max(threshold_work(rows)) })
+        let mut room = Track { rows: 0, lags: 0, sorting: 0 };
+        let Track { rows: row_slots, lags: lag_slots, sorting: work_slots } = &mut room;
+        // SAFETY: the pointers are those of a local's three fields (the reason in lib.rs)
+        let number =
+            unsafe { ffi::ph_room_of(rows, rate, opts.min_bpm, opts.max_bpm, row_slots, lag_slots, work_slots) };
+        Refusal::unless_answered(number)?;
+        Ok(room)
     }
 
     /// All of it in bytes: 40 a row, 32 a lag and 8 a slot of sorting.

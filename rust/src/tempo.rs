@@ -96,6 +96,15 @@ pub struct TempoEstimate {
 }
 
 impl TempoEstimate {
+    // as the exported functions answer it
+    pub(crate) fn of(tempo: Option<Tempo>, lags: [usize; 3], saliences: [f64; 3], count: usize) -> TempoEstimate {
+        let mut slots = [Candidate::default(); 3];
+        for (slot, (lag, salience)) in slots.iter_mut().zip(lags.into_iter().zip(saliences)) {
+            *slot = Candidate { lag, salience };
+        }
+        TempoEstimate { tempo, slots, count }
+    }
+
     /// The candidates, at most three, the winner first; none without a tempo.
     pub fn candidates(&self) -> &[Candidate] {
         &self.slots[..self.count]
@@ -138,8 +147,9 @@ pub fn lag_range(rate: u32, opts: TempoOpts) -> Result<LagRange, Refusal> {
 
 /// Finds the tempo of an envelope and at most three candidates. `onsets` says how many onsets the envelope has: below two, no tempo.
 ///
-/// Room: [`rooms::lags`](crate::rooms::lags) slots of each of `clarity`, `weight` and `work`, also where there is no tempo. With a
-/// tempo, `clarity` and `weight` then hold the clarity and the weight of each lag.
+/// Room: [`rooms::lags`](crate::rooms::lags) slots of each of `clarity`, `weight` and `work`, also where there is no tempo.
+/// Unless the envelope is too short or flat or has fewer than two onsets, `clarity` and `weight` then hold the clarity and the weight of
+/// each lag.
 /// Refuses [`OutOfBounds`](Refusal::OutOfBounds) (the envelope's length, the rate, a bound that isn't finite),
 /// [`TooLittleRoom`](Refusal::TooLittleRoom), and [`WrongValue`](Refusal::WrongValue) (an envelope value).
 ///
@@ -188,12 +198,8 @@ pub fn estimate(
         )
     };
     Refusal::unless_answered(number)?;
-    let mut slots = [Candidate::default(); 3];
-    for (slot, (lag, salience)) in slots.iter_mut().zip(lags.into_iter().zip(saliences)) {
-        *slot = Candidate { lag, salience };
-    }
     let tempo = (found != 0).then_some(Tempo { bpm, clarity: clear });
-    Ok(TempoEstimate { tempo, slots, count })
+    Ok(TempoEstimate::of(tempo, lags, saliences, count))
 }
 
 /// Says how steady a track's tempo is: its envelope is cut into up to four windows, and each is searched for a tempo of its own.

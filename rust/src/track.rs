@@ -1,8 +1,5 @@
 //! A whole track, through buffers that are made once.
-use crate::{
-    adaptive_threshold, beat_grid, downbeats, estimate, pick_onsets, rooms, spectral_flux, stability_of, Candidate,
-    Refusal, Stability, Tempo, TempoEstimate, TempoOpts,
-};
+use crate::{ffi, rooms, Candidate, Refusal, Stability, Tempo, TempoEstimate, TempoOpts};
 
 /// The rhythm of a track. Lists lie in the [`Buffers`] that were used, until those are used again.
 #[derive(Clone, Copy, Debug, PartialEq)]
@@ -27,7 +24,7 @@ impl Analysis<'_> {
     }
 }
 
-/// The room of one analysis, made once and used for track after track: no call of it allocates.
+/// The room of one analysis, made once and used for track after track: no call of it allocates, and one that refuses changes nothing.
 ///
 /// ```
 /// # use prohunsev::*;
@@ -59,6 +56,74 @@ struct Lists {
     beats: Vec<u32>,
     downbeats: Vec<u32>,
     work: Vec<f64>,
+}
+
+// the numbers that an answer goes into
+#[derive(Default)]
+struct Told {
+    onsets: usize,
+    found: u32,
+    bpm: f64,
+    clarity: f64,
+    lags: [usize; 3],
+    saliences: [f64; 3],
+    count: usize,
+    steady: u32,
+    fraction: f64,
+    agreeing: usize,
+    windows: usize,
+    beats: usize,
+    downbeats: usize,
+}
+
+// one of the two exported functions, handed its own input first, and then what both are lent
+macro_rules! analyse {
+    ($function:ident, $lists:expr, $($input:expr),*) => {{
+        let (lists, mut told) = ($lists, Told::default());
+        // SAFETY: the pointers and lengths are those of borrowed slices, of the buffers' own and of locals (the reason in lib.rs)
+        let number = unsafe {
+            ffi::$function(
+                $($input,)*
+                lists.threshold.as_mut_ptr(),
+                lists.threshold.len(),
+                lists.onsets.as_mut_ptr(),
+                lists.onsets.len(),
+                lists.clarity.as_mut_ptr(),
+                lists.clarity.len(),
+                lists.weight.as_mut_ptr(),
+                lists.weight.len(),
+                lists.window_clarity.as_mut_ptr(),
+                lists.window_clarity.len(),
+                lists.window_weight.as_mut_ptr(),
+                lists.window_weight.len(),
+                lists.score.as_mut_ptr(),
+                lists.score.len(),
+                lists.back.as_mut_ptr(),
+                lists.back.len(),
+                lists.beats.as_mut_ptr(),
+                lists.beats.len(),
+                lists.downbeats.as_mut_ptr(),
+                lists.downbeats.len(),
+                lists.work.as_mut_ptr(),
+                lists.work.len(),
+                &mut told.onsets,
+                &mut told.found,
+                &mut told.bpm,
+                &mut told.clarity,
+                &mut told.lags,
+                &mut told.saliences,
+                &mut told.count,
+                &mut told.steady,
+                &mut told.fraction,
+                &mut told.agreeing,
+                &mut told.windows,
+                &mut told.beats,
+                &mut told.downbeats,
+            )
+        };
+        Refusal::unless_answered(number)?;
+        Ok(lists.analysis(told))
+    }};
 }
 
 impl Buffers {
@@ -98,15 +163,24 @@ impl Buffers {
     /// Analyses a track from its envelope, one slot a frame.
     ///
     /// Refuses [`OutOfBounds`](Refusal::OutOfBounds) (the length, the rate, a bound that isn't finite),
-    /// [`TooLittleRoom`](Refusal::TooLittleRoom), and [`WrongValue`](Refusal::WrongValue) (an envelope value, or a threshold that
-    /// comes out above 2^150).
+    /// [`TooLittleRoom`](Refusal::TooLittleRoom), and [`WrongValue`](Refusal::WrongValue) (an envelope value).
     pub fn analyse_envelope(&mut self, envelope: &[f64], rate: u32, opts: TempoOpts) -> Result<Analysis<'_>, Refusal> {
-        self.lists.analyse(envelope, rate, opts)
+        analyse!(
+            ph_analyse_envelope,
+            &mut self.lists,
+            envelope.as_ptr(),
+            envelope.len(),
+            rate,
+            opts.min_bpm,
+            opts.max_bpm
+        )
     }
 
     /// Analyses a track from its magnitudes, `rows` rows of `bins` values.
     ///
-    /// Refuses as [`analyse_envelope`](Buffers::analyse_envelope) and [`spectral_flux`] do.
+    /// Refuses [`OutOfBounds`](Refusal::OutOfBounds) (rows, bins, the rate, a bound that isn't finite),
+    /// [`WrongLength`](Refusal::WrongLength), [`TooLittleRoom`](Refusal::TooLittleRoom), and [`WrongValue`](Refusal::WrongValue) (a
+    /// magnitude).
     pub fn analyse_magnitudes(
         &mut self,
         magnitudes: &[f32],
@@ -115,33 +189,33 @@ impl Buffers {
         rate: u32,
         opts: TempoOpts,
     ) -> Result<Analysis<'_>, Refusal> {
-        spectral_flux(magnitudes, rows, bins, &mut self.flux)?;
-        self.lists.analyse(&self.flux[..rows], rate, opts)
+        analyse!(
+            ph_analyse_magnitudes,
+            &mut self.lists,
+            magnitudes.as_ptr(),
+            magnitudes.len(),
+            rows,
+            bins,
+            rate,
+            opts.min_bpm,
+            opts.max_bpm,
+            self.flux.as_mut_ptr(),
+            self.flux.len()
+        )
     }
 }
 
 impl Lists {
-    // the calls in turn, each on what the one before it wrote
-    fn analyse(&mut self, envelope: &[f64], rate: u32, opts: TempoOpts) -> Result<Analysis<'_>, Refusal> {
-        let n = envelope.len();
-        adaptive_threshold(envelope, &mut self.threshold, &mut self.work)?;
-        let onsets = pick_onsets(envelope, &self.threshold[..n], rate, &mut self.onsets)?;
-        let (clarity, weight, work) = (&mut self.clarity, &mut self.weight, &mut self.work);
-        let estimate = estimate(envelope, onsets, rate, opts, clarity, weight, work)?;
-        let (mut stability, mut beats, mut downs) = (None, 0, 0);
-        if let Some(lag) = estimate.lag() {
-            let (clarity, weight) = (&mut self.window_clarity, &mut self.window_weight);
-            stability = stability_of(envelope, rate, opts, lag, clarity, weight, &mut self.work)?;
-            beats = beat_grid(envelope, lag, &mut self.score, &mut self.back, &mut self.beats)?;
-            downs = downbeats(envelope, &self.beats[..beats], &mut self.downbeats)?;
+    fn analysis(&self, told: Told) -> Analysis<'_> {
+        let Told { bpm, clarity, fraction, agreeing, windows, .. } = told;
+        let tempo = (told.found != 0).then_some(Tempo { bpm, clarity });
+        Analysis {
+            tempo,
+            stability: (told.steady != 0).then_some(Stability { fraction, agreeing, windows }),
+            onsets: &self.onsets[..told.onsets],
+            beats: &self.beats[..told.beats],
+            downbeats: &self.downbeats[..told.downbeats],
+            estimate: TempoEstimate::of(tempo, told.lags, told.saliences, told.count),
         }
-        Ok(Analysis {
-            tempo: estimate.tempo,
-            stability,
-            onsets: &self.onsets[..onsets],
-            beats: &self.beats[..beats],
-            downbeats: &self.downbeats[..downs],
-            estimate,
-        })
     }
 }

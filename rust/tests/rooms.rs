@@ -86,6 +86,59 @@ fn a_whole_track() {
     assert!(Buffers::for_tracks(10, 0, opts).is_err());
 }
 
+// one call, judged before it begins: the lowest number, and nothing in the buffers changes
+#[test]
+fn a_refused_track() {
+    let opts = TempoOpts::new();
+    let mut buffers = Buffers::for_tracks(1_000, RATE, opts).unwrap();
+    let beats = buffers.analyse_envelope(&envelope(1_000), RATE, opts).unwrap().beats.to_vec();
+    assert!(!beats.is_empty());
+    let was = format!("{buffers:?}");
+    assert_eq!(buffers.analyse_envelope(&[0.0; 1_001], 0, opts), Err(Refusal::OutOfBounds));
+    assert_eq!(buffers.analyse_magnitudes(&[0.0; 1_001], 1_001, 1, 0, opts), Err(Refusal::OutOfBounds));
+    assert_eq!(buffers.analyse_magnitudes(&[f32::NAN], 1, 1, 0, opts), Err(Refusal::OutOfBounds));
+    assert_eq!(buffers.analyse_magnitudes(&[f32::NAN], 2, 1, RATE, opts), Err(Refusal::WrongLength));
+    assert_eq!(buffers.analyse_magnitudes(&[f32::NAN; 1_001], 1_001, 1, RATE, opts), Err(Refusal::TooLittleRoom));
+    assert_eq!(buffers.analyse_magnitudes(&[0.0, f32::NAN], 2, 1, RATE, opts), Err(Refusal::WrongValue));
+    assert_eq!(buffers.analyse_envelope(&[9.0, limits::MOST_VALUE * 2.0], RATE, opts), Err(Refusal::WrongValue));
+    let slow = opts.with_min_bpm(5.0);
+    assert_eq!(buffers.analyse_envelope(&envelope(1_000), RATE, slow), Err(Refusal::TooLittleRoom));
+    assert_eq!(format!("{buffers:?}"), was);
+}
+
+// its thresholds come out above 2^150, and are no lent values
+#[test]
+fn the_largest_values_are_answered() {
+    let mut buffers = Buffers::for_tracks(3, RATE, TempoOpts::new()).unwrap();
+    let most = limits::MOST_VALUE;
+    let track = buffers.analyse_envelope(&[most, -most, 0.0], RATE, TempoOpts::new()).unwrap();
+    assert_eq!((track.tempo, track.beats.len()), (None, 0));
+}
+
+// the one call is the calls one after the other
+#[test]
+fn a_track_in_parts() {
+    let (opts, n) = (TempoOpts::new(), 2_000);
+    let rows: Vec<f32> = envelope(n).iter().map(|&x| x as f32).collect();
+    let (mut flux, mut threshold, mut work) = (vec![0.0; n], vec![0.0; n], vec![0.0; 338]);
+    spectral_flux(&rows, n, 1, &mut flux).unwrap();
+    adaptive_threshold(&flux, &mut threshold, &mut work).unwrap();
+    let mut onsets = vec![0; n];
+    let heard = pick_onsets(&flux, &threshold, RATE, &mut onsets).unwrap();
+    let (mut clarity, mut weight) = (vec![0.0; 338], vec![0.0; 338]);
+    let found = estimate(&flux, heard, RATE, opts, &mut clarity, &mut weight, &mut work).unwrap();
+    let lag = found.lag().unwrap();
+    let steady = stability_of(&flux, RATE, opts, lag, &mut clarity, &mut weight, &mut work).unwrap();
+    let (mut score, mut back, mut beats, mut bars) = (vec![0.0; n], vec![0; n], vec![0; n], vec![0; n]);
+    let laid = beat_grid(&flux, lag, &mut score, &mut back, &mut beats).unwrap();
+    let begun = downbeats(&flux, &beats[..laid], &mut bars).unwrap();
+
+    let mut buffers = Buffers::for_tracks(n, RATE, opts).unwrap();
+    let track = buffers.analyse_magnitudes(&rows, n, 1, RATE, opts).unwrap();
+    assert_eq!((track.tempo, track.candidates(), track.stability), (found.tempo, found.candidates(), steady));
+    assert_eq!((track.onsets, track.beats, track.downbeats), (&onsets[..heard], &beats[..laid], &bars[..begun]));
+}
+
 // the same buffers, shorter and longer tracks in turn, magnitudes and envelopes: an answer depends on nothing left behind
 #[test]
 fn buffers_used_again() {
