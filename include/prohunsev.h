@@ -108,8 +108,8 @@ uint32_t ph_estimate(const double *envelope, size_t envelope_len, size_t onsets,
                      uint32_t *found, double *bpm, double *clarity, size_t lags[3], double saliences[3], size_t *count);
 
 /* In how many of up to four windows the tempo is heard again: *found is 0 without a stability, and then the others are 0, or 1, and *fraction is
- * *agreeing / *windows. whole_lag is the winning candidate's lag, 0 for no tempo. Room: L slots each of clarity_curve, weight_curve and work, which
- * then hold anything. Refuses 1 for the length, the rate, a bound or a lag above 45,000, 3, and 4 for a value. */
+ * *agreeing / *windows. whole_lag is the winning candidate's lag, 0 for no tempo. Room: L slots each of clarity_curve, weight_curve and work, which hold
+ * anything where *found is 1 and else stay as they were. Refuses 1 for the length, the rate, a bound or a lag above 45,000, 3, and 4 for a value. */
 uint32_t ph_stability_of(const double *envelope, size_t envelope_len, uint32_t rate, double min_bpm, double max_bpm, size_t whole_lag,
                          double *clarity_curve, size_t clarity_curve_len, double *weight_curve, size_t weight_curve_len, double *work, size_t work_len,
                          uint32_t *found, double *fraction, size_t *agreeing, size_t *windows);
