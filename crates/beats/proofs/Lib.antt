@@ -1,9 +1,6 @@
 -- The laws that other crates cite.
-pub mod Greatest
-pub mod Eights
-pub mod Extensions
+pub mod Chains
 pub mod Walks
 pub mod Beatless
 pub mod Steps
 pub mod ScoreSizes
-pub mod Marks

@@ -1,18 +1,17 @@
 -- Every score is finite, for every envelope that is not refused: values of at most 2 ^ 150, a variance above 2 ^ -52, and penalties of at most
 -- 2 ^ 29 make scaled fluxes of at most 2 ^ 176, and any number of frames below 2 ^ 30 a score of at most 2 ^ 208.
-use mathlib.Core.Path.{_≡_, refl, sym, ap, _∙_, subst}
-use mathlib.Core.Bool.{Bool, true, false, not}
-use mathlib.Core.Logic.{⊎-elim}
+use mathlib.Core.Path.{_≡_, refl, sym, ap, subst}
+use mathlib.Core.Bool.{true, false}
 use mathlib.Core.List.{List, [], _∷_, map}
-use Prim.Native.Nat.{ℕ, zero, suc, _+_, _-_, _*_, _/_, _^_, _≤_, _<_}
+use Prim.Native.Nat.{ℕ, zero, suc, _+_, _-_, _*_, _^_, _≤_, _<_}
 use native.Mathlib.Nat.{le-trans, suc-mul, mul-le-mul-right}
 use native.Mathlib.Omega.{arith}
 use lib.Dec.{T, lit<, lit≤}
 use lib.ListN.{length, getD}
-use lib.Ieee.{Float, nan, binary64, emax, lt, le, neg, isNan, ofBits, fits}
+use lib.Ieee.{Float, nan, binary64, lt, neg, ofBits, fits}
 use lib.Ieee.Fits.{div-fits}
 use lib.Ieee.Scale.{finite}
-use Rattle.numbers.specs.Rounded.{_⊕_, _⊖_, _⊗_, _⊘_, bits, real, nought, sumOf}
+use Rattle.numbers.specs.Rounded.{_⊕_, _⊖_, real, nought}
 use Rattle.numbers.specs.Limits.{mostRows, mostPeriod, valueFine}
 use Rattle.numbers.specs.Lists.{every}
 use Rattle.numbers.proofs.Tests.{pick-false}
@@ -28,12 +27,14 @@ use Rattle.sizes.proofs.Signs.{plus-not-nan}
 use Rattle.leaf_sizes.proofs.LogSizes.{log-ratio-most}
 use Rattle.sizes.proofs.Monotone.{add-swap}
 use Rattle.roots.proofs.Roots.{sqrt-least}
-use Rattle.beats.specs.declared.Best.{Best}
+use Rattle.links.specs.declared.Best.{Best}
+use Rattle.links.specs.Extensions.{fourHundred, penalty, extended, extension}
+use Rattle.links.proofs.Extensions.{Linked, unlinks, links-to, linked, follows-below}
 use Rattle.beats.specs.Envelopes.{flatness, one, beatless, meanOf, squareAbout, varianceOf, scaleOf, scaledBy, scaled}
-use Rattle.beats.specs.Scores.{fourHundred, penalty, extended, extension, scores}
+use Rattle.beats.specs.Scores.{scores}
 use Rattle.beats.specs.Grids.{scoresOf}
 use Rattle.beats.proofs.Beatless.{Lively, lively}
-use Rattle.beats.proofs.Extensions.{Linked, unlinks, links-to, linked, follows-below, score-at}
+use Rattle.beats.proofs.Chains.{score-at}
 
 -- ---- the scaled flux
 

@@ -2,7 +2,7 @@
 -- first greatest score: of the links of any frames (`Steps`), and of the beats of an envelope.
 use mathlib.Core.Path.{_≡_, refl, sym, ap, _∙_}
 use mathlib.Core.Bool.{Bool, true, false}
-use mathlib.Core.Logic.{_⊎_, inl, inr, ⊎-elim}
+use mathlib.Core.Logic.{_⊎_, ⊎-elim}
 use mathlib.Core.List.{List, [], _∷_, _++_}
 use Prim.Native.Nat.{ℕ, zero, suc, _+_, _-_, _≤_, _<_}
 use native.Mathlib.Nat.{not-suc-le-zero}
@@ -12,13 +12,14 @@ use lib.Seq.{getD-at}
 use lib.Ieee.{Float}
 use Rattle.numbers.specs.Rounded.{pick}
 use Rattle.numbers.proofs.Tests.{lt-or-le}
-use Rattle.beats.specs.declared.Best.{Best}
+use Rattle.links.specs.declared.Best.{Best}
+use Rattle.links.specs.Extensions.{noLink, greatest}
+use Rattle.links.proofs.Greatest.{best, Outcome, kept, found, outcome}
 use Rattle.beats.specs.Envelopes.{beatless, scaled}
-use Rattle.beats.specs.Scores.{noLink, greatest, scores, links}
+use Rattle.beats.specs.Scores.{scores, links}
 use Rattle.beats.specs.Grids.{valueAt, linkAt, firstGreatest, walked, beatsTo, grid, scoresOf, linksOf, gridOf}
 use Rattle.beats.specs.Inner.{Descends}
-use Rattle.beats.proofs.Greatest.{best, Outcome, kept, found, outcome}
-use Rattle.beats.proofs.Extensions.{links-descend}
+use Rattle.beats.proofs.Chains.{links-descend}
 use Rattle.beats.proofs.Walks.{ends, alone, after, beats-few}
 use Rattle.beats.proofs.Beatless.{lively}
 

@@ -1,6 +1,5 @@
 -- The links walked back: where every link leads to an earlier frame, any number of steps above the frame gives the same beats.
 use mathlib.Core.Path.{_≡_, refl, sym, ap, _∙_}
-use mathlib.Core.Bool.{Bool, true, false}
 use mathlib.Core.Logic.{_⊎_, inl, inr, ⊎-elim}
 use mathlib.Core.List.{List, [], _∷_, _++_}
 use Prim.Native.Nat.{ℕ, zero, suc, _+_, _-_, _≤_, _<_}
@@ -12,7 +11,7 @@ use lib.Dec.{eqb}
 use lib.ListN.{length, getD, length-append}
 use Rattle.numbers.specs.Rounded.{pick}
 use Rattle.numbers.proofs.Tests.{which, pick-true, pick-false}
-use Rattle.beats.specs.Scores.{noLink}
+use Rattle.links.specs.Extensions.{noLink}
 use Rattle.beats.specs.Grids.{linkAt, walked, beatsTo}
 use Rattle.beats.specs.Inner.{Descends}
 

@@ -10,8 +10,9 @@ use Rattle.numbers.specs.Rounded.{pick}
 use Rattle.numbers.specs.Limits.{mostRows, mostPeriod, valueFine}
 use Rattle.numbers.specs.Refusals.{lowest, unlessRefused}
 use Rattle.numbers.specs.Lists.{listed, every}
+use Rattle.links.specs.Extensions.{greatest, noLink}
 use Rattle.beats.specs.Envelopes.{beatless, scaleOf, scaledBy, scaled}
-use Rattle.beats.specs.Scores.{greatest, noLink, scores, links}
+use Rattle.beats.specs.Scores.{scores, links}
 
 -- ---- what is refused
 

@@ -1,6 +1,6 @@
 // The beats: the links walked back from the first greatest score.
-use crate::bests::NO_LINK;
 use crate::scores::track;
+use links::NO_LINK;
 ghost use mathlib.Core.Path.{_≡_};
 ghost use Prim.Native.Nat.{_≤_, _<_};
 ghost use lib.ListN.{length};

@@ -1,21 +1,13 @@
 // The beat grid: the chain of frames, about a period apart, that carries the most flux.
 //
 // Document 01, "Beats and bars". The Rust: tempo.rs `beat_grid`.
-mod bests;
 mod envelopes;
 mod grids;
-mod penalties;
 mod scores;
 
 use numbers::Listing;
 ghost use Rattle.beats.specs.Grids.{gridRefusal, Gridded};
 ghost use mathlib.Core.Path.{_≡_};
-
-// A value, and the frame that has it.
-struct Best {
-    value: f64,
-    at: u32,
-}
 
 // Finds the beats of an envelope of onset strength, `period` frames apart more or less, and lists their frames ascending.
 // Room: N slots each for score (the best chain's score at each frame), back (the beat before, 4,294,967,295 where there is none) and beats.

@@ -1,41 +1,12 @@
 // The score and the link of each frame.
-use crate::Best;
-use crate::bests::NO_LINK;
-use crate::bests::best_by_eights;
-use crate::bests::best_computed;
-use crate::bests::best_in_table;
-use crate::penalties::fill_penalties;
-use numbers::less;
-ghost use mathlib.Core.Path.{_≡_};
+use links::extension_at;
+use links::penalties::fill_penalties;
 ghost use Prim.Native.Nat.{_≤_};
 ghost use lib.ListN.{length};
 ghost use Rattle.numbers.specs.Limits.{mostRows, mostPeriod};
+ghost use Rattle.links.specs.Inner.{Penalties};
 ghost use Rattle.beats.specs.Envelopes.{scaledBy};
-ghost use Rattle.beats.specs.Scores.{extension};
-ghost use Rattle.beats.specs.Inner.{Penalties, Tracked};
-
-// The best extension of a beat at frame t. A table of 2 * period slots or more holds the penalties.
-fn extension_at(score: &[f64], table: &[f64], period: usize, t: usize) -> Best
-    requires { ⌜ (1 ≤ period) × (period ≤ mostPeriod) × (t ≤ length (now score)) × (t ≤ mostRows) × Penalties period (now table) ⌝ }
-    ensures { λ r. ⌜ r ≡ extension period (now (score .entry)) t ⌝ }
-{
-    if t == 0 {
-        return Best {
-            value: 0.0,
-            at: NO_LINK,
-        };
-    }
-    let lo = less(t, 2 * period);
-    let end = less(t, (period + 1) / 2) + 1;
-    if table.len() < 2 * period {
-        return best_computed(score, period, t, lo, end);
-    }
-    let first = 2 * period - (t - lo);
-    if lo + 8 <= end {
-        return best_by_eights(score, table, first, lo, end);
-    }
-    best_in_table(score, table, first, lo, end)
-}
+ghost use Rattle.beats.specs.Inner.{Tracked};
 
 // Writes the score and the link of each frame, by a table of penalties or, where it is too short for the period, without.
 fn track_with(

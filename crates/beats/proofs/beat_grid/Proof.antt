@@ -1,26 +1,25 @@
 -- `beats::beat_grid` meets its contract: a refusal and a beatless envelope leave the lent lists as they were, and past both the grid is laid.
 -- Assumes nothing.
 use mathlib.Core.Path.{_≡_, refl, sym, ap, _∙_}
-use mathlib.Core.Bool.{Bool, true, false, _&&_, _||_}
+use mathlib.Core.Bool.{true, false, _&&_}
 use mathlib.Core.List.{List, []}
-use Prim.Native.Nat.{ℕ, zero, suc, _≤_, _<_}
+use Prim.Native.Nat.{ℕ, zero, suc, _≤_}
 use native.Mathlib.Omega.{arith}
 use borrow.Author.Tests.{leb-true, eq-eqb, ne-eqb}
 use denote.Ref.{now}
-use lib.Dec.{leb, eqb}
+use lib.Dec.{leb}
 use lib.ListN.{length}
 use lib.Ieee.{Float, le}
-use Rattle.numbers.specs.Rounded.{_⊘_, pick}
+use Rattle.numbers.specs.Rounded.{_⊘_}
 use Rattle.numbers.specs.Limits.{mostRows, mostPeriod, valueFine}
-use Rattle.numbers.specs.Refusals.{unlessRefused}
 use Rattle.numbers.specs.Lists.{listed, every}
-use Rattle.numbers.proofs.Tests.{Passed, lowest-zero, and-left, and-right, refused-keeps, passed-does, pick-true, pick-false}
+use Rattle.numbers.proofs.Tests.{lowest-zero, and-left, and-right, refused-keeps, pick-true, pick-false}
 use Rattle.numbers.proofs.Tabs.{listed-none}
 use Rattle.roots.specs.Roots.{sqrtOf}
 use Rattle.beats.specs.Envelopes.{flatness, one, varianceOf, beatless, scaleOf, scaledBy, scaled}
 use Rattle.beats.specs.Scores.{scores, links}
 use Rattle.beats.specs.Grids.{numbersFine, roomFine, gridRefusal, grid, scoresOf, linksOf, gridOf, Gridded}
-use Rattle.beats.specs.Inner.{Tracked, Laid}
+use Rattle.beats.specs.Inner.{Laid}
 use borrow.Author.Needs.{needs}
 use Rattle.beats.proofs.beat_grid.Statement.{statement}
 use Rattle.beats.proofs.beat_grid.Tie as tie

@@ -1,5 +1,5 @@
 -- `beats::envelopes::mean_of` meets its contract. Assumes nothing.
-use mathlib.Core.Path.{_≡_, refl, ap, _∙_}
+use mathlib.Core.Path.{ap, _∙_}
 use denote.Ref.{now}
 use lib.Ieee.{Float}
 use Rattle.numbers.specs.Rounded.{_⊘_, sumOf}

@@ -1,6 +1,6 @@
 -- `beats::envelopes::variance_of` meets its contract. The invariant: the sum of squares so far, and then those of what is left, is the whole
 -- sum. The measure is what is left of the length. Assumes nothing.
-use mathlib.Core.Path.{_≡_, refl, sym, ap, _∙_}
+use mathlib.Core.Path.{_≡_, refl, ap, _∙_}
 use mathlib.Core.List.{List, map}
 use Prim.Native.Nat.{ℕ, _+_, _≤_, _<_, _-_}
 use native.Mathlib.Numerals.{add-one}
@@ -9,7 +9,7 @@ use denote.Ref.{now}
 use lib.ListN.{length, drop, getD, drop-of-length-le}
 use lib.Seq.{drop-cons}
 use lib.Ieee.{Float, nan}
-use Rattle.numbers.specs.Rounded.{_⊕_, _⊘_, nought, real, sumFrom, sumOf}
+use Rattle.numbers.specs.Rounded.{_⊕_, _⊘_, nought, sumFrom, sumOf}
 use Rattle.beats.specs.Envelopes.{meanOf, squareAbout, varianceOf}
 use borrow.Author.Needs.{needs}
 use Rattle.beats.proofs.envelopes.variance_of.Statement.{statement}

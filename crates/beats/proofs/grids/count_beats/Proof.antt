@@ -1,12 +1,12 @@
 -- `beats::grids::count_beats` meets its contract. The invariant: the beats counted, of which t is the last but one less, and those that end at t
 -- are the whole. The measure is t, since a link leads to an earlier frame. Assumes nothing.
-use mathlib.Core.Path.{_≡_, refl, sym, ap, _∙_}
-use mathlib.Core.List.{List, [], _∷_, _++_}
+use mathlib.Core.Path.{_≡_, sym, ap, _∙_}
+use mathlib.Core.List.{List, [], _∷_}
 use Prim.Native.Nat.{ℕ, _+_, _≤_, _<_}
 use native.Mathlib.Omega.{arith}
 use denote.Ref.{now}
 use lib.ListN.{length, getD, length-append}
-use Rattle.beats.specs.Scores.{noLink}
+use Rattle.links.specs.Extensions.{noLink}
 use Rattle.beats.specs.Grids.{linkAt, beatsTo}
 use Rattle.beats.specs.Inner.{Descends}
 use Rattle.beats.proofs.Walks.{link-read, beats-after, beats-alone, beats-few}

@@ -1,17 +1,15 @@
 -- `beats::grids::first_greatest` meets its contract. The invariant: what is left to search, searched from the best so far, is the whole
 -- answer. The measure is how many frames are left. Assumes nothing.
-use mathlib.Core.Path.{_≡_, refl, sym, ap, _∙_}
+use mathlib.Core.Path.{_≡_, refl, ap, _∙_}
 use mathlib.Core.Bool.{true, false}
 use mathlib.Core.Logic.{⊎-elim}
-use Prim.Native.Nat.{ℕ, _+_, _≤_, _<_, _-_}
+use Prim.Native.Nat.{_≤_, _<_, _-_}
 use native.Mathlib.Omega.{arith}
 use denote.Ref.{now}
-use lib.ListN.{length, getD}
-use lib.Ieee.{Float, nan}
-use Rattle.beats.specs.declared.Best.{Best}
-use Rattle.beats.specs.Scores.{greatest}
+use Rattle.links.specs.declared.Best.{Best}
+use Rattle.links.specs.Extensions.{greatest}
+use Rattle.links.proofs.Greatest.{best, greatest-step, greatest-end}
 use Rattle.beats.specs.Grids.{valueAt, firstGreatest}
-use Rattle.beats.proofs.Greatest.{best, greatest-step, greatest-end}
 use borrow.Author.Needs.{needs}
 use Rattle.beats.proofs.grids.first_greatest.Statement.{statement}
 use Rattle.beats.proofs.grids.first_greatest.Tie as tie

@@ -1,22 +1,22 @@
 -- `beats::grids::lay_grid` meets its contract. What is read of the lent lists afterwards is what was written there, so that the first greatest
 -- score and the links behind it are those of the definition; a link leads to an earlier frame, as the walks ask. Assumes nothing.
-use mathlib.Core.Path.{_≡_, refl, sym, ap, _∙_}
+use mathlib.Core.Path.{_≡_, ap, _∙_}
 use mathlib.Core.List.{List}
-use Prim.Native.Nat.{ℕ, _+_, _-_, _≤_, _<_}
+use Prim.Native.Nat.{ℕ, _-_, _≤_, _<_}
 use native.Mathlib.Omega.{arith}
 use denote.Ref.{now}
 use lib.ListN.{length, getD}
 use lib.Ieee.{Float, nan}
 use Rattle.numbers.specs.Lists.{listed}
-use Rattle.numbers.proofs.Tabs.{getD-listed-in, length-listed}
-use Rattle.beats.specs.declared.Best.{Best}
-use Rattle.beats.specs.Envelopes.{scaledBy}
-use Rattle.beats.specs.Scores.{noLink, greatest, scores, links}
+use Rattle.numbers.proofs.Tabs.{getD-listed-in}
+use Rattle.links.specs.declared.Best.{Best}
+use Rattle.links.specs.Extensions.{noLink, greatest}
+use Rattle.links.proofs.Greatest.{best, greatest-ext}
+use Rattle.beats.specs.Scores.{scores, links}
 use Rattle.beats.specs.Grids.{valueAt, linkAt, firstGreatest, beatsTo, grid}
 use Rattle.beats.specs.Inner.{Tracked, Descends}
-use Rattle.beats.proofs.Greatest.{best, greatest-ext}
-use Rattle.beats.proofs.Extensions.{length-scores, length-links, links-descend}
-use Rattle.beats.proofs.Walks.{beats-same, beats-few}
+use Rattle.beats.proofs.Chains.{length-scores, length-links, links-descend}
+use Rattle.beats.proofs.Walks.{beats-same}
 use borrow.Author.Needs.{needs}
 use Rattle.beats.proofs.grids.lay_grid.Statement.{statement}
 use Rattle.beats.proofs.grids.lay_grid.Tie as tie

@@ -1,13 +1,13 @@
 -- `beats::scores::track` meets its contract: the table that was filled holds the penalties, and an empty one need hold none. Assumes nothing.
-use mathlib.Core.Path.{_≡_, refl, sym, ap, _∙_}
+use mathlib.Core.Path.{_≡_, ap, _∙_}
 use mathlib.Core.List.{List}
-use Prim.Native.Nat.{ℕ, _*_, _<_}
+use Prim.Native.Nat.{ℕ, _<_}
 use native.Mathlib.Omega.{arith}
-use lib.ListN.{length, getD, drop, List·getD-append}
+use lib.ListN.{getD, drop, List·getD-append}
 use lib.Ieee.{Float, nan}
 use Rattle.numbers.specs.Lists.{curve, filled}
 use Rattle.numbers.proofs.Tabs.{length-tab, getD-curve, filled-whole}
-use Rattle.beats.specs.Inner.{slotPenalty}
+use Rattle.links.specs.Inner.{slotPenalty}
 use borrow.Author.Needs.{needs}
 use Rattle.beats.proofs.scores.track.Statement.{statement}
 use Rattle.beats.proofs.scores.track.Tie as tie

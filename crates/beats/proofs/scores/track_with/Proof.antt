@@ -2,20 +2,22 @@
 -- the scores of all frames; what lies past is as it was. A frame's extension reads only scores before it, which are the same in all three: the
 -- lent list, the scores so far and the scores of all. The measure is how many frames are left. Assumes nothing.
 use mathlib.Core.Path.{_≡_, refl, sym, ap, _∙_}
-use mathlib.Core.List.{List, [], _∷_, _++_}
-use Prim.Native.Nat.{ℕ, zero, suc, _+_, _-_, _≤_, _<_}
+use mathlib.Core.List.{List, _++_}
+use Prim.Native.Nat.{ℕ, _+_, _-_, _≤_, _<_}
 use native.Mathlib.Numerals.{add-one}
 use native.Mathlib.Omega.{arith}
 use denote.Ref.{now}
 use lib.ListN.{length, getD, set, drop, length-set}
 use lib.Ieee.{Float, nan}
-use Rattle.numbers.specs.Rounded.{_⊕_, _⊗_}
+use Rattle.numbers.specs.Rounded.{_⊕_}
 use Rattle.numbers.specs.Lists.{curve, filled, listed}
 use Rattle.numbers.proofs.Tabs.{length-tab, filled-none, filled-more, filled-whole, listed-none, listed-more, getD-listed-in}
-use Rattle.beats.specs.declared.Best.{Best}
+use Rattle.links.specs.declared.Best.{Best}
+use Rattle.links.specs.Extensions.{extension}
+use Rattle.links.proofs.Extensions.{extension-same}
 use Rattle.beats.specs.Envelopes.{scaledBy}
-use Rattle.beats.specs.Scores.{extension, scores, linkOf, links}
-use Rattle.beats.proofs.Extensions.{extension-same, length-scores, scores-begin, grown}
+use Rattle.beats.specs.Scores.{scores, linkOf, links}
+use Rattle.beats.proofs.Chains.{length-scores, scores-begin, grown}
 use borrow.Author.Needs.{needs}
 use Rattle.beats.proofs.scores.track_with.Statement.{statement}
 use Rattle.beats.proofs.scores.track_with.Tie as tie

@@ -1,0 +1,4 @@
+-- The laws that other crates cite.
+pub mod Greatest
+pub mod Eights
+pub mod Extensions
