@@ -2,20 +2,19 @@
 use mathlib.Core.Path.{_≡_, refl, sym, ap, _∙_, subst}
 use mathlib.Core.Bool.{Bool, true, false, _&&_, _||_}
 use mathlib.Core.List.{List, []}
-use Prim.Native.Nat.{ℕ, _≤_, min, max}
+use Prim.Native.Nat.{ℕ, _≤_}
 use native.Mathlib.Omega.{arith}
-use borrow.Author.Tests.{le-leb, eq-eqb, ne-eqb}
+use borrow.Author.Tests.{le-leb}
 use lib.Dec.{leb, ltb, eqb}
 use lib.ListN.{length, drop}
 use lib.Ieee.{Float, le}
 use Rattle.numbers.specs.Rounded.{pick}
-use Rattle.numbers.specs.Refusals.{unlessRefused}
 use Rattle.numbers.specs.Limits.{mostRows, mostPeriod, valueFine}
 use Rattle.numbers.specs.Lists.{every, listed}
-use Rattle.numbers.proofs.Tests.{and-both, lowest-0, refused-keeps, passed-does, pick-true, pick-false}
+use Rattle.numbers.proofs.Tests.{and-both, lowest-0, refused-keeps, passed-does, pick-true}
 use Rattle.numbers.proofs.Tabs.{listed-none}
-use Rattle.onsets.specs.Threshold.{sortingRoom}
-use Rattle.onsets.proofs.Thresholds.{drop-later}
+use Rattle.numbers.proofs.Outcomes.{drop-later}
+use Rattle.threshold.specs.Threshold.{sortingRoom}
 use Rattle.lags.specs.declared.TempoOpts.{TempoOpts}
 use Rattle.lags.specs.Lags.{minLag, maxLag, lagRoom, boundsFine}
 use Rattle.tempo.specs.declared.TempoEstimate.{TempoEstimate}

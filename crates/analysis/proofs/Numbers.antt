@@ -9,7 +9,6 @@ use borrow.Author.Tests.{leb-true, le-leb, lt-leb, eqb-true, eq-eqb, ne-eqb}
 use lib.Dec.{leb, eqb}
 use lib.ListN.{length}
 use lib.Ieee.{Float}
-use Rattle.numbers.specs.Rounded.{pick}
 use Rattle.numbers.specs.Limits.{mostRows, mostBins, between, magnitudeFine, valueFine}
 use Rattle.numbers.specs.Lists.{every}
 use Rattle.numbers.proofs.Tests.{which, and-left, and-right, and-both, and-held, and-failed, pick-true, pick-false, lowest-zero, lowest-0, lowest-1, lowest-2, lowest-3, lowest-4}

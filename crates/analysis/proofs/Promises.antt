@@ -1,24 +1,21 @@
 -- What follows from the promises: any two outcomes coincide, but for the slots that are left open; the analysis of magnitudes is the analysis of
--- their flux. Assumes nothing.
-use mathlib.Core.Path.{_≡_, refl, sym, ap, _∙_, subst}
-use mathlib.Core.Bool.{Bool, true, false}
-use mathlib.Core.Logic.{⊎-elim}
+-- their flux; there is a tempo exactly where the beats have a period. Assumes nothing.
+use mathlib.Core.Path.{_≡_, sym, _∙_, subst}
 use mathlib.Core.List.{List}
-use Prim.Native.Nat.{ℕ, zero, suc, _-_, _≤_, _<_}
-use native.Mathlib.Omega.{arith}
-use borrow.Author.Tests.{eqb-true, eqb-false, ltb-true}
-use lib.Dec.{eqb, ltb}
+use Prim.Native.Nat.{ℕ, _-_}
+use lib.Dec.{ltb}
 use lib.ListN.{length, take, drop}
 use lib.Ieee.{Float}
-use Rattle.numbers.specs.Refusals.{unlessRefused}
 use Rattle.numbers.specs.Lists.{curve, filled}
 use Rattle.numbers.proofs.Tests.{refused-keeps, passed-does}
-use Rattle.onsets.specs.Flux.{fluxAt}
+use Rattle.flux.specs.Flux.{fluxAt}
 use Rattle.lags.specs.declared.TempoOpts.{TempoOpts}
+use Rattle.tempo.specs.Answers.{unused}
+use Rattle.tempo.proofs.Promises.{isFound, tempo-has-lag}
 use Rattle.stability.specs.Windows.{Open}
 use Rattle.analysis.specs.declared.Analysis.{Analysis}
-use Rattle.analysis.specs.Rooms.{Results, Spare, envelopeNumber, magnitudesNumber}
-use Rattle.analysis.specs.Analyses.{withoutAnalysis, openLags, openWork, Analysed, AnalysedEnvelope, AnalysedMagnitudes}
+use Rattle.analysis.specs.Rooms.{Results, Spare, magnitudesNumber}
+use Rattle.analysis.specs.Analyses.{onsetsIn, estimateIn, periodIn, withoutAnalysis, Analysed, AnalysedEnvelope, AnalysedMagnitudes}
 use Rattle.analysis.specs.Inner.{Ready}
 use Rattle.analysis.proofs.Lists.{written-part}
 use Rattle.analysis.proofs.Rooms.{Told, told, flux-ready, flux-taken}
@@ -38,6 +35,13 @@ pub magnitudes-coincide : {m : List Float} {rows bins rate : ℕ} {o : TempoOpts
     {a b : Analysis} {f g : List Float} {x y : Results} {s t : Spare}
     → AnalysedMagnitudes m rows bins rate o flux was lent a f x s → AnalysedMagnitudes m rows bins rate o flux was lent b g y t → (a ≡ b) × (f ≡ g) × (x ≡ y)
 magnitudes-coincide p q = let c = coincide (p .analysed) (q .analysed) in (c .0, p .fluxes ∙ sym (q .fluxes), c .1)
+
+-- ---- tempo and period
+
+-- "No tempo: no stability, no beats": period 0, at which there are none, stands for no tempo and for nothing else
+pub tempo-has-period : (env : List Float) (rate : ℕ) (o : TempoOpts) → isFound (estimateIn env rate o .tempo) ≡ ltb 0 (periodIn env rate o)
+unfolding estimateIn periodIn
+tempo-has-period env rate o = tempo-has-lag env (length (onsetsIn env rate)) rate o 0 0 0 unused
 
 -- ---- magnitudes
 

@@ -3,24 +3,23 @@
 use mathlib.Core.Path.{_≡_, refl, sym, ap, _∙_, subst}
 use mathlib.Core.Bool.{Bool, true, false, _&&_}
 use mathlib.Core.Logic.{_⊎_, inl, inr, ⊎-elim}
-use mathlib.Core.List.{List, [], _∷_}
-use Prim.Native.Nat.{ℕ, _*_, _≤_, _<_, min, max}
+use mathlib.Core.List.{List}
+use Prim.Native.Nat.{ℕ, _*_, _≤_, _<_}
 use native.Mathlib.Omega.{arith}
 use borrow.Author.Tests.{leb-true, le-leb, lt-leb, eqb-true, eq-eqb}
 use lib.Dec.{leb, eqb}
 use lib.ListN.{length}
 use lib.Ieee.{Float}
 use Rattle.numbers.specs.Refusals.{lowest}
-use Rattle.numbers.specs.Limits.{mostRows, mostBins, between, magnitudeFine, valueFine}
+use Rattle.numbers.specs.Limits.{mostBins, between, magnitudeFine, valueFine}
 use Rattle.numbers.specs.Lists.{every, curve}
 use Rattle.numbers.proofs.Tests.{Passed, which, true-not-false, and-left, and-right, and-both, and-failed, lowest-zero, lowest-0, lowest-3}
 use Rattle.numbers.proofs.Tabs.{length-tab}
-use Rattle.onsets.specs.Threshold.{sortingRoom}
-use Rattle.onsets.specs.Flux.{fluxAt}
-use Rattle.onsets.proofs.Fluxes.{flux-curve-fine}
+use Rattle.flux.specs.Flux.{fluxAt}
+use Rattle.flux.proofs.Fluxes.{flux-curve-fine}
 use Rattle.lags.specs.declared.TempoOpts.{TempoOpts}
 use Rattle.analysis.specs.declared.Room.{Room}
-use Rattle.analysis.specs.Rooms.{Results, Spare, frameSlots, lagSlots, lagsOf, sortingOf, numbersFine, roomOf, suffices, envelopeRefusal, magnitudesRefusal, envelopeNumber, magnitudesNumber}
+use Rattle.analysis.specs.Rooms.{Results, Spare, frameSlots, lagSlots, numbersFine, roomOf, suffices, envelopeRefusal, magnitudesRefusal, envelopeNumber, magnitudesNumber}
 use Rattle.analysis.specs.Inner.{Ready}
 use Rattle.analysis.proofs.Numbers.{inBounds, outside, rows-fine, bounds-fine, room-inside, room-outside}
 

@@ -1,6 +1,6 @@
 -- What the parts of an analysis leave, put together. Assumes nothing.
-use mathlib.Core.Path.{_≡_, refl, sym, ap, _∙_}
-use mathlib.Core.Bool.{Bool, true, _&&_}
+use mathlib.Core.Path.{_≡_, refl, _∙_}
+use mathlib.Core.Bool.{true, _&&_}
 use mathlib.Core.List.{List}
 use Prim.Native.Nat.{ℕ, zero, suc, _-_, _≤_}
 use native.Mathlib.Omega.{arith}
@@ -10,15 +10,15 @@ use lib.ListN.{length, take, drop}
 use lib.Ieee.{Float}
 use Rattle.numbers.specs.Refusals.{unlessRefused}
 use Rattle.numbers.specs.Limits.{mostRows, mostPeriod, between, valueFine}
-use Rattle.numbers.specs.Lists.{every, curve, filled, listed}
+use Rattle.numbers.specs.Lists.{every, filled, listed}
 use Rattle.numbers.proofs.Tests.{and-both, lowest-0, passed-does}
-use Rattle.onsets.specs.Threshold.{thresholdAt, sortingRoom}
+use Rattle.threshold.specs.Threshold.{thresholdAt, sortingRoom}
 use Rattle.onsets.specs.Peaks.{at, peaksOf, suppressed}
 use Rattle.onsets.specs.Onsets.{gapOf, onsetsOf}
 use Rattle.onsets.specs.Steps.{Picked}
-use Rattle.beats.specs.Grids.{numbersFine, roomFine, gridRefusal, scoresOf, linksOf, gridOf, Gridded}
+use Rattle.beats.specs.Grids.{numbersFine, roomFine, gridRefusal, gridOf, Gridded}
 use Rattle.beats.proofs.Steps.{beats-fit}
-use Rattle.bars.specs.Downbeats.{commonMeter, downbeatRefusal, downbeatsOf, Downbeats}
+use Rattle.bars.specs.Downbeats.{commonMeter, downbeatRefusal, Downbeats}
 use Rattle.bars.specs.Downbeats as bars
 use Rattle.analysis.specs.Analyses.{onsetsIn}
 use Rattle.analysis.specs.Inner.{Listed, Grid}

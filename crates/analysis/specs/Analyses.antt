@@ -1,17 +1,14 @@
 -- Document 01, Onsets, Tempo and candidates, Beats and bars: one whole analysis, as its parts called in turn. What the calls answer,
 -- and what they leave in the slices that they are lent.
 use Prim.Native.Nat.{ℕ}
-use mathlib.Core.Bool.{Bool}
-use mathlib.Core.List.{List, [], _∷_}
+use mathlib.Core.List.{List}
 use mathlib.Core.Path.{_≡_}
-use lib.Dec.{eqb}
 use lib.ListN.{length, getD}
 use lib.Ieee.{Float}
-use Rattle.numbers.specs.Rounded.{pick}
 use Rattle.numbers.specs.Refusals.{unlessRefused}
 use Rattle.numbers.specs.Lists.{curve, filled, listed}
-use Rattle.onsets.specs.Flux.{fluxAt}
-use Rattle.onsets.specs.Threshold.{thresholdAt}
+use Rattle.flux.specs.Flux.{fluxAt}
+use Rattle.threshold.specs.Threshold.{thresholdAt}
 use Rattle.onsets.specs.Onsets.{onsetsOf}
 use Rattle.lags.specs.declared.TempoOpts.{TempoOpts}
 use Rattle.lags.specs.Lags.{minLag, maxLag}

@@ -1,17 +1,15 @@
 -- What the inner functions ask and promise: no promise of a public call is written in these words.
 use Prim.Native.Nat.{ℕ, _≤_}
-use mathlib.Core.Bool.{Bool, true}
+use mathlib.Core.Bool.{true}
 use mathlib.Core.List.{List}
 use mathlib.Core.Path.{_≡_}
-use lib.Dec.{eqb}
 use lib.ListN.{length}
 use lib.Ieee.{Float}
-use Rattle.numbers.specs.Rounded.{pick}
 use Rattle.numbers.specs.Limits.{mostRows, valueFine}
 use Rattle.numbers.specs.Lists.{every, filled, listed}
 use Rattle.lags.specs.declared.TempoOpts.{TempoOpts}
 use Rattle.lags.specs.Lags.{minLag, maxLag, boundsFine}
-use Rattle.onsets.specs.Threshold.{thresholdAt, sortingRoom}
+use Rattle.threshold.specs.Threshold.{thresholdAt, sortingRoom}
 use Rattle.stability.specs.Windows.{Open}
 use Rattle.stability.specs.Answers.{shareOf, leftOpen}
 use Rattle.beats.specs.Grids.{scoresOf, linksOf, gridOf}

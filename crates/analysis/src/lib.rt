@@ -2,6 +2,7 @@
 //
 // Document 01, Onsets, Tempo and candidates, Beats and bars, and its room. The Rust: onsets.rs `analyze_stft` and tempo.rs `estimate`.
 // The parts are called in turn over slices that are lent; each refusal is judged once, before any part is called.
+use flux::fill_flux;
 use lags::TempoOpts;
 use lags::bounds_fine;
 use lags::lag_range;
@@ -13,7 +14,6 @@ use numbers::WRONG_LENGTH;
 use numbers::WRONG_VALUE;
 use numbers::greatest;
 use numbers::least;
-use onsets::flux::fill_flux;
 use stability::Stability;
 use tempo::Candidate;
 use tempo::Tempo;

@@ -1,12 +1,12 @@
 -- "of phases 0 to 3, the first with the greatest flux sum": what the phase that is found has, for every envelope that is not refused.
-use mathlib.Core.Path.{_≡_, refl, sym, ap, _∙_, subst}
-use mathlib.Core.Bool.{true, false, not}
+use mathlib.Core.Path.{_≡_, refl, sym, ap, subst}
+use mathlib.Core.Bool.{true, not}
 use mathlib.Core.Logic.{⊎-elim}
 use mathlib.Core.List.{List, [], _∷_, map}
 use Prim.Native.Nat.{ℕ, zero, suc, _+_, _-_, _^_, _≤_, _<_}
 use native.Mathlib.Omega.{arith}
 use lib.Dec.{T, lit≤}
-use lib.ListN.{length, getD, List·getD-eq-default}
+use lib.ListN.{length, List·getD-eq-default}
 use lib.Ieee.{Float, lt, le, isNan}
 use Rattle.numbers.specs.Rounded.{nought, pick}
 use Rattle.numbers.specs.Limits.{valueFine}

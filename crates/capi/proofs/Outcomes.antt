@@ -1,5 +1,5 @@
--- Any two outcomes that the promise of an exported function permits coincide, but for what the proved call leaves open (sorting room and stability's
--- lag room: `coincide` of stability says what holds of those slices). Where the promise is the proved call's own, as of `ph_spectral_flux` or
+-- Any two outcomes that the promise of an exported function permits coincide, but for the slots that the proved call leaves open (sorting room and
+-- stability's lag room). Where the promise is the proved call's own, as of `ph_spectral_flux` or
 -- `ph_similarity`, so is the law. Assumes nothing.
 use Prim.Native.Nat.{ℕ}
 use mathlib.Core.Path.{_≡_, sym, _∙_}
@@ -9,7 +9,10 @@ use lib.Ieee.{Float}
 use Rattle.numbers.specs.Refusals.{unlessRefused}
 use Rattle.median.specs.Answers.{sortedIn}
 use Rattle.lags.specs.declared.TempoOpts.{TempoOpts}
+use Rattle.lags.specs.Lags.{minLag, maxLag}
 use Rattle.tempo.proofs.Promises as tempo
+use Rattle.stability.specs.Answers.{stabilityRefusal, leftOpen}
+use Rattle.stability.proofs.Promises as stability
 use Rattle.bars.specs.declared.BarBeat.{BarBeat}
 use Rattle.patching.specs.Patches.{Patch}
 use Rattle.patch_magnitudes.specs.Magnitudes as magnitudes
@@ -51,8 +54,12 @@ estimate-unique p q =
 pub stability-unique : {env : List Float} {rate : ℕ} {o : TempoOpts} {whole : ℕ} {clarity weight work : List Float} {lent₀ : ShareLent}
     {a b : ℕ} {c d w v k l : List Float} {x y : ShareLent}
     → StabilityPromise env rate o whole clarity weight work lent₀ a c w k x → StabilityPromise env rate o whole clarity weight work lent₀ b d v l y
-    → (a ≡ b) × (x ≡ y)
-stability-unique p q = handed-unique (p .handed) (q .handed)
+    → let number = stabilityRefusal env rate o whole (length clarity) (length weight) (length work) in
+    let room = leftOpen (length env) (minLag rate o) (maxLag rate o) whole in
+    ((a ≡ b) × (x ≡ y)) × (stability.Alike number room c d × stability.Alike number room w v × stability.Alike number room k l)
+stability-unique p q =
+    let same = stability.coincide (p .slices) (q .slices) in
+    (handed-unique (p .handed) (q .handed), (same .1, same .2, same .3))
 
 pub placed-unique : {place : BarBeat} {a b f g m n u v : ℕ} → Placed place a f m u → Placed place b g n v → (a ≡ b) × (f ≡ g) × (m ≡ n) × (u ≡ v)
 placed-unique p q = (

@@ -1,11 +1,10 @@
 -- What each exported function promises, from what the proved call behind it promises of its answer and from how that answer is handed over.
 -- Assumes nothing.
 use Prim.Native.Nat.{ℕ, zero, suc}
-use mathlib.Core.Path.{_≡_, refl, sym, ap, _∙_}
+use mathlib.Core.Path.{_≡_, refl, _∙_}
 use mathlib.Core.List.{List, [], _∷_}
-use lib.ListN.{length, drop}
+use lib.ListN.{length}
 use lib.Ieee.{Float}
-use Rattle.numbers.specs.Lists.{listed}
 use Rattle.numbers.specs.Refusals.{unlessRefused}
 use Rattle.numbers.specs.Rounded.{nought}
 use Rattle.numbers.specs.declared.Listing.{Listing}
@@ -14,9 +13,9 @@ use Rattle.median.specs.declared.Answer.{Answer}
 use Rattle.onsets.specs.Outcomes.{Lists}
 use Rattle.lags.specs.declared.TempoOpts.{TempoOpts}
 use Rattle.tempo.specs.declared.TempoEstimate.{TempoEstimate}
-use Rattle.tempo.specs.Answers.{estimateOf, Estimated}
+use Rattle.tempo.specs.Answers.{Estimated}
 use Rattle.stability.specs.declared.Steadiness.{Steadiness}
-use Rattle.stability.specs.Answers.{steadinessOf, Steadied}
+use Rattle.stability.specs.Answers.{Steadied}
 use Rattle.beats.specs.Grids.{gridOf, Gridded}
 use Rattle.bars.specs.Downbeats.{Downbeats, downbeatRefusal, downbeatsOf}
 use Rattle.sections.specs.Boundaries.{sectionsOf}

@@ -1,13 +1,15 @@
 -- What the two analyses promise to C, from what the proved calls promise of their answer and from how it is handed over. Assumes nothing.
 use Prim.Native.Nat.{ℕ, zero, suc}
-use mathlib.Core.Path.{_≡_, refl, sym, ap, _∙_}
+use mathlib.Core.Path.{_≡_, refl, sym, _∙_}
 use mathlib.Core.List.{List}
+use lib.ListN.{length, drop}
 use lib.Ieee.{Float}
 use Rattle.numbers.specs.Refusals.{unlessRefused}
 use Rattle.lags.specs.declared.TempoOpts.{TempoOpts}
 use Rattle.analysis.specs.declared.Analysis.{Analysis}
 use Rattle.analysis.specs.Rooms.{Results, Spare}
-use Rattle.analysis.specs.Analyses.{analysisOf, withoutAnalysis, Analysed, AnalysedMagnitudes}
+use Rattle.analysis.specs.Analyses.{analysisOf, withoutAnalysis, openLags, openWork, Analysed, AnalysedMagnitudes}
+use Rattle.analysis.proofs.Promises.{open-coincide}
 use Rattle.capi.specs.Handed.{Handed}
 use Rattle.capi.specs.Tempos.{TempoLent, tempoLent, ShareLent}
 use Rattle.capi.specs.Tracks.{TrackLent, trackParts, TrackTold, MagnitudesPromise}
@@ -59,8 +61,20 @@ pub magnitudes-told : {magnitudes : List Float} {rows bins rate : ℕ} {o : Temp
     → MagnitudesPromise magnitudes rows bins rate o flux was spare lent₀ answer flux′ after left lent
 magnitudes-told p h = record { fluxes = p .fluxes; track = track-told (p .analysed) h }
 
--- any two outcomes coincide, but for what is worked in
+-- any two outcomes coincide: what is lent to work in too, past the slots that are left open
 pub track-unique : {number : ℕ} {env : List Float} {rate : ℕ} {o : TempoOpts} {was : Results} {spare : Spare} {lent₀ : TrackLent}
     {a b : ℕ} {x y : Results} {u v : Spare} {s t : TrackLent}
-    → TrackTold number env rate o was spare lent₀ a x u s → TrackTold number env rate o was spare lent₀ b y v t → ((a ≡ b) × (s ≡ t)) × (x ≡ y)
-track-unique p q = (handed-unique (p .handed) (q .handed), p .slices .written ∙ sym (q .slices .written))
+    → TrackTold number env rate o was spare lent₀ a x u s → TrackTold number env rate o was spare lent₀ b y v t
+    → ((a ≡ b) × (s ≡ t)) × (x ≡ y)
+    × (((length (u .windowClarity) ≡ length (v .windowClarity)) × (drop (openLags number env rate o) (u .windowClarity) ≡ drop (openLags number env rate o) (v .windowClarity)))
+    × ((length (u .windowWeight) ≡ length (v .windowWeight)) × (drop (openLags number env rate o) (u .windowWeight) ≡ drop (openLags number env rate o) (v .windowWeight)))
+    × ((length (u .work) ≡ length (v .work)) × (drop (openWork number env rate o) (u .work) ≡ drop (openWork number env rate o) (v .work))))
+track-unique p q = (
+  handed-unique (p .handed) (q .handed),
+  p .slices .written ∙ sym (q .slices .written),
+  (
+    open-coincide (p .slices .window-clarities) (q .slices .window-clarities),
+    open-coincide (p .slices .window-weights) (q .slices .window-weights),
+    open-coincide (p .slices .works) (q .slices .works),
+  ),
+)

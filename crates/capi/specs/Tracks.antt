@@ -5,7 +5,7 @@ use mathlib.Core.List.{List}
 use lib.Ieee.{Float}
 use Rattle.numbers.specs.Lists.{curve, filled}
 use Rattle.numbers.specs.Refusals.{unlessRefused}
-use Rattle.onsets.specs.Flux.{fluxAt}
+use Rattle.flux.specs.Flux.{fluxAt}
 use Rattle.lags.specs.declared.TempoOpts.{TempoOpts}
 use Rattle.analysis.specs.declared.Analysis.{Analysis}
 use Rattle.analysis.specs.declared.Room.{Room}

@@ -1,25 +1,25 @@
-// The calls of crates structure and sections, for C.
+// The calls of crates similarities, novelties and sections, for C.
 use sections::Sections;
-ghost use Rattle.structure.specs.Similarity.{SimilarityDone};
-ghost use Rattle.structure.specs.Novelty.{NoveltyDone};
+ghost use Rattle.similarities.specs.Similarity.{SimilarityDone};
+ghost use Rattle.novelties.specs.Novelty.{NoveltyDone};
 ghost use Rattle.sections.specs.Outcomes.{TimesPromise};
 ghost use Rattle.capi.specs.Handed.{Handed};
 ghost use Rattle.capi.specs.Forms.{sectionsLent, partsIn, BoundariesPromise};
 
-// `structure::similarity`, for C.
+// `similarities::similarity`, for C.
 #[no_mangle]
 pub extern "C" fn ph_similarity(features: &[f64], rows: usize, similarity: &mut [f64]) -> u32
     ensures { λ r. ⌜ SimilarityDone (now (features .entry)) rows (now (similarity .entry)) r (now (similarity .exit)) ⌝ }
 {
-    structure::similarity(features, rows, similarity)
+    similarities::similarity(features, rows, similarity)
 }
 
-// `structure::novelty`, for C.
+// `novelties::novelty`, for C.
 #[no_mangle]
 pub extern "C" fn ph_novelty(similarity: &[f64], rows: usize, novelty: &mut [f64]) -> u32
     ensures { λ r. ⌜ NoveltyDone (now (similarity .entry)) rows (now (novelty .entry)) r (now (novelty .exit)) ⌝ }
 {
-    structure::novelty(similarity, rows, novelty)
+    novelties::novelty(similarity, rows, novelty)
 }
 
 // Stores the parts of an answer unless the call refused, and answers its number.

@@ -3,14 +3,14 @@ use crate::counts::counted;
 ghost use mathlib.Core.List.{map};
 ghost use lib.ListN.{length};
 ghost use Rattle.numbers.specs.Lists.{filled, listed};
-ghost use Rattle.onsets.specs.Outcomes.{Written};
-ghost use Rattle.onsets.specs.Flux.{fluxAt, fluxRefusal};
-ghost use Rattle.onsets.specs.Threshold.{Thresholds};
+ghost use Rattle.numbers.specs.Outcomes.{Written};
+ghost use Rattle.flux.specs.Flux.{fluxAt, fluxRefusal};
+ghost use Rattle.threshold.specs.Threshold.{Thresholds};
 ghost use Rattle.onsets.specs.Peaks.{suppressed, suppressionRefusal};
 ghost use Rattle.onsets.specs.Onsets.{onsetsOf, onsetsRefusal, frameTime, timesRefusal};
 ghost use Rattle.capi.specs.Handed.{Listed};
 
-// `onsets::flux::spectral_flux`, for C.
+// `flux::spectral_flux`, for C.
 #[no_mangle]
 pub extern "C" fn ph_spectral_flux(
     magnitudes: &[f32],
@@ -20,10 +20,10 @@ pub extern "C" fn ph_spectral_flux(
 ) -> u32
     ensures { λ r. ⌜ Written (fluxRefusal (now (magnitudes .entry)) rows bins (length (now (flux .entry)))) (filled (fluxAt (now (magnitudes .entry)) bins) (now (flux .entry)) 0 rows) (now (flux .entry)) r (now (flux .exit)) ⌝ }
 {
-    onsets::flux::spectral_flux(magnitudes, rows, bins, flux)
+    flux::spectral_flux(magnitudes, rows, bins, flux)
 }
 
-// `onsets::threshold::adaptive_threshold`, for C.
+// `threshold::adaptive_threshold`, for C.
 #[no_mangle]
 pub extern "C" fn ph_adaptive_threshold(
     flux: &[f64],
@@ -32,7 +32,7 @@ pub extern "C" fn ph_adaptive_threshold(
 ) -> u32
     ensures { λ r. ⌜ Thresholds (now (flux .entry)) (now (threshold .entry)) (now (work .entry)) r (now (threshold .exit)) (now (work .exit)) ⌝ }
 {
-    onsets::threshold::adaptive_threshold(flux, threshold, work)
+    threshold::adaptive_threshold(flux, threshold, work)
 }
 
 // `onsets::pick_onsets`, for C.

@@ -1,4 +1,4 @@
-// Tempo, the lower half: the options, the lags that their bounds stand for, which lags are distinct or agree, and the lag curves.
+// Tempo, the lags: the options, the lags that their bounds stand for, and which lags are distinct or agree.
 //
 // Document 01, Tempo and candidates. The Rust: tempo.rs `TempoOpts`, and what `pick_tempo_peaks` and `stability_of` are made of.
 use floats::wholes::round_of;
@@ -23,8 +23,6 @@ ghost use Rattle.lags.specs.Lags.{
   lagRoom,
 };
 
-mod abreast;
-pub mod curves;
 pub mod pairs;
 
 // The bounds of the tempo search, in beats a minute.
@@ -105,8 +103,8 @@ fn high_bpm(opts: TempoOpts) -> f64
     no_less(least, opts.min_bpm)
 }
 
-// a count as a float
-fn float_of(n: usize) -> f64
+// Inner: a count as a float.
+pub fn float_of(n: usize) -> f64
     ensures { λ r. ⌜ r ≡ real n ⌝ }
 {
     std::num::nearest_u64_to_f64(n as u64)

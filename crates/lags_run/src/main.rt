@@ -1,5 +1,5 @@
-// Runs the calls of the crate lags on both sides of each boundary and prints what they answer. The file stdout holds what the Rust's
-// formulas give, with document 01's refusals before them; the curves' prior is that of libm 0.2.1.
+// Runs the calls of the crates lags, lag_sums and lag_curves on both sides of each boundary and prints what they answer. The file stdout
+// holds what the Rust's formulas give, with document 01's refusals before them; the curves' prior is that of libm 0.2.1.
 use lags::TempoOpts;
 
 fn range_of(rate: u32, opts: TempoOpts) {
@@ -143,13 +143,13 @@ fn far_folds() {
 fn curves(envelope: &[f64; 45]) {
     let mut clarity = [9.0f64; 20];
     let mut weight = [9.0f64; 20];
-    let mean = lags::curves::mean_of(envelope);
-    let ac0 = lags::curves::energy_of(envelope, mean);
+    let mean = lag_sums::mean_of(envelope);
+    let ac0 = lag_sums::energy_of(envelope, mean);
     show::words(b"mean");
     show::float(mean);
     show::words(b"\nenergy");
     show::float(ac0);
-    lags::curves::fill_lag_curves(envelope, mean, ac0, 3000, 3, 20, &mut clarity, &mut weight);
+    lag_curves::fill_lag_curves(envelope, mean, ac0, 3000, 3, 20, &mut clarity, &mut weight);
     show::words(b"\nclarity");
     show::floats(&clarity);
     show::words(b"\nweight");
@@ -181,17 +181,17 @@ fn long_curves(envelope: &[f64; 400]) {
     let mut clarity = [9.0f64; 42];
     let mut weight = [9.0f64; 42];
     let mut priors = [9.0f64; 42];
-    let mean = lags::curves::mean_of(envelope);
-    let ac0 = lags::curves::energy_of(envelope, mean);
+    let mean = lag_sums::mean_of(envelope);
+    let ac0 = lag_sums::energy_of(envelope, mean);
     show::words(b"mean");
     show::float(mean);
     show::words(b"\nenergy");
     show::float(ac0);
-    lags::curves::fill_clarity(envelope, mean, ac0, 20, 60, &mut clarity);
+    lag_curves::fill_clarity(envelope, mean, ac0, 20, 60, &mut clarity);
     show::words(b"\nclarity");
     show::floats(&clarity);
-    lags::curves::fill_priors(6000, 20, 60, &mut priors);
-    lags::curves::weigh(&clarity, &priors, 41, &mut weight);
+    lag_curves::fill_priors(6000, 20, 60, &mut priors);
+    lag_curves::weigh(&clarity, &priors, 41, &mut weight);
     show::words(b"\nweight");
     show::floats(&weight);
     show::end();

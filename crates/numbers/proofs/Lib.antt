@@ -5,3 +5,4 @@ pub mod Everys
 pub mod Overs
 pub mod Windows
 pub mod Sums
+pub mod Outcomes

@@ -1,7 +1,5 @@
 -- The laws that other crates cite, and those that the proofs of this one share.
 pub mod Outcomes
-pub mod Fluxes
-pub mod Thresholds
 pub mod Picks
 pub mod Steps
 pub mod Onsets

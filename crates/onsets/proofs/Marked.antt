@@ -1,4 +1,5 @@
--- The marked numbers of suppression, and the marked example of the reporting program, computed on the definitions.
+-- M4, which tells the best of a group from its first peak, and the marked example of the reporting program, computed on the
+-- definitions.
 use mathlib.Core.List.{List, [], _∷_, map}
 use mathlib.Core.Path.{_≡_, refl}
 use Prim.Native.Nat.{ℕ}
@@ -9,10 +10,10 @@ use Rattle.numbers.specs.Rounded.{nought, real, pick, sumFrom, positivePart}
 use Rattle.floats.specs.TotalOrder.{key, turned}
 use Rattle.floats.specs.Wholes.{ceilOf}
 use Rattle.median.specs.Median.{insert, sort, medianOf, absolute, distance, madOf}
-use Rattle.onsets.specs.Flux.{rises, fluxAt}
+use Rattle.flux.specs.Flux.{rises, fluxAt}
+use Rattle.threshold.specs.Threshold.{thresholdOf, thresholdAt}
 use Rattle.onsets.specs.Onsets.{gapOf, onsetsOf}
 use Rattle.onsets.specs.Peaks.{isPeak, those, peaksOf, bests, suppressed}
-use Rattle.onsets.specs.Threshold.{thresholdOf, thresholdAt}
 
 -- a curve of n slots with these values at these frames, and +0 elsewhere
 unfoldable pub valued : (n : ℕ) → (frames values : List ℕ) → List Float
@@ -23,17 +24,7 @@ valued n frames values = curve (value frames values) n
     value (f ∷ fs) [] t = nought
     value (f ∷ fs) (v ∷ vs) t = pick (eqb f t) (real v) (value fs vs t)
 
--- M2: gap 6, peaks 10 and 16 of equal flux: 10
-pub M2 : suppressed (valued 24 (10 ∷ 16 ∷ []) (5 ∷ 5 ∷ [])) 6 (10 ∷ 16 ∷ []) ≡ 10 ∷ []
-unfolding suppressed bests valued ofInt lt
-M2 = refl
-
--- M3: peaks 10 and 17: both
-pub M3 : suppressed (valued 24 (10 ∷ 17 ∷ []) (5 ∷ 5 ∷ [])) 6 (10 ∷ 17 ∷ []) ≡ 10 ∷ 17 ∷ []
-unfolding suppressed bests valued ofInt lt
-M3 = refl
-
--- M4: peaks 10, 16, 22 with flux 5, 6, 7: 22 alone
+-- M4: gap 6, peaks 10, 16, 22 with flux 5, 6, 7: 22 alone
 pub M4 : suppressed (valued 24 (10 ∷ 16 ∷ 22 ∷ []) (5 ∷ 6 ∷ 7 ∷ [])) 6 (10 ∷ 16 ∷ 22 ∷ []) ≡ 22 ∷ []
 unfolding suppressed bests valued ofInt lt
 M4 = refl

@@ -1,4 +1,4 @@
--- What the calls promise: a refusal and an answer each meet it, and any two outcomes that it permits coincide.
+-- What a call that lists frames promises: a refusal and an answer each meet it, and any two outcomes that it permits coincide.
 use mathlib.Core.List.{List}
 use mathlib.Core.Path.{_≡_, sym, _∙_}
 use Prim.Native.Nat.{ℕ}
@@ -6,19 +6,8 @@ use lib.ListN.{length}
 use Rattle.numbers.proofs.Tests.{refused-keeps, passed-does}
 use Rattle.numbers.specs.Lists.{listed}
 use Rattle.numbers.specs.declared.Listing.{Listing}
-use Rattle.onsets.specs.Outcomes.{Written, Lists}
+use Rattle.onsets.specs.Outcomes.{Lists}
 use Rattle.onsets.specs.Steps.{Picked}
-
-module _ {A : Type 0} (number : ℕ) (done was : List A) where
-  pub written-refused : (answer : ℕ) → answer ≡ number → (answer ≡ 0 → ⊥) → Written number done was answer was
-  written-refused answer e h = record { number-is = e; slots-are = sym (refused-keeps number done was (λ z. h (e ∙ z))) }
-
-  pub written-done : (after : List A) → number ≡ 0 → after ≡ done → Written number done was 0 after
-  written-done after z e = record { number-is = sym z; slots-are = e ∙ sym (passed-does number done was z) }
-
-  -- any two outcomes coincide
-  pub written-unique : {a b : ℕ} {x y : List A} → Written number done was a x → Written number done was b y → (a ≡ b) × (x ≡ y)
-  written-unique p q = (p .number-is ∙ sym (q .number-is), p .slots-are ∙ sym (q .slots-are))
 
 module _ (number : ℕ) (entries was : List ℕ) where
   pub lists-refused : (answer : Listing) → answer .number ≡ number → (answer .number ≡ 0 → ⊥) → answer .count ≡ 0 → Lists number entries was answer was

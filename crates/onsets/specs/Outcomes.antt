@@ -1,5 +1,5 @@
--- Document 01, "For each input, refused or not, a promise determines the result and each lent slot afterwards": what the calls
--- of this crate promise, each as equations over the inputs.
+-- Document 01, "For each input, refused or not, a promise determines the result and each lent slot afterwards": what a call that
+-- lists frames promises, as equations over the inputs.
 use Prim.Native.Nat.{ℕ}
 use mathlib.Core.Path.{_≡_}
 use mathlib.Core.List.{List}
@@ -7,12 +7,6 @@ use lib.ListN.{length}
 use Rattle.numbers.specs.Lists.{listed}
 use Rattle.numbers.specs.Refusals.{unlessRefused}
 use Rattle.numbers.specs.declared.Listing.{Listing}
-
--- A call that answers a number and writes one lent list: it answers this number, and the list, which was `was`, is then `done`,
--- or as it was where the number refuses.
-pub record Written {A : Type 0} (number : ℕ) (done was : List A) (answer : ℕ) (after : List A) : Type 0 where
-  pub number-is : answer ≡ number
-  pub slots-are : after ≡ unlessRefused number done was
 
 -- A call that lists frames: it answers this number and how many entries it listed, 0 where it refuses; the lent list has the
 -- entries first, and is as it was where the number refuses.

@@ -1,8 +1,6 @@
-// Onsets: flux, its adaptive threshold, peaks with those close together suppressed, and times.
+// Onsets: peaks of a flux above its threshold, with those close together suppressed, and times.
 //
 // Document 01, Onsets. The Rust: onsets.rs; here its `analyze_stft`, which picks the onsets and gives their times.
-pub mod flux; // flux.rt: how much each frame rises over the one before it
-pub mod threshold; // threshold.rt: what a flux must exceed
 pub mod peaks; // peaks.rt: peaks of a curve, and the best of each group of close ones
 
 use numbers::Listing;
@@ -11,7 +9,8 @@ ghost use mathlib.Core.List.{map};
 ghost use Prim.Native.Nat.{_≤_};
 ghost use lib.ListN.{length};
 ghost use Rattle.numbers.specs.Lists.{listed, every};
-ghost use Rattle.onsets.specs.Outcomes.{Written, Lists};
+ghost use Rattle.numbers.specs.Outcomes.{Written};
+ghost use Rattle.onsets.specs.Outcomes.{Lists};
 ghost use Rattle.onsets.specs.Onsets.{gapOf, onsetsOf, frameTime, frameFine, onsetsRefusal, timesRefusal};
 
 // the least time between two onsets, in milliseconds

@@ -27,7 +27,7 @@ fn main() {
 fn flux_part(magnitudes: &[f32], rows: usize, bins: usize, out: &mut [f64], room: usize)
     requires { ⌜ room ≤ length (now out) ⌝ }
 {
-    show::small(onsets::flux::spectral_flux(magnitudes, rows, bins, &mut out[0..room]));
+    show::small(flux::spectral_flux(magnitudes, rows, bins, &mut out[0..room]));
     show::words(b",");
     show::floats(out);
     show::end();
@@ -137,11 +137,7 @@ fn threshold_part(
 )
     requires { ⌜ (room ≤ length (now out)) × (sorting ≤ length (now work)) × (from ≤ length (now work)) ⌝ }
 {
-    show::small(onsets::threshold::adaptive_threshold(
-        flux,
-        &mut out[0..room],
-        &mut work[0..sorting],
-    ));
+    show::small(threshold::adaptive_threshold(flux, &mut out[0..room], &mut work[0..sorting]));
     show::words(b",");
     show::floats(out);
     show::words(b", work");

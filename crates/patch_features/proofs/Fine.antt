@@ -1,69 +1,34 @@
--- Genuine curves of fine rows are fine, so that a patch's number 4 never refuses one. Of a similarity `structure` says it; a novelty is a sum of at most 256
--- terms, each a weight of the kernel times a similarity, and neither is above 1 in size.
+-- Genuine curves of fine rows are fine, so that a patch's number 4 never refuses one. Of a similarity `row_pairs` says it; a novelty is a sum of at
+-- most 256 terms, each a weight of the kernel times a similarity, and neither is above 1 in size.
 use mathlib.Core.Bool.{Bool, true, false, _&&_}
 use mathlib.Core.List.{List}
-use mathlib.Core.Path.{_≡_, refl, sym, ap, subst, _∙_}
-use Prim.Native.Nat.{ℕ, zero, suc, _+_, _-_, _*_, _^_, _≤_, _<_, min, max}
-use native.Mathlib.Nat.{mul-one, lt-of-le-of-lt, mul-le-mul}
+use mathlib.Core.Path.{_≡_, refl, sym, subst}
+use Prim.Native.Nat.{ℕ, zero, suc, _+_, _-_, _*_, _≤_, _<_}
+use native.Mathlib.Nat.{mul-one, lt-of-le-of-lt}
 use native.Mathlib.Numerals.{add-one}
 use native.Mathlib.Omega.{arith}
 use lib.Dec.{lit≤, lit<}
-use lib.Ieee.{
-  Float,
-  nan,
-  binary64,
-  ofBits,
-  toBits,
-  ofInt,
-  toUnsigned,
-  add,
-  sub,
-  mul,
-  div,
-  neg,
-  le,
-  lt,
-  ne,
-  sum,
-  round,
-  units,
-  size,
-  span,
-  climb,
-  odd,
-  ofFields,
-}
+use lib.Ieee.{Float, nan, binary64, ofBits, neg, le}
 use lib.ListN.{length, getD}
-use Rattle.floats.specs.Exps.{expOf, expAt, expSized, foldsOf, expBy, expLess, expNear, scaleUp, scaleDown, timesUp, timesDown}
 use Rattle.numbers.proofs.Everys.{every-at, every-tab}
-use Rattle.numbers.proofs.Tabs.{length-tab, getD-curve}
+use Rattle.numbers.proofs.Tabs.{length-tab}
 use Rattle.numbers.proofs.Tests.{and-left, and-right}
 use Rattle.numbers.specs.Limits.{valueFine, similarityFine}
-use Rattle.numbers.specs.Lists.{curve, every}
+use Rattle.numbers.specs.Lists.{every}
 use Rattle.numbers.specs.Rounded.{_⊕_, _⊗_, nought, pick}
 use Rattle.sizes.proofs.Sizes.{add-most, mul-most, nought-most, pick-most, most-weaken}
 use Rattle.sizes.proofs.Tests.{similarity-most, within-value}
 use Rattle.sizes.specs.Sizes.{AtMost, Held}
-use Rattle.structure.proofs.Fine.{similarities-fine}
-use Rattle.structure.proofs.Terms.{inside-is, slot-below}
-use Rattle.structure.specs.Kernel.{away, alike, one, signAt, weightOf, kernelAt}
-use Rattle.structure.specs.Novelty.{slotOf, likeness, inside, turns, addTerm, addRow, noveltyAt}
-use Rattle.structure.specs.Similarity.{similarityAt}
+use Rattle.kernels.proofs.Weights.{weight-fine}
+use Rattle.row_pairs.proofs.Fine.{similarities-fine}
+use Rattle.novelties.proofs.Terms.{inside-is, slot-below}
+use Rattle.kernels.specs.Kernel.{away, alike, one, signAt, weightOf, kernelAt}
+use Rattle.novelties.specs.Novelty.{slotOf, likeness, inside, turns, addTerm, addRow, noveltyAt}
+use Rattle.row_pairs.specs.Pairs.{similarityAt}
 use Rattle.patch_features.specs.Features.{pairs}
 use Rattle.patch_features.specs.Runs.{similarityCurve, noveltyCurve}
 
 -- ---- the kernel
-
--- each weight that occurs, in one test that antt computes
-weights-fine : every (λ squares. similarityFine (weightOf squares)) (curve (λ n. n) 129) ≡ true
-unfolding every similarityFine weightOf expOf expAt expSized foldsOf expBy expLess expNear scaleUp scaleDown timesUp timesDown ofBits toBits ofInt toUnsigned add sub mul div neg le lt ne sum round units size span climb odd ofFields
-weights-fine = refl
-
-weight-most : (squares : ℕ) → squares < 129 → AtMost 1 (weightOf squares)
-weight-most squares h =
-    similarity-most (weightOf squares)
-    (ap (λ (n : ℕ). similarityFine (weightOf n)) (sym (getD-curve (λ n. n) 129 squares 0 h))
-    ∙ every-at (λ n. similarityFine (weightOf n)) (curve (λ n. n) 129) squares 0 weights-fine (subst (λ (n : ℕ). squares < n) (sym (length-tab (λ n. n) 0 129)) h))
 
 one-fine : similarityFine one ≡ true
 unfolding similarityFine le neg ofBits
@@ -81,10 +46,7 @@ kernel-most : (u v : ℕ) → u < 16 → v < 16 → AtMost 1 (kernelAt u v)
 unfolding kernelAt signAt
 kernel-most u v h k =
     mul-most {N = 1} {M = 1} (held-small 1 (lit≤ tt)) (pick-most (alike u v) (similarity-most one one-fine) (similarity-most (neg one) less-fine))
-    (weight-most (away u * away u + away v * away v) (omega (arith, far u h, far v k)))
-  where
-    far : (p : ℕ) → p < 16 → away p * away p ≤ 8 * 8
-    far p l = let m : away p ≤ 8 = omega arith in mul-le-mul m m
+    (similarity-most (weightOf (away u * away u + away v * away v)) (weight-fine u v h k))
 
 -- ---- a sum
 

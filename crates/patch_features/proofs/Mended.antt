@@ -1,24 +1,25 @@
 -- A patch that is not refused and has rows: the mended curves of fresh ones are those of the edited rows (the law of locality,
 -- `local-curve`), and the slots behind them stay.
-use mathlib.Core.Bool.{Bool, true, false}
+use mathlib.Core.Bool.{true, false}
 use mathlib.Core.List.{List}
 use mathlib.Core.Logic.{_⊎_, inl, inr, ⊎-elim}
-use mathlib.Core.Path.{_≡_, refl, sym, ap, _∙_}
-use Prim.Native.Nat.{ℕ, _+_, _-_, _*_, _/_, _≤_, _<_, min}
+use mathlib.Core.Path.{_≡_, sym, ap, _∙_}
+use Prim.Native.Nat.{ℕ, _+_, _-_, _*_, _/_, _≤_, _<_}
 use native.Mathlib.Omega.{arith}
 use lib.Ieee.{Float, nan}
 use lib.ListN.{length, getD, set, take, drop}
 use lib.Seq.{getD-take}
-use Rattle.numbers.proofs.Tabs.{local-curve, length-tab, getD-curve, filled-ext, filled-join, filled-more, getD-filled-high}
-use Rattle.numbers.proofs.Tests.{which, lt-or-le, pick-true, pick-false}
+use Rattle.numbers.proofs.Tabs.{local-curve, getD-curve, filled-ext, filled-join, filled-more, getD-filled-high}
+use Rattle.numbers.proofs.Tests.{which, pick-true, pick-false}
 use Rattle.numbers.specs.Limits.{featureWidth}
 use Rattle.numbers.specs.Lists.{curve, filled}
 use Rattle.numbers.specs.Rounded.{pick}
 use Rattle.patching.proofs.Parts.{take-filled, drop-filled}
 use Rattle.patching.specs.Patches.{Patch, pastRow, edited}
-use Rattle.structure.proofs.Local.{similarity-over, novelty-kept}
-use Rattle.structure.specs.Novelty.{noveltyAt}
-use Rattle.structure.specs.Similarity.{similarityAt}
+use Rattle.row_pairs.proofs.Local.{similarity-over}
+use Rattle.novelties.proofs.Local.{novelty-kept}
+use Rattle.novelties.specs.Novelty.{noveltyAt}
+use Rattle.row_pairs.specs.Pairs.{similarityAt}
 use Rattle.patch_features.specs.Features.{
   Track,
   pairs,

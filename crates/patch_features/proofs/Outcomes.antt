@@ -1,7 +1,7 @@
 -- The three outcomes of a patch of features meet its promise, and any two that it permits coincide.
 use mathlib.Core.List.{List}
 use mathlib.Core.Path.{_≡_, refl, sym, ap, _∙_}
-use Prim.Native.Nat.{ℕ, zero, suc, _*_}
+use Prim.Native.Nat.{ℕ, zero, suc}
 use lib.Ieee.{Float}
 use lib.ListN.{length, take}
 use Rattle.numbers.proofs.Tests.{refused-keeps}
@@ -9,7 +9,7 @@ use Rattle.numbers.specs.Limits.{featureWidth}
 use Rattle.numbers.specs.Lists.{filled}
 use Rattle.patching.proofs.Wholes.{empty-keeps, full-does}
 use Rattle.patching.specs.Patches.{Patch, pastRow, edited}
-use Rattle.structure.specs.Novelty.{noveltyAt}
+use Rattle.novelties.specs.Novelty.{noveltyAt}
 use Rattle.patch_features.specs.declared.PatchedFeatures.{PatchedFeatures}
 use Rattle.patch_features.specs.declared.PatchedFeatures.the-variants.{Refused, Wrote}
 use Rattle.patch_features.specs.Features.{

@@ -19,9 +19,10 @@ use Rattle.numbers.specs.Refusals.{unlessRefused}
 use Rattle.patching.proofs.Parts.{filled-first, filled-rest, filled-by}
 use Rattle.patching.proofs.Wholes.{whole-asked}
 use Rattle.patching.specs.Patches.{Patch, patchOf, pastRow, wholeRows, edited, unlessEmpty}
-use Rattle.structure.proofs.Fine.{genuine-passes}
-use Rattle.structure.specs.Novelty.{noveltyAt, noveltyNumber, NoveltyDone}
-use Rattle.structure.specs.Similarity.{similarityAt, similarityNumber, SimilarityDone}
+use Rattle.novelties.proofs.Calls.{genuine-passes}
+use Rattle.novelties.specs.Novelty.{noveltyAt, noveltyNumber, NoveltyDone}
+use Rattle.row_pairs.specs.Pairs.{similarityAt}
+use Rattle.similarities.specs.Similarity.{similarityNumber, SimilarityDone}
 use Rattle.patch_features.specs.declared.PatchedFeatures.{PatchedFeatures}
 use Rattle.patch_features.specs.declared.PatchedFeatures.the-variants.{Refused, Wrote}
 use Rattle.patch_features.specs.Features.{

@@ -9,7 +9,7 @@ use borrow.Author.Tests.{le-leb, lt-leb, lt-ltb, le-ltb}
 use lib.Dec.{leb, ltb}
 use lib.Ieee.{Float}
 use Rattle.numbers.proofs.Tests.{lt-or-le, true-not-false, and-both}
-use Rattle.structure.specs.Similarity.{slotAt, similarityAt}
+use Rattle.row_pairs.specs.Pairs.{slotAt, similarityAt}
 use Rattle.patch_features.specs.Features.{replaced, touched, firstPair}
 
 -- ---- rows replaced, and pairs touched

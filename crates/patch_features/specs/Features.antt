@@ -13,8 +13,8 @@ use Rattle.numbers.specs.Lists.{filled, every}
 use Rattle.numbers.specs.Refusals.{lowest, unlessRefused}
 use Rattle.numbers.specs.Rounded.{pick}
 use Rattle.patching.specs.Patches.{Patch, pastRow, wholeRows, edited, unlessEmpty}
-use Rattle.structure.specs.Similarity.{bandWidth, similarityAt}
-use Rattle.structure.specs.Novelty.{noveltyAt}
+use Rattle.row_pairs.specs.Pairs.{bandWidth, similarityAt}
+use Rattle.novelties.specs.Novelty.{noveltyAt}
 use Rattle.patch_features.specs.declared.PatchedFeatures.{PatchedFeatures}
 use Rattle.patch_features.specs.declared.PatchedFeatures.the-variants.{Refused, Wrote}
 

@@ -9,8 +9,8 @@ use lib.ListN.{length, getD, take}
 use lib.Ieee.{Float, nan}
 use Rattle.numbers.specs.Limits.{mostFeatures, featureWidth, valueFine}
 use Rattle.numbers.specs.Lists.{curve, filled, row, every}
-use Rattle.structure.specs.Similarity.{similarityAt}
-use Rattle.structure.specs.Novelty.{noveltyAt}
+use Rattle.row_pairs.specs.Pairs.{similarityAt}
+use Rattle.novelties.specs.Novelty.{noveltyAt}
 use Rattle.patching.specs.Patches.{Patch, pastRow}
 use Rattle.patch_features.specs.declared.PatchedFeatures.{PatchedFeatures}
 use Rattle.patch_features.specs.declared.PatchedFeatures.the-variants.{Refused}

@@ -4,14 +4,13 @@
 // Document 01, Patching (added). The curves are then, bit for bit, those of a full run on the edited rows: proofs/Repairs.antt.
 ghost use mathlib.Core.Bool.{_||_};
 ghost use mathlib.Core.Path.{_≡_};
-ghost use Prim.Native.Nat.{_+_, _-_, _*_, _≤_, _<_, min};
-ghost use lib.ListN.{length, getD};
-ghost use lib.Ieee.{nan};
+ghost use Prim.Native.Nat.{_+_, _-_, _*_, _≤_, _<_};
+ghost use lib.ListN.{length};
 ghost use Rattle.numbers.specs.Limits.{mostFeatures};
 ghost use Rattle.numbers.specs.Lists.{filled};
 ghost use Rattle.numbers.specs.Rounded.{pick};
 ghost use Rattle.patching.specs.Patches.{patchOf};
-ghost use Rattle.structure.specs.Similarity.{similarityAt};
+ghost use Rattle.row_pairs.specs.Pairs.{similarityAt};
 ghost use Rattle.patch_features.specs.Features.{track, firstPair, replaced, touched, mendedAt, boundsFine, roomFine, valuesFine, numberOf, Patches};
 
 // how many rows after its own a similarity reaches
@@ -70,7 +69,7 @@ pub fn patch_features(
     let novelty_first = numbers::less(start, ON);
     let novelty_past = numbers::least(past + BACK, rows);
     let pairs = rows * BAND_WIDTH;
-    structure::novelties::fill_novelty(
+    novelties::fill_novelty(
         &similarity[0..pairs],
         rows,
         novelty_first,
@@ -99,7 +98,7 @@ fn mend_similarity(features: &[f64], rows: usize, start: usize, past: usize, sim
     ensures { λ _. ⌜ now (similarity .exit) ≡ filled (mendedAt (now (features .entry)) rows start past (now (similarity .entry))) (now (similarity .entry)) (firstPair start) (past * 17) ⌝ }
 {
     mend_before(features, rows, start, past, first_pair(start), similarity);
-    structure::similarities::fill_similarity_rows(features, rows, start, past, similarity);
+    similarities::fill_similarity_rows(features, rows, start, past, similarity);
 }
 
 fn mend_before(
@@ -128,7 +127,7 @@ fn mended_slot(features: &[f64], rows: usize, start: usize, past: usize, k: usiz
     let i = k / BAND_WIDTH;
     let d = k % BAND_WIDTH;
     if is_touched(start, past, i, d) {
-        return structure::similarities::similarity_slot(features, rows, i, d);
+        return row_pairs::similarity_slot(features, rows, i, d);
     }
     lent
 }

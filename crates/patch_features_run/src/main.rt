@@ -33,8 +33,8 @@ fn fill(values: &mut [f64], seed: u32)
 fn fresh(features: &[f64], similarity: &mut [f64], novelty: &mut [f64])
     requires { ⌜ 612 ≤ length (now similarity) ⌝ }
 {
-    structure::similarity(features, 36, similarity);
-    structure::novelty(&similarity[0..612], 36, novelty);
+    similarities::similarity(features, 36, similarity);
+    novelties::novelty(&similarity[0..612], 36, novelty);
 }
 
 // The last slot of each is no number: slots beyond the curves are not read.

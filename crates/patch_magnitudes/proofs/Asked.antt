@@ -1,19 +1,16 @@
 -- What number 0 says of a patch of magnitudes, row by row of the table, and what it asks for.
-use mathlib.Core.Bool.{true, _&&_}
+use mathlib.Core.Bool.{true}
 use mathlib.Core.Path.{_≡_}
-use mathlib.Core.List.{List}
-use Prim.Native.Nat.{ℕ, _+_, _*_, _/_, _≤_, _<_}
+use Prim.Native.Nat.{ℕ, _≤_}
 use borrow.Author.Tests.{leb-true, le-leb}
-use native.Mathlib.Omega.{arith}
 use lib.Dec.{leb}
-use lib.Ieee.{Float}
-use lib.ListN.{length, take}
-use Rattle.numbers.proofs.Tests.{and-left, and-right, and-both, lowest-zero, lowest-0}
-use Rattle.numbers.specs.Limits.{mostRows, mostBins, between, magnitudeFine, valueFine}
+use lib.ListN.{length}
+use Rattle.numbers.proofs.Tests.{and-left, and-right, and-both, lowest-zero}
+use Rattle.numbers.specs.Limits.{mostRows, mostBins, between, magnitudeFine}
 use Rattle.numbers.specs.Lists.{every}
-use Rattle.onsets.specs.Threshold.{windowRoom}
+use Rattle.threshold.specs.Threshold.{windowRoom}
 use Rattle.patching.proofs.Wholes.{Whole, whole-told}
-use Rattle.patching.specs.Patches.{Patch, pastRow, wholeRows}
+use Rattle.patching.specs.Patches.{Patch, wholeRows}
 use Rattle.patch_magnitudes.specs.Magnitudes.{Track, boundsFine, roomFine, valuesFine, numberOf}
 
 pub record Bounds (rows bins start : ℕ) : Type 0 where

@@ -1,7 +1,6 @@
 -- The slots that some patches of 40 rows of 3 bins name, computed.
-use mathlib.Core.List.{List, []}
+use mathlib.Core.List.{[]}
 use mathlib.Core.Path.{_≡_, refl}
-use lib.Ieee.{Float}
 use Rattle.numbers.specs.Lists.{curve}
 use Rattle.numbers.specs.Rounded.{nought}
 use Rattle.patching.specs.Patches.{patchOf}

@@ -4,17 +4,17 @@ use mathlib.Core.Bool.{true}
 use mathlib.Core.List.{List}
 use mathlib.Core.Logic.{_⊎_, inl, inr, ⊎-elim}
 use mathlib.Core.Path.{_≡_, sym, ap, _∙_}
-use Prim.Native.Nat.{ℕ, _+_, _-_, _*_, _/_, _≤_, _<_, min}
+use Prim.Native.Nat.{ℕ, _+_, _/_, _≤_, _<_, min}
 use native.Mathlib.Omega.{arith}
 use lib.Ieee.{Float, nan}
 use lib.ListN.{length, getD, take, drop}
 use Rattle.numbers.proofs.Tabs.{length-tab, getD-curve}
 use Rattle.numbers.specs.Limits.{mostBins, magnitudeFine, valueFine}
 use Rattle.numbers.specs.Lists.{curve, every, filled}
-use Rattle.onsets.proofs.Fluxes.{flux-over, flux-local, flux-curve-within, flux-curve-fine}
-use Rattle.onsets.proofs.Thresholds.{threshold-local, threshold-curve-fine}
-use Rattle.onsets.specs.Flux.{fluxAt}
-use Rattle.onsets.specs.Threshold.{reach, thresholdAt}
+use Rattle.flux.proofs.Fluxes.{flux-over, flux-local, flux-curve-within, flux-curve-fine}
+use Rattle.threshold.proofs.Thresholds.{threshold-local, threshold-curve-fine}
+use Rattle.flux.specs.Flux.{fluxAt}
+use Rattle.threshold.specs.Threshold.{reach, thresholdAt}
 use Rattle.patching.proofs.Parts.{take-filled, drop-filled}
 use Rattle.patching.specs.Patches.{Patch, edited}
 use Rattle.patch_magnitudes.specs.Magnitudes.{

@@ -1,15 +1,15 @@
 -- The three outcomes of a patch of magnitudes meet its promise, and any two that it permits coincide.
-use mathlib.Core.List.{List, [], _∷_}
+use mathlib.Core.List.{List}
 use mathlib.Core.Path.{_≡_, refl, sym, ap, _∙_}
 use Prim.Native.Nat.{ℕ, zero, suc}
 use lib.Ieee.{Float}
 use lib.ListN.{length, take, drop}
-use Rattle.numbers.proofs.Tests.{refused-keeps, passed-does}
+use Rattle.numbers.proofs.Tests.{refused-keeps}
 use Rattle.numbers.specs.Lists.{filled}
-use Rattle.onsets.specs.Flux.{fluxAt}
-use Rattle.onsets.specs.Threshold.{thresholdAt, windowRoom}
+use Rattle.flux.specs.Flux.{fluxAt}
+use Rattle.threshold.specs.Threshold.{thresholdAt, windowRoom}
 use Rattle.patching.proofs.Wholes.{empty-keeps, full-does}
-use Rattle.patching.specs.Patches.{Patch, patchOf, edited, unlessEmpty}
+use Rattle.patching.specs.Patches.{Patch, edited}
 use Rattle.patch_magnitudes.specs.declared.Patched.{Patched}
 use Rattle.patch_magnitudes.specs.declared.Patched.the-variants.{Refused, Wrote}
 use Rattle.patch_magnitudes.specs.Magnitudes.{

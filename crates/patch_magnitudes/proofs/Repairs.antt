@@ -3,7 +3,7 @@
 use mathlib.Core.Bool.{true}
 use mathlib.Core.List.{List, [], _∷_}
 use mathlib.Core.Path.{_≡_, refl, sym, ap, _∙_}
-use Prim.Native.Nat.{ℕ, zero, suc, _+_, _-_, _*_, _/_, _≤_, _<_}
+use Prim.Native.Nat.{ℕ, zero, suc, _+_, _*_, _/_, _≤_, _<_}
 use native.Mathlib.Omega.{arith}
 use lib.Ieee.{Float, nan}
 use lib.ListN.{length, take, drop}
@@ -13,12 +13,12 @@ use Rattle.numbers.proofs.Tests.{passed-does, and-both, lowest-0}
 use Rattle.numbers.specs.Limits.{magnitudeFine, valueFine}
 use Rattle.numbers.specs.Lists.{curve, every, filled, row}
 use Rattle.numbers.specs.Refusals.{unlessRefused}
-use Rattle.onsets.proofs.Fluxes.{FluxFine, flux-asked}
+use Rattle.numbers.specs.Outcomes.{Written}
+use Rattle.flux.proofs.Fluxes.{FluxFine, flux-asked}
 use Rattle.onsets.proofs.Onsets.{threshold-takes}
-use Rattle.onsets.specs.Flux.{fluxAt, fluxRefusal}
+use Rattle.flux.specs.Flux.{fluxAt, fluxRefusal}
 use Rattle.onsets.specs.Onsets.{onsetsOf}
-use Rattle.onsets.specs.Outcomes.{Written}
-use Rattle.onsets.specs.Threshold.{thresholdAt, windowRoom, thresholdRefusal, Thresholds}
+use Rattle.threshold.specs.Threshold.{thresholdAt, windowRoom, thresholdRefusal, Thresholds}
 use Rattle.patching.proofs.Parts.{filled-first, filled-rest, filled-by}
 use Rattle.patching.proofs.Wholes.{whole-asked}
 use Rattle.patching.specs.Patches.{Patch, patchOf, wholeRows, edited, unlessEmpty}

@@ -11,8 +11,8 @@ use lib.Ieee.{Float}
 use Rattle.numbers.specs.Limits.{mostRows, mostBins, between, magnitudeFine, valueFine}
 use Rattle.numbers.specs.Lists.{filled, every}
 use Rattle.numbers.specs.Refusals.{lowest, unlessRefused}
-use Rattle.onsets.specs.Flux.{fluxAt}
-use Rattle.onsets.specs.Threshold.{reach, thresholdAt, windowRoom}
+use Rattle.flux.specs.Flux.{fluxAt}
+use Rattle.threshold.specs.Threshold.{reach, thresholdAt, windowRoom}
 use Rattle.patching.specs.Patches.{Patch, pastRow, wholeRows, edited, unlessEmpty}
 use Rattle.patch_magnitudes.specs.declared.Patched.{Patched}
 use Rattle.patch_magnitudes.specs.declared.Patched.the-variants.{Refused, Wrote}

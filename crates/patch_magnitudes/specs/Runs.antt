@@ -9,8 +9,8 @@ use lib.ListN.{length, getD, take}
 use lib.Ieee.{Float, nan}
 use Rattle.numbers.specs.Limits.{mostRows, mostBins, magnitudeFine}
 use Rattle.numbers.specs.Lists.{curve, filled, row, every}
-use Rattle.onsets.specs.Flux.{fluxAt}
-use Rattle.onsets.specs.Threshold.{thresholdAt, windowRoom}
+use Rattle.flux.specs.Flux.{fluxAt}
+use Rattle.threshold.specs.Threshold.{thresholdAt, windowRoom}
 use Rattle.patching.specs.Patches.{Patch, pastRow}
 use Rattle.patch_magnitudes.specs.declared.Patched.{Patched}
 use Rattle.patch_magnitudes.specs.declared.Patched.the-variants.{Refused}

@@ -1,8 +1,8 @@
 // A repair of a track: some magnitude rows are replaced, and the flux and threshold curves are mended where that can change them.
 //
 // Document 01, Patching (added). The curves are then, bit for bit, those of a full run on the edited rows: proofs/Repairs.antt.
-use onsets::threshold::MEDIAN_WINDOW;
-use onsets::threshold::REACH;
+use threshold::MEDIAN_WINDOW;
+use threshold::REACH;
 ghost use mathlib.Core.Path.{_≡_};
 ghost use mathlib.Core.Bool.{true};
 ghost use Prim.Native.Nat.{_+_, _*_, _/_, _≤_, _<_};
@@ -62,10 +62,10 @@ pub fn patch_magnitudes(
     patching::copy_magnitudes(magnitudes, start * bins, new);
     let past = start + new.len() / bins;
     let flux_past = numbers::least(past + 1, rows);
-    onsets::flux::fill_flux(magnitudes, rows, bins, start, flux_past, flux);
+    flux::fill_flux(magnitudes, rows, bins, start, flux_past, flux);
     let threshold_first = numbers::less(start, REACH);
     let threshold_past = numbers::least(past + REACH + 1, rows);
-    onsets::threshold::fill_threshold(
+    threshold::fill_threshold(
         &flux[0..rows],
         threshold,
         threshold_first,

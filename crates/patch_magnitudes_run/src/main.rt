@@ -16,8 +16,8 @@ fn fresh(magnitudes: &[f32], flux: &mut [f64], threshold: &mut [f64])
     requires { ⌜ 30 ≤ length (now flux) ⌝ }
 {
     let mut work = [0.0f64; 21];
-    onsets::flux::spectral_flux(magnitudes, 30, 2, flux);
-    onsets::threshold::adaptive_threshold(&flux[0..30], threshold, &mut work);
+    flux::spectral_flux(magnitudes, 30, 2, flux);
+    threshold::adaptive_threshold(&flux[0..30], threshold, &mut work);
 }
 
 // Slot 31 of the flux is no number: slots beyond the curve are not read.

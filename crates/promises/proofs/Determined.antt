@@ -11,15 +11,17 @@ use lib.ListN.{length, drop}
 use Rattle.numbers.specs.Lists.{curve, listed}
 use Rattle.numbers.specs.Refusals.{unlessRefused}
 use Rattle.numbers.specs.declared.Listing.{Listing}
+use Rattle.numbers.specs.Outcomes.{Written}
+use Rattle.numbers.proofs.Outcomes.{written-unique}
 use Rattle.frames.specs.Frames.{RowOf}
 use Rattle.frames.proofs.Laws.{one-part}
 use Rattle.median.specs.Answers.{Answered, sortedIn}
 use Rattle.median.specs.declared.Answer.{Answer}
-use Rattle.onsets.specs.Flux.{fluxAt}
-use Rattle.onsets.specs.Outcomes.{Written, Lists}
-use Rattle.onsets.specs.Threshold.{sortingRoom, Thresholds}
-use Rattle.onsets.proofs.Outcomes.{written-unique, lists-unique}
-use Rattle.onsets.proofs.Thresholds.{thresholds-unique}
+use Rattle.flux.specs.Flux.{fluxAt}
+use Rattle.onsets.specs.Outcomes.{Lists}
+use Rattle.threshold.specs.Threshold.{sortingRoom, Thresholds}
+use Rattle.onsets.proofs.Outcomes.{lists-unique}
+use Rattle.threshold.proofs.Thresholds.{thresholds-unique}
 use Rattle.lags.specs.Lags.{minLag, maxLag, lagRange}
 use Rattle.lags.specs.declared.LagRange.{LagRange}
 use Rattle.lags.specs.declared.TempoOpts.{TempoOpts}
@@ -33,8 +35,8 @@ use Rattle.beats.specs.Grids.{scoresOf, linksOf, gridOf, Gridded}
 use Rattle.bars.specs.BarBeats.{barBeatOf}
 use Rattle.bars.specs.Downbeats.{Downbeats}
 use Rattle.bars.specs.declared.BarBeat.{BarBeat}
-use Rattle.structure.specs.Similarity.{SimilarityDone}
-use Rattle.structure.specs.Novelty.{NoveltyDone}
+use Rattle.similarities.specs.Similarity.{SimilarityDone}
+use Rattle.novelties.specs.Novelty.{NoveltyDone}
 use Rattle.sections.specs.Outcomes.{Found}
 use Rattle.sections.specs.declared.Sections.{Sections}
 use Rattle.sections.proofs.Outcomes.{found-unique}

@@ -1,5 +1,5 @@
 -- The marked numbers of document 01: every case of the list holds, by computing on the definitions. Assumes nothing.
-use mathlib.Core.Path.{_≡_, refl}
+use mathlib.Core.Path.{refl}
 use lib.Ieee.{add, sub, mul, div, neg, lt, le, ofInt, ofBits, toBits}
 use Rattle.numbers.specs.Rounded.{sumFrom}
 use Rattle.sizes.specs.Sizes.{Each, none, more}

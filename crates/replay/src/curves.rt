@@ -29,7 +29,7 @@ fn onsets_of(curve: &[f64], n: usize, rate: u32)
 {
     let mut threshold = [0.0f64; 40];
     let mut work = [0.0f64; 21];
-    let number = onsets::threshold::adaptive_threshold(curve, &mut threshold, &mut work);
+    let number = threshold::adaptive_threshold(curve, &mut threshold, &mut work);
     lines::floats(b"threshold", number, &threshold[0..n]);
     picked(curve, &threshold[0..n], rate);
 }
@@ -65,9 +65,9 @@ fn fluxes(s: u64) {
     let mut slab = [0.0f32; 40];
     let mut flux = [0.0f64; 40];
     inputs::fill_magnitudes(&mut slab, s);
-    let number = onsets::flux::spectral_flux(&slab, 40, 1, &mut flux);
+    let number = flux::spectral_flux(&slab, 40, 1, &mut flux);
     lines::floats(b"flux of one bin", number, &flux);
-    let number = onsets::flux::spectral_flux(&slab, 8, 5, &mut flux);
+    let number = flux::spectral_flux(&slab, 8, 5, &mut flux);
     lines::floats(b"flux of five bins", number, &flux[0..8]);
 }
 

@@ -7,7 +7,7 @@ fn similar(features: &[f64], rows: usize, s: u64)
     requires { ⌜ rows ≤ 20 ⌝ }
 {
     let mut similarity = [0.0f64; 340];
-    let number = structure::similarity(features, rows, &mut similarity);
+    let number = similarities::similarity(features, rows, &mut similarity);
     lines::floats(b"similarity", number, &similarity[0..34]);
     novel(&similarity[0..17 * rows], rows, s);
 }
@@ -16,7 +16,7 @@ fn novel(similarity: &[f64], rows: usize, s: u64)
     requires { ⌜ rows ≤ 20 ⌝ }
 {
     let mut novelty = [0.0f64; 20];
-    let number = structure::novelty(similarity, rows, &mut novelty);
+    let number = novelties::novelty(similarity, rows, &mut novelty);
     lines::floats(b"novelty", number, &novelty[0..rows]);
     sections_of(&novelty[0..rows], s);
 }

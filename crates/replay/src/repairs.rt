@@ -37,8 +37,8 @@ fn magnitudes(s: u64, start: usize) {
     let mut work = [0.0f64; 21];
     inputs::fill_magnitudes(&mut slab, s);
     inputs::fill_magnitudes(&mut new, inputs::next(s));
-    onsets::flux::spectral_flux(&slab, 40, 1, &mut flux);
-    onsets::threshold::adaptive_threshold(&flux, &mut threshold, &mut work);
+    flux::spectral_flux(&slab, 40, 1, &mut flux);
+    threshold::adaptive_threshold(&flux, &mut threshold, &mut work);
     patched(&mut slab, start, &new, &mut flux, &mut threshold);
 }
 
@@ -78,8 +78,8 @@ fn features(s: u64, start: usize) {
     let mut novelty = [0.0f64; 20];
     inputs::fill(&mut lent, s);
     inputs::fill(&mut new, inputs::next(s));
-    structure::similarity(&lent, 20, &mut similarity);
-    structure::novelty(&similarity, 20, &mut novelty);
+    similarities::similarity(&lent, 20, &mut similarity);
+    novelties::novelty(&similarity, 20, &mut novelty);
     patched_features(&mut lent, start, &new, &mut similarity, &mut novelty);
 }
 

@@ -11,8 +11,8 @@ use Rattle.numbers.proofs.Overs.{row-end}
 use Rattle.numbers.proofs.Tabs.{filled-more, filled-whole, getD-filled-high, tab-ext, curve-of}
 use Rattle.numbers.specs.Lists.{tab, filled, row, every}
 use Rattle.numbers.specs.Rounded.{sumOf}
-use Rattle.onsets.proofs.Fluxes.{flux-from, flux-same, flux-first}
-use Rattle.onsets.specs.Flux.{rises, fluxAt}
+use Rattle.flux.proofs.Fluxes.{flux-from, flux-same, flux-first}
+use Rattle.flux.specs.Flux.{rises, fluxAt}
 use Rattle.npy.specs.Values.{rowRead}
 use Rattle.report.specs.Input.{valuesOf}
 use Rattle.report.proofs.Values.{row-values}

@@ -14,7 +14,7 @@ use Rattle.numbers.proofs.Tests.{and-left, and-right, pick-true}
 use Rattle.numbers.specs.Limits.{magnitudeFine}
 use Rattle.numbers.specs.Lists.{filled, row, every}
 use Rattle.numbers.specs.Rounded.{pick}
-use Rattle.onsets.specs.Flux.{fluxAt}
+use Rattle.flux.specs.Flux.{fluxAt}
 use Rattle.report.specs.Input.{valuesOf}
 use Rattle.report.specs.Stream.{RowTaken, Streamed, Taken, none, more, joined}
 use Rattle.report.proofs.Values.{length-values, values-none, values-append}

@@ -9,7 +9,7 @@ use lib.ListN.{length, drop, set}
 use Rattle.numbers.specs.Rounded.{pick}
 use Rattle.numbers.specs.Limits.{magnitudeFine}
 use Rattle.numbers.specs.Lists.{filled, row, every}
-use Rattle.onsets.specs.Flux.{fluxAt}
+use Rattle.flux.specs.Flux.{fluxAt}
 use Rattle.report.specs.Input.{valuesOf}
 
 -- One row more, whose bytes are given, as row t: the answer tells whether every value so far is fine. The row before it is kept and the new

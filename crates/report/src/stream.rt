@@ -52,6 +52,6 @@ pub fn take_row(
     if !numbers::magnitudes_fine(&kept[bins..]) {
         return false;
     }
-    flux[t] = onsets::flux::flux_slot(kept, 2, bins, numbers::least(t, 1));
+    flux[t] = flux::flux_slot(kept, 2, bins, numbers::least(t, 1));
     true
 }

@@ -48,7 +48,7 @@ fn onsets_of(flux: &[f64], onsets: &mut [u32]) -> usize
 {
     let mut threshold = curve_room();
     let mut work = lag_room();
-    onsets::threshold::adaptive_threshold(flux, &mut threshold, &mut work);
+    threshold::adaptive_threshold(flux, &mut threshold, &mut work);
     let rows = flux.len();
     let listing = onsets::pick_onsets(flux, &threshold[0..rows], RATE, onsets);
     listing.count

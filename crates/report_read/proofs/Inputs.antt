@@ -21,7 +21,7 @@ use Rattle.npy.specs.declared.Preamble.the-variants as preamble
 use Rattle.npy.specs.declared.Header.{Header}
 use Rattle.npy.specs.declared.Header.the-variants as header
 use Rattle.npy.specs.Header.{magic, starts, headerOf, preambleOf}
-use Rattle.onsets.specs.Flux.{fluxAt}
+use Rattle.flux.specs.Flux.{fluxAt}
 use Rattle.report.specs.Input.{mostReported, preambleLength, valuesOf, shapeFine, dataNumber, headerNumber, preambleNumber, reportNumber}
 use Rattle.report.proofs.Numbers.{lowest-short}
 use Rattle.report_read.specs.declared.Body.{Body}

@@ -9,7 +9,7 @@ use lib.Ieee.{Float}
 use lib.ListN.{length}
 use Rattle.numbers.specs.Limits.{mostBins, magnitudeFine}
 use Rattle.numbers.specs.Lists.{every, filled}
-use Rattle.onsets.specs.Flux.{fluxAt}
+use Rattle.flux.specs.Flux.{fluxAt}
 use Rattle.npy.specs.declared.Header.{Header}
 use Rattle.npy.specs.declared.Header.the-variants as header
 use Rattle.npy.specs.declared.Preamble.{Preamble}

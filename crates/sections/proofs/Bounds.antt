@@ -1,25 +1,25 @@
 -- Boundaries: they ascend strictly, from row 1 to the last but one, and are at most as many as are asked for, so that `boundary_times`
 -- refuses none; and what number 0 says of each call. Assumes nothing.
-use Prim.Native.Nat.{ℕ, zero, suc, _+_, _-_, _≤_, _<_, zero-le}
-use mathlib.Core.Path.{_≡_, refl, sym, ap, _∙_}
-use mathlib.Core.Logic.{⊎-elim}
+use Prim.Native.Nat.{ℕ, _-_, _≤_, zero-le}
+use mathlib.Core.Path.{_≡_, refl}
 use mathlib.Core.Bool.{Bool, true, false, _&&_}
-use mathlib.Core.List.{List, [], map}
+use mathlib.Core.List.{List}
 use native.Mathlib.Omega.{arith}
 use lib.Dec.{leb, ltb}
 use lib.Ieee.{Float}
-use lib.ListN.{length, length-map}
+use lib.ListN.{length}
 use borrow.Author.Tests.{leb-true, le-leb, ltb-true, lt-ltb}
-use Rattle.numbers.proofs.Tests.{and-left, and-right, and-both, lowest-zero, lowest-0, lt-or-le}
+use Rattle.numbers.proofs.Tests.{and-left, and-right, and-both, lowest-zero, lowest-0}
 use Rattle.numbers.specs.Limits.{mostFeatures, valueFine}
 use Rattle.numbers.specs.Lists.{every}
 use Rattle.numbers.specs.Rounded.{pick}
 use Rattle.onsets.proofs.Onsets.{every-weaken}
 use Rattle.onsets.proofs.Picks.{those-length, those-every, those-ascending, peaks-ascend, peaks-inside, peaks-length, suppressed-ascends, suppressed-every, suppressed-length}
-use Rattle.onsets.specs.Peaks.{at, peaksOf, ascending, pointInto}
-use Rattle.sections.specs.Boundaries.{leastRows, gapOf, thresholdOf, candidatesOf, mostBoundaries, placeOf, greatest, boundariesOf, gridFine, boundariesRefusal}
+use Rattle.onsets.specs.Peaks.{peaksOf, ascending, pointInto}
+use Rattle.section_peaks.specs.Greatest.{placeOf, greatest}
+use Rattle.sections.specs.Boundaries.{leastRows, gapOf, thresholdOf, candidatesOf, mostBoundaries, boundariesOf, gridFine, boundariesRefusal}
 use Rattle.sections.specs.Times.{rowFine, timesRefusal}
-use Rattle.sections.proofs.Cuts.{greatest-most}
+use Rattle.section_peaks.proofs.Cuts.{greatest-most}
 
 -- what holds of both holds of the one that is picked
 by-pick : {A : Type 0} (P : A → Type 0) (b : Bool) {x y : A} → P x → P y → P (pick b x y)

@@ -2,6 +2,3 @@
 pub mod Bounds
 pub mod Outcomes
 pub mod Confidences
-mod Walks
-mod Cuts
-mod Choices

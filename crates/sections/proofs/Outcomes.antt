@@ -1,8 +1,8 @@
 -- What the calls promise: a refusal, a curve that is too short and an answer each meet it, and any two outcomes that it permits
--- coincide (of `boundary_times` by the law `written-unique` of onsets). Assumes nothing.
+-- coincide (of `boundary_times` by the law `written-unique` of numbers). Assumes nothing.
 use Prim.Native.Nat.{ℕ, zero, suc, _+_, _-_, _≤_, _<_, min}
 use mathlib.Core.Path.{_≡_, refl, sym, _∙_}
-use mathlib.Core.List.{List, []}
+use mathlib.Core.List.{List}
 use native.Mathlib.Omega.{arith}
 use borrow.Author.Tests.{lt-ltb, le-ltb}
 use lib.Ieee.{Float}
@@ -16,10 +16,11 @@ use Rattle.numbers.specs.Refusals.{unlessRefused}
 use Rattle.numbers.specs.Rounded.{_⊕_, _⊗_, nought}
 use Rattle.onsets.specs.Peaks.{peaksOf, suppressed}
 use Rattle.onsets.specs.Steps.{Picked}
-use Rattle.sections.specs.Boundaries.{madScale, leastRows, gapOf, thresholdOf, candidatesOf, mostBoundaries, greatest, boundariesOf, sectionsOf}
+use Rattle.section_peaks.specs.Greatest.{greatest}
+use Rattle.sections.specs.Boundaries.{madScale, leastRows, gapOf, thresholdOf, candidatesOf, mostBoundaries, boundariesOf, sectionsOf}
 use Rattle.sections.specs.Confidence.{confidenceOf}
 use Rattle.sections.specs.Outcomes.{Found}
-use Rattle.sections.specs.Steps.{PickedIn}
+use Rattle.section_peaks.specs.Steps.{PickedIn}
 use Rattle.sections.specs.declared.Sections.{Sections}
 
 module _ (number : ℕ) (novelty : List Float) (bounds rows : List ℕ) (work : List Float) where

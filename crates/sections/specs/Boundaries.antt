@@ -1,18 +1,18 @@
 -- Document 01, Sections: the boundaries of a novelty curve.
 use Prim.Native.Nat.{ℕ, zero, suc, _+_, _-_, max}
-use mathlib.Core.Bool.{Bool, true, _&&_, _||_}
+use mathlib.Core.Bool.{Bool, true, _&&_}
 use mathlib.Core.List.{List, []}
-use lib.Dec.{leb, ltb, eqb}
+use lib.Dec.{leb, ltb}
 use lib.ListN.{length}
 use lib.Ieee.{Float}
 use Rattle.numbers.specs.Rounded.{_⊕_, _⊗_, _⊘_, bits, real, pick}
 use Rattle.numbers.specs.Limits.{mostFeatures, mostLength, between, rateFine, valueFine}
 use Rattle.numbers.specs.Refusals.{lowest}
 use Rattle.numbers.specs.Lists.{every}
-use Rattle.floats.specs.TotalOrder.{key}
 use Rattle.floats.specs.Wholes.{ceilOf}
 use Rattle.median.specs.Median.{medianOf, madOf}
-use Rattle.onsets.specs.Peaks.{at, those, peaksOf, suppressed}
+use Rattle.onsets.specs.Peaks.{peaksOf, suppressed}
+use Rattle.section_peaks.specs.Greatest.{greatest}
 
 -- 1000
 abbrev pub thousand : Float
@@ -49,20 +49,6 @@ candidatesOf novelty gap = suppressed novelty gap (peaksOf novelty (λ _. thresh
 -- "max(1, max_sections) - 1 boundaries"
 unfoldable pub mostBoundaries : (maxSections : ℕ) → ℕ
 mostBoundaries maxSections = max 1 maxSections - 1
-
--- ---- "over .. boundaries, keep the greatest by totalOrder, ties to the earlier, listed ascending"
-
--- row x goes before row y: its novelty is greater by totalOrder, or the same and x is the earlier row
-abbrev pub goesBefore : List Float → (x y : ℕ) → Bool
-goesBefore novelty x y = ltb (key (at novelty y)) (key (at novelty x)) || (eqb (key (at novelty y)) (key (at novelty x)) && ltb x y)
-
--- how many rows of the list go before row y
-unfoldable pub placeOf : List Float → List ℕ → ℕ → ℕ
-placeOf novelty rows y = length (those (λ x. goesBefore novelty x y) rows)
-
--- the list itself where it has at most `most` rows, and else those rows of it before which fewer than `most` go
-unfoldable pub greatest : List Float → (most : ℕ) → List ℕ → List ℕ
-greatest novelty most rows = pick (leb (length rows) most) rows (those (λ y. ltb (placeOf novelty rows y) most) rows)
 
 -- the rows at which a section begins, the first section's aside
 unfoldable pub boundariesOf : List Float → (samples rate maxSections : ℕ) → List ℕ

@@ -2,4 +2,3 @@ pub mod Boundaries
 pub mod Confidence
 pub mod Times
 pub mod Outcomes
-pub mod Steps

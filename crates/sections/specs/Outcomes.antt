@@ -8,7 +8,7 @@ use lib.Ieee.{Float}
 use Rattle.numbers.specs.Rounded.{nought}
 use Rattle.numbers.specs.Lists.{listed}
 use Rattle.numbers.specs.Refusals.{unlessRefused}
-use Rattle.onsets.specs.Outcomes.{Written}
+use Rattle.numbers.specs.Outcomes.{Written}
 use Rattle.sections.specs.Boundaries.{boundariesOf, sectionsOf, boundariesRefusal}
 use Rattle.sections.specs.Confidence.{confidenceOf}
 use Rattle.sections.specs.Times.{rowTime, timesRefusal}

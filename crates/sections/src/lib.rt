@@ -1,7 +1,6 @@
 // Sections: the boundaries of a novelty curve, how sure they are, and their times.
 //
-// Document 01, Sections. The Rust: structure.rs `pick_boundaries`, `confidence_of`, and the end of `detect_structure`.
-mod picks; // picks.rt: the greatest of the peaks
+// Document 01, Sections. The Rust: structure.rs `confidence_of`, and the end of `detect_structure`.
 mod confidence; // confidence.rt: how far they stand out
 
 ghost use mathlib.Core.Path.{_≡_};
@@ -11,7 +10,8 @@ ghost use lib.ListN.{length};
 ghost use Rattle.numbers.specs.Rounded.{_⊗_, real};
 ghost use Rattle.numbers.specs.Limits.{mostFeatures};
 ghost use Rattle.numbers.specs.Lists.{every, listed};
-ghost use Rattle.sections.specs.Boundaries.{frameMs, gapOf, candidatesOf, greatest, gridFine, boundariesRefusal};
+ghost use Rattle.section_peaks.specs.Greatest.{greatest};
+ghost use Rattle.sections.specs.Boundaries.{frameMs, gapOf, candidatesOf, gridFine, boundariesRefusal};
 ghost use Rattle.sections.specs.Times.{rowFine, timesRefusal};
 ghost use Rattle.sections.specs.Outcomes.{Found, BoundariesPromise, TimesPromise};
 
@@ -71,7 +71,7 @@ fn find(novelty: &[f64], gap: usize, most: usize, rows: &mut [u32], work: &mut [
 {
     let med = median::median_in(novelty, work);
     let level = med + 1.5 * median::mad_in(novelty, med, work);
-    let count = picks::pick_boundaries(novelty, level, gap, most, rows, work);
+    let count = section_peaks::pick_boundaries(novelty, level, gap, most, rows, work);
     let sure = confidence::confidence_of(novelty, med, &rows[0..count]);
     Sections {
         number: 0,

@@ -2,7 +2,7 @@
 use mathlib.Core.Path.{_≡_, refl, sym, ap, _∙_}
 use mathlib.Core.Bool.{Bool, true, false}
 use mathlib.Core.List.{List}
-use Prim.Native.Nat.{ℕ, suc, _+_, _-_, _*_, _/_, _≤_, _<_, min}
+use Prim.Native.Nat.{ℕ, _+_, _-_, _*_, _/_, _≤_, _<_}
 use native.Mathlib.Nat.{mul-comm, div-mul-le-self, le-div-iff-mul-le, add-zero}
 use native.Mathlib.Numerals.{add-one}
 use native.Mathlib.Omega.{arith}
@@ -12,16 +12,17 @@ use lib.ListN.{length, take, drop, length-drop}
 use lib.Seq.{length-take-le}
 use lib.Ieee.{Float, le}
 use Rattle.numbers.specs.Rounded.{pick}
-use Rattle.numbers.specs.Lists.{row, filled}
+use Rattle.numbers.specs.Lists.{filled}
 use Rattle.numbers.proofs.Tests.{pick-true, pick-false}
 use Rattle.numbers.proofs.Overs.{row-end}
 use Rattle.lags.specs.Lags.{lagRoom}
 use Rattle.lags.specs.Pairs.{agrees}
-use Rattle.lags.specs.Curves.{meanOf, energyOf, leastEnergy, clarityFrom, weightedBy}
-use Rattle.lags.proofs.Weights.{weighted-by-is}
+use Rattle.lag_sums.specs.Sums.{meanOf, energyOf, leastEnergy}
+use Rattle.lag_curves.specs.Curves.{clarityFrom, weightedBy}
+use Rattle.lag_curves.proofs.Weights.{weighted-by-is}
 use Rattle.tempo.specs.Search.{winnerLag, winningLag, Searched}
 use Rattle.tempo.proofs.Searches.{searched-flat, searched-written}
-use Rattle.stability.specs.Windows.{windowsOf, windowAt, windowAgrees, agreeingTo, Open, WindowSearched}
+use Rattle.stability.specs.Windows.{windowAt, windowAgrees, agreeingTo, Open, WindowSearched}
 use Rattle.stability.proofs.Rooms.{open-same, open-filled}
 
 -- ---- where they lie
@@ -108,9 +109,14 @@ module _ (env : List Float) (rate minLag maxLag whole w i : ℕ) where
     pub next-without : lag ≡ 0 → a ≡ counted (i + 1)
     next-without z = sym (add-zero a) ∙ next false a is (answers ∙ pick-true _ _ _ (eq-eqb lag 0 z))
 
-    module _ (some : lag ≡ 0 → ⊥) where
-      pub next-agrees : agrees whole lag ≡ true → a + 1 ≡ counted (i + 1)
-      next-agrees e = next true a is (answers ∙ pick-false _ _ _ (ne-eqb lag 0 some) ∙ e)
+    -- its lag agrees or doesn't
+    pub next-counted : (lag ≡ 0 → ⊥) → a + pick (agrees whole lag) 1 0 ≡ counted (i + 1)
+    next-counted some = next (agrees whole lag) a is (answers ∙ pick-false _ _ _ (ne-eqb lag 0 some))
 
-      pub next-differs : agrees whole lag ≡ false → a ≡ counted (i + 1)
-      next-differs e = sym (add-zero a) ∙ next false a is (answers ∙ pick-false _ _ _ (ne-eqb lag 0 some) ∙ e)
+-- one window counts as one at most
+pub one-most : (whole lag r : ℕ) → r ≡ pick (agrees whole lag) 1 0 → r ≤ 1
+one-most whole lag r = go (agrees whole lag)
+  where
+    go : (b : Bool) → r ≡ pick b 1 0 → r ≤ 1
+    go true e = omega (arith, e)
+    go false e = omega (arith, e)

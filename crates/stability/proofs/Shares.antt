@@ -8,8 +8,7 @@ use borrow.Author.Tests.{eq-eqb, ne-eqb, lt-ltb, le-ltb}
 use lib.Dec.{ltb, eqb}
 use lib.ListN.{length, drop}
 use lib.Ieee.{Float}
-use Rattle.numbers.specs.Rounded.{_⊘_, real, pick}
-use Rattle.numbers.specs.Refusals.{unlessRefused}
+use Rattle.numbers.specs.Rounded.{_⊘_, real}
 use Rattle.numbers.proofs.Tests.{pick-true, pick-false, refused-keeps, passed-does}
 use Rattle.lags.specs.declared.TempoOpts.{TempoOpts}
 use Rattle.lags.specs.declared.LagRange.{LagRange}

@@ -1,6 +1,6 @@
 -- Document 01, Tempo and candidates, "Stability": what `stability_of` answers, and what it leaves in the slices that it is lent.
 use Prim.Native.Nat.{ℕ}
-use mathlib.Core.Bool.{Bool, true, _&&_, _||_}
+use mathlib.Core.Bool.{true, _&&_, _||_}
 use mathlib.Core.List.{List}
 use mathlib.Core.Path.{_≡_}
 use lib.Dec.{ltb, leb, eqb}

@@ -10,7 +10,7 @@ use Rattle.numbers.specs.Rounded.{pick}
 use Rattle.numbers.specs.Lists.{row, filled}
 use Rattle.lags.specs.Lags.{lagRoom}
 use Rattle.lags.specs.Pairs.{agrees}
-use Rattle.lags.specs.Curves.{priorFrom}
+use Rattle.lag_curves.specs.Curves.{priorFrom}
 use Rattle.tempo.specs.Search.{winningLag}
 
 -- "w = min(4, n div (max_lag+2))"

@@ -2,11 +2,11 @@
 //
 // Document 01, Tempo and candidates, "Stability". The Rust: tempo.rs `stability_of`. The priors of the lags are the same in each window, so
 // they are computed once, into the work slice.
-use lags::curves::energy_of;
-use lags::curves::fill_clarity;
-use lags::curves::fill_priors;
-use lags::curves::mean_of;
-use lags::curves::weigh;
+use lag_curves::fill_clarity;
+use lag_curves::fill_priors;
+use lag_curves::weigh;
+use lag_sums::energy_of;
+use lag_sums::mean_of;
 use lags::pairs::fold_fits;
 use lags::room_of;
 use tempo::search::LEAST_ENERGY;
@@ -14,8 +14,10 @@ use tempo::search::lag_of_winner;
 ghost use mathlib.Core.Path.{_≡_};
 ghost use Prim.Native.Nat.{ℕ, _+_, _*_, _≤_, _<_};
 ghost use lib.ListN.{length};
+ghost use Rattle.numbers.specs.Rounded.{pick};
 ghost use Rattle.numbers.specs.Limits.{mostPeriod, mostRows};
 ghost use Rattle.lags.specs.Lags.{lagRoom};
+ghost use Rattle.lags.specs.Pairs.{agrees};
 ghost use Rattle.stability.specs.Windows.{WindowSearched, Counted};
 
 // The lag of a window's winner, or 0 where it has no tempo, with the priors of the lags given.
@@ -42,7 +44,22 @@ fn window_lag(
     lag_of_winner(&weight[0..room], min_lag)
 }
 
-// Inner: how many of the windows agree with the whole lag. The search of a window's folds is left at the first that fits.
+// 1 where a window's lag agrees with the whole lag, and else 0. The search of the folds is left at the first that fits.
+fn one_if_agreeing(whole_lag: usize, lag: usize) -> usize
+    ensures { λ r. ⌜ r ≡ pick (agrees «whole_lag» lag) 1 0 ⌝ }
+{
+    let folds = [0.25, 0.5, 1.0, 2.0, 4.0];
+    let mut k = 0;
+    while k < 5 {
+        if fold_fits(whole_lag, lag, folds[k]) {
+            return 1;
+        }
+        k += 1;
+    }
+    0
+}
+
+// Inner: how many of the windows agree with the whole lag.
 pub fn count_agreeing(
     envelope: &[f64],
     rate: u32,
@@ -60,11 +77,10 @@ pub fn count_agreeing(
     ensures { λ r. ⌜ Counted (now (envelope .entry)) rate «min_lag» «max_lag» «whole_lag» windows (now (clarity .entry)) (now (weight .entry)) (now (work .entry)) r (now (clarity .exit)) (now (weight .exit)) (now (work .exit)) ⌝ }
 {
     fill_priors(rate, min_lag, max_lag, work);
-    let folds = [0.25, 0.5, 1.0, 2.0, 4.0];
     let slots = envelope.len() / windows;
     let mut agreeing = 0;
     let mut i = 0;
-    'windows: while i < windows {
+    while i < windows {
         let from = i * slots;
         let to = from + slots;
         let lag = window_lag(&envelope[from..to], work, min_lag, max_lag, clarity, weight);
@@ -72,14 +88,7 @@ pub fn count_agreeing(
         if lag == 0 {
             continue;
         }
-        let mut k = 0;
-        while k < 5 {
-            if fold_fits(whole_lag, lag, folds[k]) {
-                agreeing += 1;
-                continue 'windows;
-            }
-            k += 1;
-        }
+        agreeing += one_if_agreeing(whole_lag, lag);
     }
     agreeing
 }

@@ -14,7 +14,7 @@ fn told(number: u32, slots: &[f64]) {
 fn similarity_part(features: &[f64], rows: usize, slots: &mut [f64], room: usize)
     requires { ⌜ room ≤ length (now slots) ⌝ }
 {
-    let number = structure::similarity(features, rows, &mut slots[0..room]);
+    let number = similarities::similarity(features, rows, &mut slots[0..room]);
     told(number, slots);
 }
 
@@ -30,7 +30,7 @@ fn similarity_line(label: &[u8], features: &[f64], rows: usize, room: usize)
 fn novelty_part(similarity: &[f64], rows: usize, slots: &mut [f64], room: usize)
     requires { ⌜ room ≤ length (now slots) ⌝ }
 {
-    let number = structure::novelty(similarity, rows, &mut slots[0..room]);
+    let number = novelties::novelty(similarity, rows, &mut slots[0..room]);
     told(number, slots);
 }
 
@@ -160,12 +160,12 @@ fn both(
     requires { ⌜ (from ≤ past) × (past ≤ length (now similarity)) ⌝ }
 {
     show::words(label);
-    show::small(structure::similarity(features, rows, similarity));
+    show::small(similarities::similarity(features, rows, similarity));
     show::words(b", similarity");
     show::floats(&similarity[from..past]);
     show::end();
     show::words(b"  novelty");
-    told(structure::novelty(similarity, rows, novelty), novelty);
+    told(novelties::novelty(similarity, rows, novelty), novelty);
 }
 
 fn one_row() {

@@ -1,9 +1,9 @@
 -- The answer where there is a tempo, from its parts: the winner's pair, and the candidates by how many there are. Assumes nothing.
-use mathlib.Core.Path.{_≡_, refl, sym, ap, _∙_}
+use mathlib.Core.Path.{_≡_, sym, ap, _∙_}
 use mathlib.Core.List.{List, [], _∷_}
 use Prim.Native.Nat.{ℕ, _+_}
-use lib.ListN.{length, getD}
-use lib.Ieee.{Float, nan}
+use lib.ListN.{length}
+use lib.Ieee.{Float}
 use Rattle.lags.specs.Lags.{bpmAt}
 use Rattle.tempo.specs.declared.Candidate.{Candidate}
 use Rattle.tempo.specs.declared.Tempo.{Tempo}

@@ -28,9 +28,10 @@ use Rattle.leaf_sizes.proofs.LogSizes.{log2-most}
 use Rattle.leaf_sizes.proofs.ExpSizes.{exp-square-most}
 use Rattle.lags.specs.declared.TempoOpts.{TempoOpts}
 use Rattle.lags.specs.Lags.{one, sixty, hop, framesPerMinute, bpmAt, lagRoom, minLag, maxLag, boundsFine}
-use Rattle.lags.specs.Curves.{meanOf, leastEnergy, centre, width, priorAt, clarityAt, weightAt}
+use Rattle.lag_sums.specs.Sums.{meanOf, leastEnergy}
+use Rattle.lag_curves.specs.Curves.{centre, width, priorAt, clarityAt, weightAt}
 use Rattle.lags.proofs.Ranges.{range-of, fine-rate}
-use Rattle.lags.proofs.CurveSizes.{mean-within, energy-within, clarity-low, clarity-high}
+use Rattle.lag_curves.proofs.CurveSizes.{mean-within, energy-within, clarity-low, clarity-high}
 use Rattle.tempo.specs.Candidates.{winnerOf}
 use Rattle.tempo.specs.Search.{weightRule, weightCurve, ac0Of, flat, winnerAbove}
 use Rattle.tempo.specs.Answers.{searchRefusal, tooLittle, unwritten}

@@ -1,27 +1,26 @@
 -- What follows from the promise of `estimate`: any two outcomes coincide; the candidates are none without a tempo, and else one to three,
--- each with a lag of the range; the winner's lag is a period that `beat_grid` and `stability_of` accept. Assumes nothing.
+-- each with a lag of the range; the winner's lag is a period that `beat_grid` and `stability_of` accept, and 0 exactly where there is no tempo.
+-- Assumes nothing.
 use mathlib.Core.Path.{_≡_, refl, sym, ap, _∙_}
 use mathlib.Core.Bool.{Bool, true, false, _&&_}
 use mathlib.Core.Logic.{⊎-elim}
 use mathlib.Core.List.{List, [], _∷_, _++_, map}
-use Prim.Native.Nat.{ℕ, zero, suc, _+_, _-_, _≤_, _<_}
+use Prim.Native.Nat.{ℕ, zero, suc, _+_, _≤_, _<_}
 use native.Mathlib.Nat.{not-suc-le-zero, le-of-suc-le-suc}
 use native.Mathlib.Omega.{arith}
 use borrow.Author.Tests.{ltb-true, lt-ltb}
 use lib.Dec.{ltb}
 use lib.ListN.{length, getD, length-append, length-map}
-use lib.Ieee.{Float, nan}
-use Rattle.numbers.specs.Rounded.{pick}
+use lib.Ieee.{Float}
 use Rattle.numbers.specs.Limits.{mostPeriod}
 use Rattle.numbers.specs.Refusals.{unlessRefused}
-use Rattle.numbers.specs.Lists.{listed}
 use Rattle.numbers.proofs.Tests.{lt-or-le, and-left}
 use Rattle.numbers.proofs.Tabs.{length-tab, getD-listed-in, getD-listed-past}
 use Rattle.sizes.specs.Sizes.{Each, none, more}
 use Rattle.sizes.proofs.Lists.{each-at, each-append}
 use Rattle.lags.specs.declared.TempoOpts.{TempoOpts}
 use Rattle.lags.specs.Lags.{minLag, maxLag, lagRoom}
-use Rattle.lags.proofs.Ranges.{min-lt-max, range-of}
+use Rattle.lags.proofs.Ranges.{min-lag-least, min-lt-max, range-of}
 use Rattle.tempo.specs.declared.Candidate.{Candidate}
 use Rattle.tempo.specs.declared.Tempo.{Tempo}
 use Rattle.tempo.specs.declared.Tempo.the-variants.{None, Found}
@@ -130,6 +129,17 @@ kept-found rate least most cs ws h l =
       rest = λ i z k u. getD-listed-past pairs (unused ∷ unused ∷ unused ∷ []) i z (omega arith) ∙ three-unused i z u;
     }
 
+-- where the range begins at 1 or above, there is a tempo exactly where the first pair has a lag
+pub kept-lag : (least most : ℕ) (e : TempoEstimate) → 1 ≤ least → Kept least most e → (z : Candidate) → isFound (e .tempo) ≡ ltb 0 (getD (e .candidates) 0 z .lag)
+kept-lag least most e h k z =
+    ⊎-elim
+    (λ (p : 0 < e .count).
+    k .found ∙ (lt-ltb 0 (e .count) p ∙ sym (lt-ltb 0 (getD (e .candidates) 0 z .lag) (omega (arith, h, k .used 0 z p .0)))))
+    (λ (p : e .count ≤ 0).
+    let nothing : e .count ≡ 0 = omega (arith, p) in
+    k .found ∙ (ap (ltb 0) nothing ∙ sym (ap (λ (x : Candidate). ltb 0 (x .lag)) (k .rest 0 z p (omega arith)))))
+    (lt-or-le 0 (e .count))
+
 -- ---- every call
 
 by-refused : {A : Type 0} (P : A → Type 0) (n : ℕ) (x y : A) → (n ≡ 0 → P x) → P y → P (unlessRefused n x y)
@@ -156,6 +166,11 @@ module _ (env : List Float) (onsets rate : ℕ) (o : TempoOpts) (clarity weight 
       by-refused (Kept (minLag rate o) (maxLag rate o)) (searchRefusal env rate o clarity weight work) _ _
       (λ e. told-kept)
       (kept-without (minLag rate o) (maxLag rate o) _)
+
+  -- of an envelope that nothing refuses: a tempo is found exactly where the first pair has a lag
+  pub tempo-has-lag : (z : Candidate)
+      → isFound (tempoOf env onsets rate (minLag rate o) (maxLag rate o) .tempo) ≡ ltb 0 (getD (tempoOf env onsets rate (minLag rate o) (maxLag rate o) .candidates) 0 z .lag)
+  tempo-has-lag z = kept-lag (minLag rate o) (maxLag rate o) (tempoOf env onsets rate (minLag rate o) (maxLag rate o)) (min-lag-least rate o) told-kept z
 
   -- the lag of the first pair, 0 without a tempo, is a period
   pub winner-most : (z : Candidate) → getD (estimateOf env onsets rate o clarity weight work .candidates) 0 z .lag ≤ mostPeriod

@@ -2,21 +2,20 @@
 -- greatest so far finds it without a sort. Assumes nothing.
 use mathlib.Core.Path.{_≡_, refl, sym, ap, _∙_}
 use mathlib.Core.Logic.{_⊎_, inl, inr, ⊎-elim}
-use mathlib.Core.Bool.{Bool, true, false, _&&_}
+use mathlib.Core.Bool.{Bool, true, false}
 use mathlib.Core.List.{List, [], _∷_}
 use Prim.Native.Nat.{ℕ, zero, suc, _+_, _≤_, _<_}
-use native.Mathlib.Nat.{le-refl}
 use native.Mathlib.Numerals.{add-one}
 use native.Mathlib.Omega.{arith}
-use borrow.Author.Tests.{eq-eqb, ne-eqb, eqb-true, le-ltb}
-use lib.Dec.{ltb, eqb}
+use borrow.Author.Tests.{eq-eqb, ne-eqb, le-ltb}
+use lib.Dec.{eqb}
 use lib.ListN.{length, getD}
 use lib.Ieee.{Float, nan, lt, le}
 use Rattle.numbers.specs.Rounded.{nought, pick}
 use Rattle.numbers.proofs.Tests.{pick-true, pick-false, and-right}
 use Rattle.sizes.specs.Sizes.{Each, none, more}
 use Rattle.sizes.proofs.Lists.{each-map}
-use Rattle.sizes.proofs.Order.{lt-is-le, lt-right, not-lt, le-then-le, le-then-lt, le-self}
+use Rattle.sizes.proofs.Order.{lt-is-le, lt-right, not-lt, le-then-lt}
 use Rattle.tempo.specs.Candidates.{leftFine, rightFine, maximumAt, ahead, inserted, rankedTo, ranked, firstOf}
 use Rattle.tempo.proofs.Choices.{by-pick}
 

@@ -1,19 +1,19 @@
 -- What a search answers and writes, from what its parts do. Assumes nothing.
-use mathlib.Core.Path.{_≡_, refl, sym, ap, _∙_}
+use mathlib.Core.Path.{_≡_, sym, ap, _∙_}
 use mathlib.Core.Bool.{Bool, true, false}
-use mathlib.Core.List.{List, _++_}
-use Prim.Native.Nat.{ℕ, _+_, _-_, _≤_}
+use mathlib.Core.List.{List}
+use Prim.Native.Nat.{ℕ, _-_}
 use native.Mathlib.Nat.{sub-zero}
-use lib.ListN.{length, take, drop}
+use lib.ListN.{take, drop}
 use lib.Seq.{take-at}
 use lib.Ieee.{Float, le}
-use Rattle.numbers.specs.Rounded.{pick}
 use Rattle.numbers.specs.Lists.{curve, filled}
 use Rattle.numbers.proofs.Tests.{pick-true, pick-false}
 use Rattle.numbers.proofs.Tabs.{length-tab, filled-whole}
 use Rattle.lags.specs.Lags.{lagRoom}
-use Rattle.lags.specs.Curves.{meanOf, energyOf, leastEnergy, clarityFrom, weightFrom}
-use Rattle.tempo.specs.Search.{flat, clarityRule, weightRule, weightCurve, winnerLag, winningLag, Searched}
+use Rattle.lag_sums.specs.Sums.{meanOf, energyOf, leastEnergy}
+use Rattle.lag_curves.specs.Curves.{clarityFrom, weightFrom}
+use Rattle.tempo.specs.Search.{flat, clarityRule, weightRule, winnerLag, winningLag, Searched}
 
 -- the first slots of a list that was filled are the curve
 pub curve-part : (f : ℕ → Float) (was now′ : List Float) (room : ℕ) → now′ ≡ filled f was 0 room → take (room - 0) (drop 0 now′) ≡ curve f room

@@ -1,18 +1,17 @@
 -- What an accepted call answers and leaves, by whether the envelope is searched and whether the search finds a lag. Assumes nothing.
 use mathlib.Core.Path.{_≡_, refl, sym, ap, _∙_}
-use mathlib.Core.Logic.{_⊎_, inl, inr, ⊎-elim}
+use mathlib.Core.Logic.{⊎-elim}
 use mathlib.Core.Bool.{Bool, true, false, _||_}
 use mathlib.Core.List.{List}
 use Prim.Native.Nat.{ℕ, _+_, _-_, _≤_, _<_}
-use native.Mathlib.Nat.{sub-zero}
 use native.Mathlib.Omega.{arith}
 use borrow.Author.Tests.{leb-false}
-use lib.Dec.{ltb, leb}
+use lib.Dec.{ltb}
 use lib.ListN.{length, take, drop}
 use lib.Ieee.{Float}
 use Rattle.numbers.specs.Rounded.{pick}
 use Rattle.numbers.specs.Limits.{mostPeriod}
-use Rattle.numbers.specs.Lists.{curve, filled}
+use Rattle.numbers.specs.Lists.{filled}
 use Rattle.numbers.proofs.Tests.{which, pick-true, pick-false, refused-keeps, passed-does}
 use Rattle.numbers.proofs.Tabs.{length-tab}
 use Rattle.lags.specs.declared.TempoOpts.{TempoOpts}

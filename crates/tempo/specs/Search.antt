@@ -8,7 +8,8 @@ use lib.Ieee.{Float, nan, lt, le}
 use Rattle.numbers.specs.Rounded.{nought, pick}
 use Rattle.numbers.specs.Lists.{curve, filled}
 use Rattle.lags.specs.Lags.{lagRoom}
-use Rattle.lags.specs.Curves.{meanOf, energyOf, leastEnergy, clarityFrom, weightFrom}
+use Rattle.lag_sums.specs.Sums.{meanOf, energyOf, leastEnergy}
+use Rattle.lag_curves.specs.Curves.{clarityFrom, weightFrom}
 use Rattle.tempo.specs.Candidates.{winnerOf}
 
 -- "the sum of squares about the mean ac0"

@@ -2,9 +2,9 @@
 //
 // Document 01, Tempo and candidates. The Rust: tempo.rs `pick_tempo_peaks`, as far as the winner.
 use crate::peaks::winner_of;
-use lags::curves::energy_of;
-use lags::curves::fill_lag_curves;
-use lags::curves::mean_of;
+use lag_curves::fill_lag_curves;
+use lag_sums::energy_of;
+use lag_sums::mean_of;
 use lags::room_of;
 ghost use mathlib.Core.Path.{_≡_};
 ghost use Prim.Native.Nat.{ℕ, _+_, _≤_, _<_};

@@ -1,7 +1,7 @@
 -- `analysis::all_hold` meets its contract. The invariant: the test of the whole list is the test of what is left. The measure is what is left of the
 -- list. Assumes nothing.
 use mathlib.Core.Path.{_≡_, refl, sym, _∙_}
-use Prim.Native.Nat.{ℕ, _≤_, _-_}
+use Prim.Native.Nat.{_≤_, _-_}
 use native.Mathlib.Omega.{arith}
 use denote.Ref.{now}
 use borrow.Author.Needs.{needs}

@@ -1,15 +1,14 @@
 -- `bars::downbeat_refusal` meets its contract: each return is the row of the table whose test fails after those before it passed.
 -- Assumes nothing.
-use mathlib.Core.Path.{_≡_, refl, sym, ap, _∙_}
-use mathlib.Core.Bool.{Bool, true, false, not, _&&_}
+use mathlib.Core.Path.{_≡_, sym, _∙_}
+use mathlib.Core.Bool.{Bool, true, false, not}
 use mathlib.Core.List.{List}
 use Prim.Native.Nat.{ℕ, _≤_, _<_}
 use borrow.Author.Needs.{needs}
 use borrow.Author.Tests.{le-leb, lt-leb, not-true, not-false}
-use denote.Ref.{now}
 use lib.ListN.{length}
 use lib.Ieee.{Float}
-use Rattle.numbers.specs.Limits.{mostRows, between, valueFine}
+use Rattle.numbers.specs.Limits.{mostRows, valueFine}
 use Rattle.numbers.specs.Lists.{every}
 use Rattle.bars.specs.Downbeats.{mostMeter, frameFine, numbersFine, roomFine, downbeatRefusal}
 use Rattle.bars.proofs.downbeat_refusal.Statement.{statement}

@@ -1,17 +1,15 @@
 -- `bars::downbeats_in` meets its contract: past the refusals the meter is at least 1 and there is a slot for each beat, which is all that the
 -- inner calls ask. Assumes nothing.
-use mathlib.Core.Path.{_≡_, refl, sym, ap, _∙_}
+use mathlib.Core.Path.{_≡_, sym, ap, _∙_}
 use mathlib.Core.Bool.{true}
 use mathlib.Core.List.{List}
 use Prim.Native.Nat.{ℕ, _≤_, _<_}
 use borrow.Author.Needs.{needs}
 use borrow.Author.Tests.{leb-true}
-use native.Mathlib.Omega.{arith}
 use denote.Ref.{now}
 use lib.Dec.{leb}
 use lib.ListN.{length}
 use lib.Ieee.{Float}
-use Rattle.numbers.specs.Refusals.{unlessRefused}
 use Rattle.numbers.specs.Limits.{mostRows, between, valueFine}
 use Rattle.numbers.specs.Lists.{listed, every}
 use Rattle.numbers.proofs.Tests.{lowest-zero, and-left, and-right, refused-keeps, passed-does}

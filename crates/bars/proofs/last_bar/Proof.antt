@@ -1,7 +1,6 @@
 -- `bars::last_bar` meets its contract. The invariant: the last of the first k downbeats that the limit reaches is the last of all.
 -- The measure is k. Assumes nothing.
 use mathlib.Core.Path.{_≡_, refl, sym, ap, _∙_}
-use mathlib.Core.Bool.{true, false}
 use mathlib.Core.List.{List}
 use Prim.Native.Nat.{ℕ, zero, suc, _≤_, _<_, _-_}
 use borrow.Author.Needs.{needs}

@@ -3,7 +3,7 @@
 -- Assumes nothing.
 use mathlib.Core.Path.{_≡_, refl, sym, ap, _∙_}
 use mathlib.Core.Bool.{Bool, true, false}
-use mathlib.Core.List.{List, [], _∷_, _++_, append-nil}
+use mathlib.Core.List.{List, [], _∷_, append-nil}
 use mathlib.Core.Logic.{⊎-elim}
 use Prim.Native.Nat.{ℕ, _+_, _≤_, _<_, _-_, _%_}
 use borrow.Author.Needs.{needs}
@@ -17,7 +17,7 @@ use Rattle.numbers.specs.Rounded.{pick}
 use Rattle.numbers.specs.Lists.{listed}
 use Rattle.numbers.proofs.Tabs.{listed-none, listed-more, length-listed}
 use Rattle.bars.specs.Downbeats.{inPhase}
-use Rattle.bars.proofs.Phases.{kept, phase-more, length-phase}
+use Rattle.bars.proofs.Phases.{phase-more, length-phase}
 use Rattle.bars.proofs.list_phase.Statement.{statement}
 use Rattle.bars.proofs.list_phase.Tie as tie
 

@@ -2,8 +2,8 @@
 -- nothing.
 use mathlib.Core.Path.{sym, _∙_}
 use borrow.Author.Needs.{needs}
+use Rattle.numbers.proofs.Outcomes.{written-refused, written-done}
 use Rattle.onsets.proofs.Onsets.{times-told}
-use Rattle.onsets.proofs.Outcomes.{written-refused, written-done}
 use Rattle.onsets.proofs.frame_times.Statement.{statement}
 use Rattle.onsets.proofs.frame_times.Tie as tie
 

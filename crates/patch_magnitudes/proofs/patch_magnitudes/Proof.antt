@@ -1,5 +1,5 @@
 -- `patch_magnitudes::patch_magnitudes` meets its contract: a number other than 0 returns at once, number 0 says all that the inner calls ask (`asked`), and what they write is the promise (`wrote`). Assumes nothing.
-use mathlib.Core.Path.{_≡_, refl, sym, ap, _∙_}
+use mathlib.Core.Path.{_≡_, sym, _∙_}
 use Prim.Native.Nat.{_+_, _-_, _*_, _/_, _≤_}
 use native.Mathlib.Nat.{sub-zero}
 use native.Mathlib.Omega.{arith}

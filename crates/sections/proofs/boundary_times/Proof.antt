@@ -1,7 +1,7 @@
 -- `sections::boundary_times` meets its contract: a number other than 0 returns at once, and number 0 says all that the inner call asks (`times-told`). Assumes
 -- nothing.
 use mathlib.Core.Path.{sym, _∙_}
-use Rattle.onsets.proofs.Outcomes.{written-refused, written-done}
+use Rattle.numbers.proofs.Outcomes.{written-refused, written-done}
 use Rattle.sections.specs.Times.{rowTime}
 use Rattle.sections.proofs.Bounds.{times-told}
 use borrow.Author.Needs.{needs}

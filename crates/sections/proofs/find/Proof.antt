@@ -1,12 +1,14 @@
--- `sections::find` meets its contract: what is picked at the threshold is listed first in rows (`picked-at`, `picked-part`), and the confidence is of that part. Assumes nothing.
-use mathlib.Core.Path.{_≡_, refl, ap, _∙_}
+-- `sections::find` meets its contract: what is picked at the threshold is listed first in rows (`picked-at`, `picked-part`), and the confidence is of
+-- that part. Assumes nothing.
+use mathlib.Core.Path.{refl, ap, _∙_}
 use Prim.Native.Nat.{_-_, _≤_}
 use native.Mathlib.Omega.{arith}
 use denote.Ref.{now}
 use lib.ListN.{length}
-use Rattle.sections.specs.Boundaries.{candidatesOf, greatest}
+use Rattle.section_peaks.specs.Greatest.{greatest}
+use Rattle.sections.specs.Boundaries.{candidatesOf}
 use Rattle.sections.specs.Confidence.{confidenceOf}
-use Rattle.sections.specs.Steps.{PickedIn}
+use Rattle.section_peaks.specs.Steps.{PickedIn}
 use Rattle.sections.proofs.Bounds.{picked-inside, picked-length}
 use Rattle.sections.proofs.Outcomes.{picked-at, picked-part, found-picked}
 use borrow.Author.Needs.{needs}

@@ -1,5 +1,5 @@
 -- `stability::refusal` meets its contract: past the whole lag, the number is that of `estimate`. Assumes nothing.
-use mathlib.Core.Path.{_≡_, _∙_}
+use mathlib.Core.Path.{_∙_}
 use Rattle.stability.proofs.Refusals.{lag-too-long, lag-fine}
 use borrow.Author.Needs.{needs}
 use Rattle.stability.proofs.refusal.Statement.{statement}

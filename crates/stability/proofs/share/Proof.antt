@@ -1,6 +1,5 @@
 -- `stability::share` meets its contract, by its three returns. Assumes nothing.
-use mathlib.Core.Path.{_≡_}
-use Prim.Native.Nat.{ℕ, _≤_}
+use Prim.Native.Nat.{_≤_}
 use native.Mathlib.Omega.{arith}
 use Rattle.stability.proofs.Shares.{windows-fit, shared-without, shared-few, shared-counted}
 use borrow.Author.Needs.{needs}

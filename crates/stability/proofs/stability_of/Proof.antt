@@ -1,6 +1,6 @@
 -- `stability::stability_of` meets its contract: a refusal changes nothing, and number 0 gives what the search of the windows asks for.
 -- Assumes nothing.
-use mathlib.Core.Path.{_≡_, sym, _∙_}
+use mathlib.Core.Path.{sym, _∙_}
 use Rattle.tempo.proofs.Refusals.{ranged}
 use Rattle.stability.proofs.Refusals.{both-accepted, share-asks}
 use Rattle.stability.proofs.Shares.{steadied-refused, steadied-shared}

@@ -1,6 +1,6 @@
 -- `tempo::estimate` meets its contract: a refusal changes nothing, and number 0 gives what the search of the envelope asks for.
 -- Assumes nothing.
-use mathlib.Core.Path.{_≡_, sym, _∙_}
+use mathlib.Core.Path.{sym, _∙_}
 use Rattle.tempo.proofs.Refusals.{accepted, ranged, search-asks}
 use Rattle.tempo.proofs.Tells.{estimated-refused, estimated-told}
 use borrow.Author.Needs.{needs}

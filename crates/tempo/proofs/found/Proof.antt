@@ -1,8 +1,6 @@
 -- `tempo::found` meets its contract: the law of the scan says which slots are accepted, by whether a second and a third stand apart.
 -- Assumes nothing.
-use mathlib.Core.Path.{_≡_}
-use Prim.Native.Nat.{ℕ, _+_, _≤_, _<_}
-use native.Mathlib.Omega.{arith}
+use Prim.Native.Nat.{_<_}
 use lib.ListN.{length}
 use Rattle.tempo.proofs.Rankings.{first-slot}
 use Rattle.tempo.proofs.Accepts.{one-candidate, two-candidates, three-candidates}

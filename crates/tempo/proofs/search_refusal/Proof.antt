@@ -1,5 +1,5 @@
 -- `tempo::search_refusal` meets its contract: each return is one row of the table, where the rows before it pass. Assumes nothing.
-use mathlib.Core.Path.{_≡_, sym, _∙_}
+use mathlib.Core.Path.{sym, _∙_}
 use borrow.Author.Tests.{not-true, not-false}
 use Rattle.tempo.proofs.Refusals.{too-long, not-in-bounds, too-little-room, wrong-value, nothing-refused}
 use borrow.Author.Needs.{needs}

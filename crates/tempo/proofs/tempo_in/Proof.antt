@@ -1,9 +1,6 @@
 -- `tempo::tempo_in` meets its contract: what is lent to `found` is the curves just written, and its winner is that of the search.
 -- Assumes nothing.
-use mathlib.Core.Path.{_≡_, sym, _∙_}
-use Prim.Native.Nat.{ℕ, _+_, _≤_, _<_}
-use native.Mathlib.Omega.{arith}
-use lib.ListN.{length}
+use mathlib.Core.Path.{sym, _∙_}
 use Rattle.tempo.proofs.Tells.{long-enough, told-unsearched, told-none, lag-is, found-asks, told-found}
 use borrow.Author.Needs.{needs}
 use Rattle.tempo.proofs.tempo_in.Statement.{statement}

@@ -1,5 +1,4 @@
 -- `tempo::too_little` meets its contract, by the three tests that it makes. Assumes nothing.
-use mathlib.Core.Path.{_≡_, sym}
 use borrow.Author.Tests.{lt-ltb, le-ltb}
 use Rattle.tempo.specs.Answers.{tooLittle}
 use borrow.Author.Needs.{needs}

@@ -1,5 +1,4 @@
 -- `analysis::parts::lay_beats` meets its contract: a grid's beats are frames of the envelope, no more than it has, so neither call refuses. Assumes nothing.
-use mathlib.Core.Path.{_≡_, refl, sym, ap, _∙_}
 use native.Mathlib.Omega.{arith}
 use denote.Ref.{now}
 use Rattle.analysis.proofs.Together.{beats-counted, laid-by}

@@ -1,5 +1,4 @@
 -- `analysis::parts::list_onsets` meets its contract: the part of the threshold's slice that is read is the curve that was written. Assumes nothing.
-use mathlib.Core.Path.{_≡_, refl, sym, ap, _∙_}
 use Rattle.analysis.proofs.Together.{listed-by}
 use borrow.Author.Needs.{needs}
 use Rattle.analysis.proofs.parts.list_onsets.Statement.{statement}

@@ -1,5 +1,4 @@
 -- `capi::forms::put_sections` meets its contract: a refusal returns at once, and an answer stores its parts. Assumes nothing.
-use borrow.Author.Needs.{needs}
 use mathlib.Core.Path.{refl}
 use Rattle.capi.proofs.Hands.{handed-refused, handed-done}
 use Rattle.capi.proofs.forms.put_sections.Statement.{statement}

@@ -1,5 +1,4 @@
 -- `capi::tempos::put_range` meets its contract: a refusal returns at once, and an answer stores both lags. Assumes nothing.
-use borrow.Author.Needs.{needs}
 use mathlib.Core.Path.{refl}
 use Rattle.capi.proofs.Hands.{handed-refused, handed-done}
 use Rattle.capi.proofs.tempos.put_range.Statement.{statement}

@@ -1,6 +1,5 @@
 -- `capi::tempos::put_stability` meets its contract: each arm stores the parts of its case. Assumes nothing.
 use borrow.Author.Needs.{needs}
-use mathlib.Core.Path.{refl}
 use Rattle.capi.proofs.tempos.put_stability.Statement.{statement}
 use Rattle.capi.proofs.tempos.put_stability.Tie as tie
 

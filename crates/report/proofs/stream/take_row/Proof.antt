@@ -13,7 +13,7 @@ use Rattle.numbers.proofs.Everys.{every-append, every-drop}
 use Rattle.numbers.proofs.Tests.{and-held, and-failed}
 use Rattle.numbers.specs.Limits.{magnitudeFine}
 use Rattle.numbers.specs.Lists.{every}
-use Rattle.onsets.specs.Flux.{fluxAt}
+use Rattle.flux.specs.Flux.{fluxAt}
 use Rattle.report.specs.Input.{valuesOf}
 use Rattle.report.proofs.Rows.{kept-part}
 use Rattle.report.proofs.Values.{length-values}

@@ -1,6 +1,5 @@
 -- `stability::windows::window_lag` meets its contract: the clarities just written, weighed by the priors of a rate, are the weight curve at
 -- that rate. Assumes nothing.
-use mathlib.Core.Path.{_≡_}
 use Rattle.stability.proofs.Parts.{window-flat, window-written}
 use borrow.Author.Needs.{needs}
 use Rattle.stability.proofs.windows.window_lag.Statement.{statement}

@@ -1,6 +1,5 @@
 -- `tempo::peaks::is_apart` meets its contract: `&&` answers its right side where its left holds, and else its left. Assumes nothing.
-use mathlib.Core.Path.{_≡_, sym, _∙_}
-use mathlib.Core.Bool.{Bool, _&&_}
+use mathlib.Core.Path.{sym, _∙_}
 use Rattle.numbers.proofs.Tests.{and-held, and-failed, and-true}
 use Rattle.tempo.specs.Candidates.{standsApart}
 use borrow.Author.Needs.{needs}

@@ -1,6 +1,5 @@
 -- `tempo::peaks::is_maximum` meets its contract: `&&` answers its right side where its left holds, and else its left. Assumes nothing.
-use mathlib.Core.Path.{_≡_, sym, _∙_}
-use mathlib.Core.Bool.{Bool, _&&_}
+use mathlib.Core.Path.{sym, _∙_}
 use Rattle.numbers.proofs.Tests.{and-held, and-failed}
 use Rattle.tempo.specs.Candidates.{maximumAt}
 use borrow.Author.Needs.{needs}

@@ -1,5 +1,5 @@
 -- `tempo::peaks::right_fine` meets its contract, by the test that it makes. Assumes nothing.
-use mathlib.Core.Path.{_≡_, sym}
+use mathlib.Core.Path.{sym}
 use borrow.Author.Tests.{eq-eqb, ne-eqb}
 use Rattle.numbers.proofs.Tests.{pick-true, pick-false}
 use Rattle.tempo.specs.Candidates.{rightFine}

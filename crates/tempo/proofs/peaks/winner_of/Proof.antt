@@ -1,6 +1,6 @@
 -- `tempo::peaks::winner_of` meets its contract. The invariant: `best` is a slot, or 0, and the winner is what the scan from slot i on
 -- makes of it. The measure is what is left of the length. Assumes nothing.
-use mathlib.Core.Path.{_≡_, refl, sym, ap, _∙_}
+use mathlib.Core.Path.{_≡_, sym, ap, _∙_}
 use mathlib.Core.Logic.{⊎-elim}
 use Prim.Native.Nat.{ℕ, _+_, _≤_, _<_, _-_}
 use native.Mathlib.Omega.{arith}

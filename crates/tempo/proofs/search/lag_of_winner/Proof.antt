@@ -1,6 +1,5 @@
 -- `tempo::search::lag_of_winner` meets its contract: the winner is a slot of a list that has one. Assumes nothing.
-use mathlib.Core.Path.{_≡_}
-use Prim.Native.Nat.{ℕ, _<_}
+use Prim.Native.Nat.{_<_}
 use lib.ListN.{length}
 use Rattle.tempo.proofs.Winners.{winner-slot, winner-lag, no-winner-lag}
 use borrow.Author.Needs.{needs}

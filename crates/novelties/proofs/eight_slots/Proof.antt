@@ -1,0 +1,75 @@
+-- `novelties::eight_slots` meets its contract. The invariant: in each lane the rows of the kernel that are left, taken from the lane's sum, give the
+-- novelty of the lane's row. The measure is what is left of the sixteen places. Assumes nothing.
+use mathlib.Core.Path.{_≡_, refl, sym, ap, _∙_}
+use mathlib.Core.List.{List}
+use Prim.Native.Nat.{ℕ, _+_, _-_, _≤_, _<_}
+use native.Mathlib.Omega.{arith}
+use denote.Ref.{now}
+use lib.ListN.{length, getD, getD-replicate}
+use lib.Ieee.{Float, nan}
+use Rattle.numbers.specs.Rounded.{nought}
+use Rattle.numbers.specs.Lists.{filled}
+use Rattle.numbers.proofs.Tabs.{length-filled, getD-filled-in}
+use Rattle.novelties.specs.Novelty.{addRow, noveltyAt, turns}
+use Rattle.novelties.specs.Lanes.{laneRow}
+use Rattle.novelties.proofs.Terms.{turns-next, turns-end}
+use Rattle.novelties.proofs.eight_slots.Statement.{statement}
+use Rattle.novelties.proofs.eight_slots.Tie as tie
+
+abbrev Inv-loop : tie.InvT-loop
+Inv-loop table similarity rows i lanes₀ u₀ lanes u =
+    (u ≤ 16)
+    × (length lanes ≡ 8)
+    × ((j : ℕ) → j < 8 → turns (addRow similarity rows (i + j)) u (16 - u) (getD lanes j nan) ≡ noveltyAt similarity rows (i + j))
+
+abbrev μ-loop : tie.MeasureT-loop
+μ-loop table similarity rows i lanes₀ u₀ lanes u = 16 - u
+
+loop-holds : tie.Need-loop-holds Inv-loop μ-loop
+unfolding noveltyAt
+loop-holds c =
+    let a = c .before .args in
+    (omega arith, refl, λ j h. ap (turns (addRow (now (a .similarity)) (a .rows) (a .i + j)) 0 16) (getD-replicate 8 j nought nan h))
+
+add-row-lanes-requires : tie.Need-add-row-lanes-requires Inv-loop μ-loop
+add-row-lanes-requires c κs =
+    let l = c .before .before in
+    let p = l .before .before .pre in
+    (p .0, p .1, p .2, p .3, omega arith, l .loop .inv .1)
+
+add-u : tie.Need-add-u Inv-loop μ-loop
+add-u c = omega arith
+
+loop-less : tie.Need-loop-less Inv-loop μ-loop
+loop-less c = omega arith
+
+loop-again : tie.Need-loop-again Inv-loop μ-loop
+unfolding laneRow
+loop-again c =
+    let l = c .before .before .before in
+    let a = l .before .before .args in
+    let lanes : List Float = l .loop .lanes in
+    let similarity : List Float = now (a .similarity) in
+    let u = l .loop .u in
+    let f : ℕ → Float = laneRow lanes similarity (a .rows) (a .i) u in
+    let next : List Float = c .add-row-lanes .last .1 .1 .1 .1 .1 .0 in
+    let m : length lanes ≡ 8 = l .loop .inv .1 in
+    let e : next ≡ filled f lanes 0 8 = c .add-row-lanes .ensures in (
+      omega arith,
+      ap length e ∙ length-filled f lanes 0 8 (omega arith) (omega arith) ∙ m,
+      λ j h.
+          let step : getD next j nan ≡ addRow similarity (a .rows) (a .i + j) u (getD lanes j nan) =
+          ap (λ (d : List Float). getD d j nan) e ∙ getD-filled-in f lanes 0 8 (omega arith) (omega arith) j nan (omega arith) h in
+          rw step (sym (turns-next (addRow similarity (a .rows) (a .i + j)) u 16 (getD lanes j nan) (omega arith)) ∙ l .loop .inv .2 j h),
+    )
+
+returns : tie.Need-returns Inv-loop μ-loop
+returns c =
+    let l = c .before in
+    let a = l .before .before .args in
+    λ j h. sym (turns-end (addRow (now (a .similarity)) (a .rows) (a .i + j)) (l .loop .u) 16 (getD (l .loop .lanes) j nan) (omega arith)) ∙ l .loop .inv .2 j h
+
+pub eight-slots-spec : {M : Type 1} → statement M
+eight-slots-spec =
+    tie.close
+    (tie.spec Inv-loop μ-loop loop-holds add-row-lanes-requires add-u loop-less loop-again returns)

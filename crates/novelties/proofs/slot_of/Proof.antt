@@ -1,0 +1,33 @@
+-- `novelties::slot_of` meets its contract, by the two orders of the pair. Assumes nothing.
+use mathlib.Core.Path.{sym}
+use native.Mathlib.Nat.{le-of-lt}
+use Rattle.novelties.proofs.Terms.{slot-rising, slot-falling}
+use borrow.Author.Needs.{needs}
+use Rattle.novelties.proofs.slot_of.Statement.{statement}
+use Rattle.novelties.proofs.slot_of.Tie as tie
+
+mul-result : tie.Need-mul-result
+mul-result c = search needs
+
+add-result : tie.Need-add-result
+add-result c = search needs
+
+mul-result-2 : tie.Need-mul-result-2
+mul-result-2 c = search needs
+
+sub-result : tie.Need-sub-result
+sub-result c = search needs
+
+add-result-2 : tie.Need-add-result-2
+add-result-2 c = search needs
+
+returns : tie.Need-returns
+returns c = sym (slot-rising _ _ (c .if1 .taken))
+
+returns-2 : tie.Need-returns-2
+returns-2 c = sym (slot-falling _ _ (le-of-lt (c .if1 .left)))
+
+pub slot-of-spec : {M : Type 1} → statement M
+slot-of-spec =
+    tie.close
+    (tie.spec mul-result add-result mul-result-2 sub-result add-result-2 returns returns-2)

@@ -1,0 +1,2 @@
+pub mod Novelty
+pub mod Lanes

@@ -1,0 +1,244 @@
+// Novelty: where the rows before a row are alike, the rows after it are alike, and the two sides differ.
+//
+// Document 01, Sections. The Rust: structure.rs `novelty_curve`.
+use kernels::kernel;
+use numbers::MOST_FEATURES;
+use numbers::OUT_OF_BOUNDS;
+use numbers::TOO_LITTLE_ROOM;
+use numbers::WRONG_LENGTH;
+use numbers::WRONG_VALUE;
+use numbers::greatest;
+use numbers::least;
+use numbers::less;
+use numbers::similarities_fine;
+use similarities::BAND_WIDTH;
+ghost use mathlib.Core.Path.{_≡_};
+ghost use Prim.Native.Nat.{ℕ, _+_, _-_, _*_, _^_, _≤_, _<_, min};
+ghost use lib.ListN.{length, getD};
+ghost use lib.Ieee.{nan};
+ghost use Rattle.numbers.specs.Lists.{filled};
+ghost use Rattle.kernels.specs.Kernel.{kernelTable};
+ghost use Rattle.novelties.specs.Novelty.{slotOf, inside, addTerm, addRow, noveltyAt, noveltyNumber, NoveltyDone};
+ghost use Rattle.novelties.specs.Lanes.{laneTerm, laneRow, laneFrom};
+
+// the number that novelty gives
+fn novelty_number(similarity: &[f64], rows: usize, room: usize) -> u32
+    ensures { λ r. ⌜ r ≡ noveltyNumber (now (similarity .entry)) rows room ⌝ }
+{
+    if rows > MOST_FEATURES {
+        return OUT_OF_BOUNDS;
+    }
+    if similarity.len() != rows * BAND_WIDTH {
+        return WRONG_LENGTH;
+    }
+    if room < rows {
+        return TOO_LITTLE_ROOM;
+    }
+    if !similarities_fine(similarity) {
+        return WRONG_VALUE;
+    }
+    0
+}
+
+// Writes novelty[0..rows] from a similarity of rows * 17 slots; slots past rows stay.
+// Refuses 1 to 4 and then writes nothing: 1 for more than 50,000 rows, 2 for another length of the similarity, 3 for fewer than rows slots of
+// novelty, 4 for a similarity that isn't within -1 to 1.
+pub fn novelty(similarity: &[f64], rows: usize, novelty: &mut [f64]) -> u32
+    ensures { λ r. ⌜ NoveltyDone (now (similarity .entry)) rows (now (novelty .entry)) r (now (novelty .exit)) ⌝ }
+{
+    let number = novelty_number(similarity, rows, novelty.len());
+    if number != 0 {
+        return number;
+    }
+    fill_novelty(similarity, rows, 0, rows, novelty);
+    0
+}
+
+// the slot of the pair of rows a and b
+fn slot_of(a: usize, b: usize) -> usize
+    requires { ⌜ (a * 17 + b < 2 ^ 64) × (b * 17 + a < 2 ^ 64) ⌝ }
+    ensures { λ r. ⌜ r ≡ slotOf a b ⌝ }
+{
+    if a <= b {
+        a * 17 + (b - a)
+    } else {
+        b * 17 + (a - b)
+    }
+}
+
+// whether the row at place p around row i lies inside
+fn is_inside(rows: usize, i: usize, p: usize) -> bool
+    requires { ⌜ (i < rows) × (rows < 2 ^ 63) × (p < 16) ⌝ }
+    ensures { λ r. ⌜ r ≡ inside rows i p ⌝ }
+{
+    8 <= i + p && i + p < rows + 8
+}
+
+// the term of places u and v around row i, unless a row lies outside
+fn add_term(
+    table: &[[f64; 16]; 16],
+    similarity: &[f64],
+    rows: usize,
+    i: usize,
+    u: usize,
+    v: usize,
+    sum: f64,
+) -> f64
+    requires { ⌜ (now table ≡ kernelTable) × (length (now similarity) ≡ rows * 17) × (i < rows) × (u < 16) × (v < 16) ⌝ }
+    ensures { λ r. ⌜ r ≡ addTerm (now (similarity .entry)) rows i u v sum ⌝ }
+{
+    if !is_inside(rows, i, u) {
+        return sum;
+    }
+    if !is_inside(rows, i, v) {
+        return sum;
+    }
+    let k = slot_of(i + u - 8, i + v - 8);
+    sum + table[u][v] * similarity[k]
+}
+
+// the terms of place u, v ascending
+fn add_row(
+    table: &[[f64; 16]; 16],
+    similarity: &[f64],
+    rows: usize,
+    i: usize,
+    u: usize,
+    sum: f64,
+) -> f64
+    requires { ⌜ (now table ≡ kernelTable) × (length (now similarity) ≡ rows * 17) × (i < rows) × (u < 16) ⌝ }
+    ensures { λ r. ⌜ r ≡ addRow (now (similarity .entry)) rows i u sum ⌝ }
+{
+    let mut total = sum;
+    let mut v = 0;
+    while v < 16 {
+        total = add_term(table, similarity, rows, i, u, v, total);
+        v += 1;
+    }
+    total
+}
+
+// the novelty of row i, wherever it lies
+fn novelty_slot(table: &[[f64; 16]; 16], similarity: &[f64], rows: usize, i: usize) -> f64
+    requires { ⌜ (now table ≡ kernelTable) × (length (now similarity) ≡ rows * 17) × (i < rows) ⌝ }
+    ensures { λ r. ⌜ r ≡ noveltyAt (now (similarity .entry)) rows i ⌝ }
+{
+    let mut total = 0.0;
+    let mut u = 0;
+    while u < 16 {
+        total = add_row(table, similarity, rows, i, u, total);
+        u += 1;
+    }
+    total
+}
+
+// slot by slot: near the ends, and where fewer than eight are left
+fn fill_plain(
+    table: &[[f64; 16]; 16],
+    similarity: &[f64],
+    rows: usize,
+    from: usize,
+    past: usize,
+    novelty: &mut [f64],
+)
+    requires { ⌜ (now table ≡ kernelTable) × (length (now similarity) ≡ rows * 17) × (from ≤ past) × (past ≤ rows) × (past ≤ length (now novelty)) ⌝ }
+    ensures { λ _. ⌜ now (novelty .exit) ≡ filled (noveltyAt (now (similarity .entry)) rows) (now (novelty .entry)) from past ⌝ }
+{
+    let mut i = from;
+    while i < past {
+        novelty[i] = novelty_slot(table, similarity, rows, i);
+        i += 1;
+    }
+}
+
+// Eight rows side by side, one to a lane: each lane's sum grows by the weight times its own row's similarity, which stands seventeen slots after
+// that of the lane before.
+fn add_lanes(lanes: &mut [f64; 8], weight: f64, similarity: &[f64], k: usize)
+    requires { ⌜ (length (now lanes) ≡ 8) × (k + 119 < length (now similarity)) ⌝ }
+    ensures { λ _. ⌜ now (lanes .exit) ≡ filled (laneTerm (now (lanes .entry)) weight (now (similarity .entry)) k) (now (lanes .entry)) 0 8 ⌝ }
+{
+    let mut j = 0;
+    while j < 8 {
+        lanes[j] = lanes[j] + weight * similarity[k + 17 * j];
+        j += 1;
+    }
+}
+
+// the terms of place u, v ascending, in each lane
+fn add_row_lanes(
+    table: &[[f64; 16]; 16],
+    similarity: &[f64],
+    rows: usize,
+    i: usize,
+    u: usize,
+    lanes: &mut [f64; 8],
+)
+    requires { ⌜ (now table ≡ kernelTable) × (length (now similarity) ≡ rows * 17) × (8 ≤ i) × (i + 15 ≤ rows) × (u < 16) × (length (now lanes) ≡ 8) ⌝ }
+    ensures { λ _. ⌜ now (lanes .exit) ≡ filled (laneRow (now (lanes .entry)) (now (similarity .entry)) rows i u) (now (lanes .entry)) 0 8 ⌝ }
+{
+    let first = (i - 8) * 17;
+    let mut v = 0;
+    while v < 16 {
+        add_lanes(lanes, table[u][v], similarity, first + slot_of(u, v));
+        v += 1;
+    }
+}
+
+// the novelty of rows i to i + 7, whose kernels lie inside
+fn eight_slots(table: &[[f64; 16]; 16], similarity: &[f64], rows: usize, i: usize) -> [f64; 8]
+    requires { ⌜ (now table ≡ kernelTable) × (length (now similarity) ≡ rows * 17) × (8 ≤ i) × (i + 15 ≤ rows) ⌝ }
+    ensures { λ r. ⌜ ((j : ℕ) → j < 8 → getD r j nan ≡ noveltyAt (now (similarity .entry)) rows (i + j)) ⌝ }
+{
+    let mut lanes = [0.0; 8];
+    let mut u = 0;
+    while u < 16 {
+        add_row_lanes(table, similarity, rows, i, u, &mut lanes);
+        u += 1;
+    }
+    lanes
+}
+
+// the lanes to slots i to i + 7
+fn put_eight(values: &[f64; 8], i: usize, novelty: &mut [f64])
+    requires { ⌜ i + 8 ≤ length (now novelty) ⌝ }
+    ensures { λ _. ⌜ now (novelty .exit) ≡ filled (laneFrom (now (values .entry)) i) (now (novelty .entry)) i (i + 8) ⌝ }
+{
+    let mut j = 0;
+    while j < 8 {
+        novelty[i + j] = values[j];
+        j += 1;
+    }
+}
+
+// Rows whose kernel lies inside go eight at a time: each sum keeps its own order, and the compiler runs the eight side by side.
+fn fill_eights(
+    table: &[[f64; 16]; 16],
+    similarity: &[f64],
+    rows: usize,
+    from: usize,
+    past: usize,
+    novelty: &mut [f64],
+)
+    requires { ⌜ (now table ≡ kernelTable) × (length (now similarity) ≡ rows * 17) × (min 8 past ≤ from) × (from ≤ past) × (past ≤ rows) × (past ≤ length (now novelty)) ⌝ }
+    ensures { λ _. ⌜ now (novelty .exit) ≡ filled (noveltyAt (now (similarity .entry)) rows) (now (novelty .entry)) from past ⌝ }
+{
+    let stop = least(past, less(rows, 7));
+    let mut i = from;
+    while i + 8 <= stop {
+        let values = eight_slots(table, similarity, rows, i);
+        put_eight(&values, i, novelty);
+        i += 8;
+    }
+    fill_plain(table, similarity, rows, i, past, novelty);
+}
+
+// Inner: writes slots from `from` up to `past` of the novelty curve of a similarity of `rows` rows.
+pub fn fill_novelty(similarity: &[f64], rows: usize, from: usize, past: usize, novelty: &mut [f64])
+    requires { ⌜ (length (now similarity) ≡ rows * 17) × (from ≤ past) × (past ≤ rows) × (past ≤ length (now novelty)) ⌝ }
+    ensures { λ _. ⌜ now (novelty .exit) ≡ filled (noveltyAt (now (similarity .entry)) rows) (now (novelty .entry)) from past ⌝ }
+{
+    let table = kernel();
+    let start = least(greatest(from, 8), past);
+    fill_plain(&table, similarity, rows, from, start, novelty);
+    fill_eights(&table, similarity, rows, start, past, novelty);
+}

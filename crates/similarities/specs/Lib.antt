@@ -1,0 +1,2 @@
+pub mod Similarity
+pub mod Lanes

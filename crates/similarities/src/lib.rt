@@ -1,0 +1,252 @@
+// Similarity: how alike two rows of features are, for rows at most sixteen apart.
+//
+// Document 01, Sections. The Rust: structure.rs `BandedSimilarity`.
+use numbers::FEATURE_WIDTH;
+use numbers::MOST_FEATURES;
+use numbers::OUT_OF_BOUNDS;
+use numbers::TOO_LITTLE_ROOM;
+use numbers::WRONG_LENGTH;
+use numbers::WRONG_VALUE;
+use numbers::least;
+use numbers::values_fine;
+use roots::sqrt;
+use row_pairs::dot;
+use row_pairs::feature_row;
+use row_pairs::settle;
+ghost use mathlib.Core.Path.{_≡_};
+ghost use Prim.Native.Nat.{ℕ, _+_, _-_, _*_, _≤_, _<_, min};
+ghost use lib.ListN.{length, getD};
+ghost use lib.Ieee.{nan};
+ghost use Rattle.numbers.specs.Lists.{filled};
+ghost use Rattle.row_pairs.specs.Pairs.{dotOf, similarityAt};
+ghost use Rattle.similarities.specs.Similarity.{similarityNumber, SimilarityDone};
+ghost use Rattle.similarities.specs.Lanes.{turnedAt, columnOf, squareAt, rootAt, Block, laneProduct, laneQuotient, settledFrom};
+
+// slots of a row of the similarity: the row with itself, and with the sixteen rows after it
+pub const BAND_WIDTH: usize = 17;
+
+// the number that similarity gives
+fn similarity_number(features: &[f64], rows: usize, room: usize) -> u32
+    ensures { λ r. ⌜ r ≡ similarityNumber (now (features .entry)) rows room ⌝ }
+{
+    if rows > MOST_FEATURES {
+        return OUT_OF_BOUNDS;
+    }
+    if features.len() != rows * FEATURE_WIDTH {
+        return WRONG_LENGTH;
+    }
+    if room < rows * BAND_WIDTH {
+        return TOO_LITTLE_ROOM;
+    }
+    if !values_fine(features) {
+        return WRONG_VALUE;
+    }
+    0
+}
+
+// Writes similarity[0..rows * 17] from rows of sixteen feature values: slot i * 17 + d is how alike rows i and i + d are, from -1 to 1. Later slots stay.
+// Refuses 1 to 4 and then writes nothing: 1 for more than 50,000 rows, 2 for a length of the features other than rows * 16, 3 for fewer than
+// rows * 17 slots of similarity, 4 for a feature value that isn't finite or has size above 2^150.
+pub fn similarity(features: &[f64], rows: usize, similarity: &mut [f64]) -> u32
+    ensures { λ r. ⌜ SimilarityDone (now (features .entry)) rows (now (similarity .entry)) r (now (similarity .exit)) ⌝ }
+{
+    let number = similarity_number(features, rows, similarity.len());
+    if number != 0 {
+        return number;
+    }
+    fill_similarity_rows(features, rows, 0, rows, similarity);
+    0
+}
+
+// Value k of rows first to first + count - 1, side by side: that of row first + r stands at k * 128 + r.
+fn turn_value(
+    features: &[f64],
+    rows: usize,
+    first: usize,
+    count: usize,
+    k: usize,
+    turned: &mut [f64; 2048],
+)
+    requires { ⌜ (length (now features) ≡ rows * 16) × (first + count ≤ rows) × (count ≤ 128) × (k < 16) × (length (now turned) ≡ 2048) ⌝ }
+    ensures { λ _. ⌜ now (turned .exit) ≡ filled (turnedAt (now (features .entry)) first) (now (turned .entry)) (k * 128) (k * 128 + count) ⌝ }
+{
+    let mut r = 0;
+    while r < count {
+        turned[k * 128 + r] = features[(first + r) * 16 + k];
+        r += 1;
+    }
+}
+
+// all sixteen values
+fn turn(features: &[f64], rows: usize, first: usize, count: usize, turned: &mut [f64; 2048])
+    requires { ⌜ (length (now features) ≡ rows * 16) × (first + count ≤ rows) × (count ≤ 128) × (length (now turned) ≡ 2048) ⌝ }
+    ensures { λ _. ⌜ ((r k : ℕ) → r < count → k < 16 → getD (now (turned .exit)) (k * 128 + r) nan ≡ getD (now (features .entry)) ((first + r) * 16 + k) nan) ⌝ }
+{
+    let mut k = 0;
+    while k < 16 {
+        turn_value(features, rows, first, count, k, turned);
+        k += 1;
+    }
+}
+
+// the sums of the rows' squares
+fn square_rows(features: &[f64], rows: usize, first: usize, count: usize, squares: &mut [f64; 128])
+    requires { ⌜ (length (now features) ≡ rows * 16) × (first + count ≤ rows) × (count ≤ 128) × (length (now squares) ≡ 128) ⌝ }
+    ensures { λ _. ⌜ now (squares .exit) ≡ filled (squareAt (now (features .entry)) first) (now (squares .entry)) 0 count ⌝ }
+{
+    let mut r = 0;
+    while r < count {
+        let row = feature_row(features, rows, first + r);
+        squares[r] = dot(row, row);
+        r += 1;
+    }
+}
+
+// the norms
+fn root_all(squares: &[f64; 128], norms: &mut [f64; 128])
+    requires { ⌜ length (now norms) ≡ 128 ⌝ }
+    ensures { λ _. ⌜ now (norms .exit) ≡ filled (rootAt (now (squares .entry))) (now (norms .entry)) 0 128 ⌝ }
+{
+    let mut r = 0;
+    while r < 128 {
+        norms[r] = sqrt(squares[r]);
+        r += 1;
+    }
+}
+
+// Sixteen sums of products at once, in lanes 1 to 16: lane j is that with the row j columns on. Each keeps its own order.
+fn add_products(sums: &mut [f64; 17], x: f64, turned: &[f64; 2048], at: usize)
+    requires { ⌜ (length (now sums) ≡ 17) × (at + 16 < 2048) ⌝ }
+    ensures { λ _. ⌜ now (sums .exit) ≡ filled (laneProduct (now (sums .entry)) x (now (turned .entry)) at) (now (sums .entry)) 1 17 ⌝ }
+{
+    let mut j = 1;
+    while j < 17 {
+        sums[j] = sums[j] + x * turned[at + j];
+        j += 1;
+    }
+}
+
+// the dot products of the block's row in column c with itself, which is `own`, and with the sixteen rows after it
+fn row_dots(row: &[f64], turned: &[f64; 2048], c: usize, own: f64) -> [f64; 17]
+    requires { ⌜ (length (now row) ≡ 16) × (c < 112) ⌝ }
+    ensures { λ r. ⌜ (length r ≡ 17) × (getD r 0 nan ≡ own) × ((d : ℕ) → 0 < d → d < 17 → getD r d nan ≡ dotOf (now (row .entry)) (columnOf (now (turned .entry)) (c + d))) ⌝ }
+{
+    let mut sums = [0.0; 17];
+    let mut k = 0;
+    while k < 16 {
+        add_products(&mut sums, row[k], turned, k * 128 + c);
+        k += 1;
+    }
+    sums[0] = own;
+    sums
+}
+
+// The divisions in a loop of their own, apart from the choices that settle them: the compiler then runs both on several lanes.
+fn divide(sums: &mut [f64; 17], norms: &[f64; 128], c: usize)
+    requires { ⌜ (length (now sums) ≡ 17) × (c < 112) ⌝ }
+    ensures { λ _. ⌜ now (sums .exit) ≡ filled (laneQuotient (now (sums .entry)) (now (norms .entry)) c) (now (sums .entry)) 0 17 ⌝ }
+{
+    let norm = norms[c];
+    let mut d = 0;
+    while d < 17 {
+        sums[d] = sums[d] / (norm * norms[c + d]);
+        d += 1;
+    }
+}
+
+// the lanes, settled, to slots at to at + 16
+fn put_row(quotients: &[f64; 17], norms: &[f64; 128], c: usize, at: usize, similarity: &mut [f64])
+    requires { ⌜ (c < 112) × (at + 17 ≤ length (now similarity)) ⌝ }
+    ensures { λ _. ⌜ now (similarity .exit) ≡ filled (settledFrom (now (quotients .entry)) (now (norms .entry)) c at) (now (similarity .entry)) at (at + 17) ⌝ }
+{
+    let norm = norms[c];
+    let mut d = 0;
+    while d < 17 {
+        similarity[at + d] = settle(quotients[d], norm, norms[c + d]);
+        d += 1;
+    }
+}
+
+// the seventeen slots of row i, which is the block's row in column i - first
+fn put_slots(
+    features: &[f64],
+    rows: usize,
+    first: usize,
+    i: usize,
+    turned: &[f64; 2048],
+    squares: &[f64; 128],
+    norms: &[f64; 128],
+    similarity: &mut [f64],
+)
+    requires { ⌜ (length (now features) ≡ rows * 16) × (first ≤ i) × (i < rows) × (i < first + 112) × (i * 17 + 17 ≤ length (now similarity)) × Block (now features) first (min 128 (rows - first)) (now turned) (now squares) (now norms) ⌝ }
+    ensures { λ _. ⌜ now (similarity .exit) ≡ filled (similarityAt (now (features .entry)) rows) (now (similarity .entry)) (i * 17) (i * 17 + 17) ⌝ }
+{
+    let c = i - first;
+    let mut sums = row_dots(feature_row(features, rows, i), turned, c, squares[c]);
+    divide(&mut sums, norms, c);
+    put_row(&sums, norms, c, i * 17, similarity);
+}
+
+// the slots of rows first to past - 1 of a block
+fn put_block(
+    features: &[f64],
+    rows: usize,
+    first: usize,
+    past: usize,
+    turned: &[f64; 2048],
+    squares: &[f64; 128],
+    norms: &[f64; 128],
+    similarity: &mut [f64],
+)
+    requires { ⌜ (length (now features) ≡ rows * 16) × (first ≤ past) × (past ≤ rows) × (past ≤ first + 112) × (past * 17 ≤ length (now similarity)) × Block (now features) first (min 128 (rows - first)) (now turned) (now squares) (now norms) ⌝ }
+    ensures { λ _. ⌜ now (similarity .exit) ≡ filled (similarityAt (now (features .entry)) rows) (now (similarity .entry)) (first * 17) (past * 17) ⌝ }
+{
+    let mut i = first;
+    while i < past {
+        put_slots(features, rows, first, i, turned, squares, norms, similarity);
+        i += 1;
+    }
+}
+
+// The slots of rows first to past - 1, at most 112. These and the sixteen rows after them make a block: turned, with each norm taken once.
+fn fill_block(features: &[f64], rows: usize, first: usize, past: usize, similarity: &mut [f64])
+    requires { ⌜ (length (now features) ≡ rows * 16) × (first ≤ past) × (past ≤ rows) × (past ≤ first + 112) × (past * 17 ≤ length (now similarity)) ⌝ }
+    ensures { λ _. ⌜ now (similarity .exit) ≡ filled (similarityAt (now (features .entry)) rows) (now (similarity .entry)) (first * 17) (past * 17) ⌝ }
+{
+    let count = least(128, rows - first);
+    let mut turned = [0.0; 2048];
+    turn(features, rows, first, count, &mut turned);
+    let mut squares = [0.0; 128];
+    square_rows(features, rows, first, count, &mut squares);
+    let mut norms = [0.0; 128];
+    root_all(&squares, &mut norms);
+    put_block(
+        features,
+        rows,
+        first,
+        past,
+        &turned,
+        &squares,
+        &norms,
+        similarity,
+    );
+}
+
+// Inner: writes the slots of rows `from` to `past` - 1 of the similarity, a block of 112 rows at a time.
+pub fn fill_similarity_rows(
+    features: &[f64],
+    rows: usize,
+    from: usize,
+    past: usize,
+    similarity: &mut [f64],
+)
+    requires { ⌜ (length (now features) ≡ rows * 16) × (from ≤ past) × (past ≤ rows) × (past * 17 ≤ length (now similarity)) ⌝ }
+    ensures { λ _. ⌜ now (similarity .exit) ≡ filled (similarityAt (now (features .entry)) rows) (now (similarity .entry)) (from * 17) (past * 17) ⌝ }
+{
+    let mut i = from;
+    while i < past {
+        let next = least(i + 112, past);
+        fill_block(features, rows, i, next, similarity);
+        i = next;
+    }
+}

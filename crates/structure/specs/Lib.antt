@@ -1,4 +1,0 @@
-pub mod Kernel
-pub mod Similarity
-pub mod Novelty
-pub mod Lanes
