@@ -7,7 +7,6 @@ mod growth;
 mod music;
 mod stages;
 
-use clock::in_turns;
 use stages::{Line, counted};
 
 // What original / ours should reach, from the study of forms; at 3,600 feature rows and at more where there are two.
@@ -49,20 +48,6 @@ fn tell_patch(line: &Line) {
     println!("| {} | {} | {port:.3} | {own:.3} | {:.1} % | {rust:.3} |", line.stage, line.size, 100.0 * port / own);
 }
 
-// The square root has no call of its own. Similarity takes one a row: 112 rows, a block of it, less as many rows of zeros, whose root is
-// no work.
-fn root(rounds: usize) {
-    let (values, zeros, mut a, mut b) =
-        (music::features(112, 3), [0.0; 16 * 112], vec![0.0; 17 * 112], vec![0.0; 17 * 112]);
-    let [with, without] = in_turns(
-        rounds,
-        [&mut || prohunsev::similarity(&values, 112, &mut a).unwrap(), &mut || {
-            prohunsev::similarity(&zeros, 112, &mut b).unwrap()
-        }],
-    );
-    println!("\na square root, inside similarity: {:.0} ns", 1e9 * (with - without) / 112.0);
-}
-
 fn main() {
     let quick = match std::env::args().nth(1).as_deref() {
         None => false,
@@ -99,7 +84,6 @@ fn main() {
     println!("\n| patch | of | ours ms | our full run ms | part | original's full run ms |");
     println!("|---|---|---|---|---|---|");
     patches.iter().for_each(tell_patch);
-    root(25);
     if !quick {
         println!();
         growth::tell(7);
