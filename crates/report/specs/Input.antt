@@ -1,8 +1,9 @@
--- Document 01, "The reporting program": what is refused. "Too little or too much data is number 2. More than 8,000 rows is number 1."
+-- Document 01, "The reporting program": what is refused, and the flux of what is not. "Too little or too much data is number 2. More than 8,000
+-- rows is number 1."
 -- Number 5 is "the file header is malformed"; where it is not, the lowest of the others that applies is given, over the whole input.
-use Prim.Native.Nat.{ℕ, _+_, _*_, _/_}
+use Prim.Native.Nat.{ℕ, _*_, _/_}
 use mathlib.Core.Bool.{Bool, true, _&&_}
-use mathlib.Core.List.{List}
+use mathlib.Core.List.{List, []}
 use lib.Dec.{leb, eqb}
 use lib.Ieee.{Float}
 use lib.ListN.{length, take, drop}
@@ -16,6 +17,7 @@ use Rattle.npy.specs.declared.Header.{Header}
 use Rattle.npy.specs.declared.Header.the-variants as header
 use Rattle.npy.specs.Header.{headerOf, preambleOf}
 use Rattle.npy.specs.Values.{valueAt}
+use Rattle.flux.specs.Flux.{fluxAt}
 
 -- "up to 8,000 rows"
 abbrev pub mostReported : ℕ
@@ -57,3 +59,19 @@ preambleNumber (preamble.Length size) rest =
 unfoldable pub reportNumber : (input : List ℕ) → ℕ
 unfolding preambleNumber
 reportNumber input = preambleNumber (preambleOf (take preambleLength input)) (drop preambleLength input)
+
+-- ---- the flux of an input that nothing refuses: the curve of the rows that its header says
+
+unfoldable pub headerFlux : Header → (body : List ℕ) → List Float
+unfolding valuesOf
+headerFlux header.Malformed body = []
+headerFlux (header.Shape rows bins) body = curve (fluxAt (valuesOf body) bins) rows
+
+unfoldable pub preambleFlux : Preamble → (rest : List ℕ) → List Float
+unfolding headerFlux
+preambleFlux preamble.Malformed rest = []
+preambleFlux (preamble.Length size) rest = headerFlux (headerOf (take size rest)) (drop size rest)
+
+unfoldable pub reportFlux : (input : List ℕ) → List Float
+unfolding preambleFlux
+reportFlux input = preambleFlux (preambleOf (take preambleLength input)) (drop preambleLength input)

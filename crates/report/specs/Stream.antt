@@ -1,6 +1,6 @@
 -- Document 01, "The reporting program": "keeping two rows at a time". What one row more does to the two rows kept and to the flux, and how
 -- far a stream of rows has come.
-use Prim.Native.Nat.{ℕ, suc, _*_, _+_, _-_, _<_, min}
+use Prim.Native.Nat.{ℕ, _*_, _+_, _-_, _<_, min}
 use mathlib.Core.Path.{_≡_}
 use mathlib.Core.Bool.{Bool, true, _&&_}
 use mathlib.Core.List.{List, [], _∷_, _++_}

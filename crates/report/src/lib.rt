@@ -9,13 +9,13 @@ ghost use Rattle.numbers.specs.Refusals.{lowest};
 ghost use Rattle.report.specs.Input.{shapeFine};
 
 // rows of a reported array
-pub const MOST_REPORTED: u64 = 8_000;
+pub const MOST_REPORTED: usize = 8_000;
 
 // Inner: whether a shape is within the bounds.
 pub fn shape_fine(rows: u64, bins: u64) -> bool
     ensures { λ r. ⌜ r ≡ shapeFine rows bins ⌝ }
 {
-    rows <= MOST_REPORTED && (1 <= bins && bins <= 4_096)
+    rows <= MOST_REPORTED as u64 && (1 <= bins && bins <= numbers::MOST_BINS as u64)
 }
 
 // Inner: the number of a shape with data behind it: whether it is within the bounds, whether the data are as long as it says, and whether each

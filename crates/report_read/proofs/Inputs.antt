@@ -12,8 +12,9 @@ use lib.ListN.{length, getD, take, drop, replicate, length-append}
 use lib.Seq.{take-append-seam, drop-append-seam, take-at, drop-at, take-all, length-take-le}
 use borrow.Author.Tests.{le-leb, lt-leb, leb-true, eq-eqb, ne-eqb, eqb-true}
 use Rattle.numbers.proofs.Tests.{and-left, and-right, and-both, pick-true, pick-false, lowest-zero, lowest-1, true-not-false, lt-or-le}
-use Rattle.numbers.specs.Limits.{magnitudeFine}
-use Rattle.numbers.specs.Lists.{every, filled}
+use Rattle.numbers.proofs.Tabs.{length-tab, filled-whole}
+use Rattle.numbers.specs.Limits.{magnitudeFine, valueFine}
+use Rattle.numbers.specs.Lists.{every, curve, filled}
 use Rattle.numbers.specs.Refusals.{lowest}
 use Rattle.numbers.specs.Rounded.{pick}
 use Rattle.npy.specs.declared.Preamble.{Preamble}
@@ -22,7 +23,8 @@ use Rattle.npy.specs.declared.Header.{Header}
 use Rattle.npy.specs.declared.Header.the-variants as header
 use Rattle.npy.specs.Header.{magic, starts, headerOf, preambleOf}
 use Rattle.flux.specs.Flux.{fluxAt}
-use Rattle.report.specs.Input.{mostReported, preambleLength, valuesOf, shapeFine, dataNumber, headerNumber, preambleNumber, reportNumber}
+use Rattle.flux.proofs.Fluxes.{flux-curve-fine}
+use Rattle.report.specs.Input.{mostReported, preambleLength, valuesOf, shapeFine, dataNumber, headerNumber, preambleNumber, reportNumber, headerFlux, preambleFlux, reportFlux}
 use Rattle.report.proofs.Numbers.{lowest-short}
 use Rattle.report_read.specs.declared.Body.{Body}
 use Rattle.report_read.specs.declared.Reading.{Reading}
@@ -154,6 +156,7 @@ text-short size part h =
       text = part;
       body = [];
       number-is = sym (pick-false _ _ _ (lt-leb size (length (part ++ [])) (omega (arith, ap length (append-nil part)))));
+      stated-is = λ z. absurd (omega arith);
       found = λ z. absurd (omega arith);
     }
 
@@ -170,12 +173,13 @@ text-read {was} {flux} {answer} text head e r =
           (pick-true _ _ _ (le-leb (length text) (length (text ++ body)) (omega (arith, length-append text body)))
           ∙ ap (λ (x : List ℕ). headerNumber (headerOf x) (drop (length text) (text ++ body))) (take-append-seam text body)
           ∙ ap (headerNumber (headerOf text)) (drop-append-seam text body));
+      stated-is = λ z. refl;
       found = λ z. let f = r .found z in record { bins = f .bins; shape-is = sym e ∙ f .shape-is; are = f .are };
     }
 
 pub rest-refused : {was flux : List Float} → RestRead preamble.Malformed was (record { number = 5; rows = 0 }) flux
 unfolding preambleNumber
-rest-refused = record { text = []; body = []; number-is = refl; found = λ z. absurd (omega arith) }
+rest-refused = record { text = []; body = []; number-is = refl; stated-is = λ z. absurd (omega arith); found = λ z. absurd (omega arith) }
 
 -- ---- the input
 
@@ -200,6 +204,8 @@ input-ten {was} {flux} {answer} first e r =
           ∙ sym
           (ap (λ (x : List ℕ). preambleNumber (preambleOf x) (drop preambleLength (first ++ rest))) (take-at first rest preambleLength e)
           ∙ ap (preambleNumber (preambleOf first)) (drop-at first rest preambleLength e));
+      first-is = λ z. e;
+      stated-is = r .stated-is;
       found = r .found;
     }
 
@@ -218,6 +224,8 @@ input-short {was} {flux} {answer} first h r =
           ∙ sym (ap (λ (x : List ℕ). preambleNumber (preambleOf (take preambleLength x)) (drop preambleLength x)) whole
           ∙ ap (λ (x : List ℕ). preambleNumber (preambleOf x) (drop preambleLength first)) (take-all preambleLength first (omega arith))
           ∙ ap (λ (p : Preamble). preambleNumber p (drop preambleLength first)) m);
+      first-is = λ z. absurd (omega (arith, five, z));
+      stated-is = λ z. absurd (omega (arith, five, z));
       found = λ z. absurd (omega (arith, five, z));
     }
 
@@ -226,3 +234,35 @@ pub input-read : {was flux : List Float} {answer : Reading} (first : List ℕ) (
 input-read {was} {flux} {answer} first stated h e r =
     let r′ : RestRead (preambleOf first) was answer flux = rw (← e) r in
     ⊎-elim (λ (u : length first < 10). input-short first u r′) (λ (u : 10 ≤ length first). input-ten first (omega arith) r′) (lt-or-le (length first) 10)
+
+-- ---- an input that nothing refuses
+
+-- The flux that is left is that of the whole input, and each of its values is one that an analysis takes.
+pub record Accepted (input : List ℕ) (rows : ℕ) (flux : List Float) : Type 0 where
+  pub rows-fit : rows ≤ mostReported
+  pub flux-is : take rows flux ≡ reportFlux input
+  pub fine-is : every valueFine (take rows flux) ≡ true
+
+flux-of : (first text body : List ℕ) (rows bins : ℕ) → length first ≡ preambleLength → preambleOf first ≡ preamble.Length (length text) → headerOf text ≡ header.Shape rows bins
+    → reportFlux (first ++ (text ++ body)) ≡ curve (fluxAt (valuesOf body) bins) rows
+unfolding reportFlux
+flux-of first text body rows bins l p h =
+    let rest = text ++ body in
+    ap (λ (x : List ℕ). preambleFlux (preambleOf x) (drop preambleLength (first ++ rest))) (take-at first rest preambleLength l)
+    ∙ ap (preambleFlux (preambleOf first)) (drop-at first rest preambleLength l)
+    ∙ ap (λ (x : Preamble). preambleFlux x rest) p
+    ∙ ap (λ (x : List ℕ). headerFlux (headerOf x) (drop (length text) rest)) (take-append-seam text body)
+    ∙ ap (headerFlux (headerOf text)) (drop-append-seam text body)
+    ∙ ap (λ (x : Header). headerFlux x body) h
+
+pub accepted : {was flux : List Float} {answer : Reading} (r : InputRead was answer flux) → answer .number ≡ 0 → Accepted (r .first ++ (r .text ++ r .body)) (answer .rows) flux
+accepted {was} {flux} {answer} r z =
+    let f = r .found z in
+    let rows = answer .rows in
+    let rule = fluxAt (valuesOf (r .body)) (f .bins) in
+    let e : take rows flux ≡ curve rule rows = ap (take rows) (f .are .flux-is ∙ filled-whole rule was rows) ∙ take-at (curve rule rows) (drop rows was) rows (length-tab rule 0 rows) in
+    record {
+      rows-fit = f .are .rows-fit;
+      flux-is = e ∙ sym (flux-of (r .first) (r .text) (r .body) rows (f .bins) (r .first-is z) (r .stated-is z) (f .shape-is));
+      fine-is = rw e (flux-curve-fine (valuesOf (r .body)) rows (f .bins) (f .are .fine-is) (f .are .bins-fit));
+    }

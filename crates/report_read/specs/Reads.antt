@@ -1,5 +1,6 @@
--- Document 01, "The reporting program": what is read from standard input. No contract can say which bytes come; each record says that there are
--- bytes of which all that follows is right: the number is that of the whole input, and the flux is demand 2's curve of its rows.
+-- Document 01, "The reporting program": what is read from standard input. No contract can say which bytes come: that they are those of standard
+-- input, all of them and in their order, is the kit's word and not proved. Each record says that there are bytes of which all that follows is right:
+-- the number is that of the whole input, and the flux is demand 2's curve of its rows.
 use Prim.Native.Nat.{ℕ, _*_, _≤_}
 use mathlib.Core.Path.{_≡_}
 use mathlib.Core.Bool.{Bool, true}
@@ -13,8 +14,9 @@ use Rattle.flux.specs.Flux.{fluxAt}
 use Rattle.npy.specs.declared.Header.{Header}
 use Rattle.npy.specs.declared.Header.the-variants as header
 use Rattle.npy.specs.declared.Preamble.{Preamble}
-use Rattle.npy.specs.Header.{headerOf}
-use Rattle.report.specs.Input.{mostReported, valuesOf, dataNumber, headerNumber, preambleNumber, reportNumber}
+use Rattle.npy.specs.declared.Preamble.the-variants as preamble
+use Rattle.npy.specs.Header.{headerOf, preambleOf}
+use Rattle.report.specs.Input.{mostReported, preambleLength, valuesOf, dataNumber, headerNumber, preambleNumber, reportNumber}
 use Rattle.report.specs.Stream.{Streamed}
 use Rattle.report_read.specs.declared.Body.{Body}
 use Rattle.report_read.specs.declared.Reading.{Reading}
@@ -62,12 +64,16 @@ pub record RestRead (stated : Preamble) (was : List Float) (answer : Reading) (f
   pub text : List ℕ
   pub body : List ℕ
   pub number-is : answer .number ≡ preambleNumber stated (text ++ body)
+  pub stated-is : answer .number ≡ 0 → stated ≡ preamble.Length (length text)
   pub found : answer .number ≡ 0 → Found (headerOf text) body (answer .rows) was flux
 
--- The whole input: its number, and where nothing refuses it, the flux of the rows that its header says.
+-- The whole input: its number, and where nothing refuses it, the flux of the rows that its header says. Then its parts are those that a file has:
+-- ten bytes, a text as long as they say, and the data.
 pub record InputRead (was : List Float) (answer : Reading) (flux : List Float) : Type 0 where
   pub first : List ℕ
   pub text : List ℕ
   pub body : List ℕ
   pub number-is : answer .number ≡ reportNumber (first ++ (text ++ body))
+  pub first-is : answer .number ≡ 0 → length first ≡ preambleLength
+  pub stated-is : answer .number ≡ 0 → preambleOf first ≡ preamble.Length (length text)
   pub found : answer .number ≡ 0 → Found (headerOf text) body (answer .rows) was flux

@@ -16,6 +16,9 @@ ghost use Rattle.npy.specs.Header.{preambleOf};
 ghost use Rattle.report.specs.Input.{mostReported, shapeFine};
 ghost use Rattle.report_read.specs.Reads.{RowsRead, BodyRead, HeaderRead, RestRead, InputRead};
 
+// room for two rows of as many bins as there may be
+const TWO_ROWS: usize = 2 * numbers::MOST_BINS;
+
 // Whether the data are as long as the shape says, and whether each value is fine.
 pub struct Body {
     pub whole: bool,
@@ -74,11 +77,10 @@ fn read_rows(rows: usize, bins: usize, bytes: &mut [u8], kept: &mut [f32], flux:
     Body { whole: true, fine }
 }
 
-// Room for two rows of 4,096 bins.
-fn two_rows() -> [f32; 8192]
-    ensures { λ r. ⌜ (8192 ≡ length r) × (every magnitudeFine r ≡ true) ⌝ }
+fn two_rows() -> [f32; TWO_ROWS]
+    ensures { λ r. ⌜ (2 * mostBins ≡ length r) × (every magnitudeFine r ≡ true) ⌝ }
 {
-    [0.0f32; 8192]
+    [0.0f32; TWO_ROWS]
 }
 
 // Reads the data of a shape that is within the bounds, and answers their number.

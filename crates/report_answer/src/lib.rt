@@ -1,0 +1,219 @@
+// What the reporting program says of an array that nothing refuses: one analysis of the flux of its rows, and the six lines of it.
+//
+// Document 01, The reporting program: rate 48,000, the default options, at most 8,000 rows. Inner calls all. The analysis is lent room from one
+// function to the next: its curves first, then its lists.
+use analysis::Analysis;
+use analysis::analyse_envelope;
+use lags::TempoOpts;
+use report::MOST_REPORTED;
+use report_text::put_report;
+use stability::Stability;
+use tempo::Candidate;
+ghost use mathlib.Core.Path.{_≡_};
+ghost use mathlib.Core.Bool.{true};
+ghost use Prim.Native.Nat.{_≤_};
+ghost use lib.ListN.{length};
+ghost use Rattle.numbers.specs.Limits.{valueFine};
+ghost use Rattle.numbers.specs.Lists.{every};
+ghost use Rattle.report.specs.Input.{mostReported};
+ghost use Rattle.report_text.specs.Text.{Put};
+ghost use Rattle.report_answer.specs.Reports.{textRoom, candidateLags, agreeingIn, windowsIn, reportOf};
+ghost use Rattle.report_answer.specs.Inner.{mostLags, linesOf, LagsFit, Listable, CurvesLent, ListsLent};
+
+// samples a second
+const RATE: u32 = 48_000;
+
+// a slot for each lag from 38 to 375
+const LAGS: usize = 338;
+
+// The counts of a stability, as the text has them.
+struct Counts {
+    agreeing: u32,
+    windows: u32,
+}
+
+// ---- room
+
+// Inner: a slot for each row.
+pub fn curve_room() -> [f64; MOST_REPORTED]
+    ensures { λ r. ⌜ length r ≡ mostReported ⌝ }
+{
+    [0.0; MOST_REPORTED]
+}
+
+fn list_room() -> [u32; MOST_REPORTED]
+    ensures { λ r. ⌜ length r ≡ mostReported ⌝ }
+{
+    [0; MOST_REPORTED]
+}
+
+fn lag_room() -> [f64; LAGS]
+    ensures { λ r. ⌜ length r ≡ mostLags ⌝ }
+{
+    [0.0; LAGS]
+}
+
+// ---- the lines
+
+// The lags of the candidates: none is longer than a period.
+fn lags_of(candidates: [Candidate; 3]) -> [u32; 3]
+    requires { ⌜ LagsFit candidates ⌝ }
+    ensures { λ r. ⌜ r ≡ candidateLags candidates ⌝ }
+{
+    let a = candidates[0];
+    let b = candidates[1];
+    let c = candidates[2];
+    [a.lag as u32, b.lag as u32, c.lag as u32]
+}
+
+fn counts_of(stability: Stability) -> Counts
+    requires { ⌜ (agreeingIn stability ≤ 4) × (windowsIn stability ≤ 4) ⌝ }
+    ensures { λ r. ⌜ r ≡ record { agreeing = agreeingIn stability; windows = windowsIn stability } ⌝ }
+{
+    match stability {
+        Stability::None => Counts {
+            agreeing: 0,
+            windows: 0,
+        },
+        Stability::Share {
+            fraction: _,
+            agreeing,
+            windows,
+        } => Counts {
+            agreeing: agreeing as u32,
+            windows: windows as u32,
+        },
+    }
+}
+
+// Puts the lines of an answer, whose lists the slices hold first.
+fn put_lines(
+    answer: Analysis,
+    onsets: &[u32],
+    beats: &[u32],
+    downbeats: &[u32],
+    bytes: &mut [u8],
+) -> usize
+    requires { ⌜ Listable answer (now onsets) (now beats) (now downbeats) × (textRoom ≤ length (now bytes)) ⌝ }
+    ensures { λ r. ⌜ Put (now (bytes .entry)) 0 (linesOf answer (now (onsets .entry)) (now (beats .entry)) (now (downbeats .entry))) textRoom r (now (bytes .exit)) ⌝ }
+{
+    let candidates = answer.candidates;
+    let stability = answer.stability;
+    let heard = answer.onsets;
+    let found = answer.count;
+    let laid = answer.beats;
+    let barred = answer.downbeats;
+    let lags = lags_of(candidates);
+    let counts = counts_of(stability);
+    put_report(
+        bytes,
+        &onsets[0..heard],
+        &lags[0..found],
+        &beats[0..laid],
+        &downbeats[0..barred],
+        counts.agreeing,
+        counts.windows,
+    )
+}
+
+// ---- the analysis
+
+fn put_over(
+    flux: &[f64],
+    threshold: &mut [f64],
+    onsets: &mut [u32],
+    clarity: &mut [f64],
+    weight: &mut [f64],
+    window_clarity: &mut [f64],
+    window_weight: &mut [f64],
+    score: &mut [f64],
+    back: &mut [u32],
+    beats: &mut [u32],
+    downbeats: &mut [u32],
+    work: &mut [f64],
+    bytes: &mut [u8],
+) -> usize
+    requires { ⌜ (length (now flux) ≤ mostReported) × (every valueFine (now flux) ≡ true) × (textRoom ≤ length (now bytes)) ⌝ }
+    requires { ⌜ CurvesLent (now threshold) (now clarity) (now weight) (now «window_clarity») (now «window_weight») (now score) (now work) ⌝ }
+    requires { ⌜ ListsLent (now onsets) (now back) (now beats) (now downbeats) ⌝ }
+    ensures { λ r. ⌜ Put (now (bytes .entry)) 0 (reportOf (now (flux .entry))) textRoom r (now (bytes .exit)) ⌝ }
+{
+    let answer = analyse_envelope(
+        flux,
+        RATE,
+        TempoOpts::new(),
+        threshold,
+        onsets,
+        clarity,
+        weight,
+        window_clarity,
+        window_weight,
+        score,
+        back,
+        beats,
+        downbeats,
+        work,
+    );
+    put_lines(answer, onsets, beats, downbeats, bytes)
+}
+
+fn put_with_curves(
+    flux: &[f64],
+    threshold: &mut [f64],
+    clarity: &mut [f64],
+    weight: &mut [f64],
+    window_clarity: &mut [f64],
+    window_weight: &mut [f64],
+    score: &mut [f64],
+    work: &mut [f64],
+    bytes: &mut [u8],
+) -> usize
+    requires { ⌜ (length (now flux) ≤ mostReported) × (every valueFine (now flux) ≡ true) × (textRoom ≤ length (now bytes)) ⌝ }
+    requires { ⌜ CurvesLent (now threshold) (now clarity) (now weight) (now «window_clarity») (now «window_weight») (now score) (now work) ⌝ }
+    ensures { λ r. ⌜ Put (now (bytes .entry)) 0 (reportOf (now (flux .entry))) textRoom r (now (bytes .exit)) ⌝ }
+{
+    let mut onsets = list_room();
+    let mut back = list_room();
+    let mut beats = list_room();
+    let mut downbeats = list_room();
+    put_over(
+        flux,
+        threshold,
+        &mut onsets,
+        clarity,
+        weight,
+        window_clarity,
+        window_weight,
+        score,
+        &mut back,
+        &mut beats,
+        &mut downbeats,
+        work,
+        bytes,
+    )
+}
+
+// Inner: puts the report of a flux into the first bytes and answers how many they are.
+pub fn put_analysis(flux: &[f64], bytes: &mut [u8]) -> usize
+    requires { ⌜ (length (now flux) ≤ mostReported) × (every valueFine (now flux) ≡ true) × (textRoom ≤ length (now bytes)) ⌝ }
+    ensures { λ r. ⌜ Put (now (bytes .entry)) 0 (reportOf (now (flux .entry))) textRoom r (now (bytes .exit)) ⌝ }
+{
+    let mut threshold = curve_room();
+    let mut clarity = lag_room();
+    let mut weight = lag_room();
+    let mut window_clarity = lag_room();
+    let mut window_weight = lag_room();
+    let mut score = curve_room();
+    let mut work = lag_room();
+    put_with_curves(
+        flux,
+        &mut threshold,
+        &mut clarity,
+        &mut weight,
+        &mut window_clarity,
+        &mut window_weight,
+        &mut score,
+        &mut work,
+        bytes,
+    )
+}
