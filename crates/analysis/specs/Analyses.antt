@@ -13,7 +13,7 @@ use Rattle.onsets.specs.Onsets.{onsetsOf}
 use Rattle.lags.specs.declared.TempoOpts.{TempoOpts}
 use Rattle.lags.specs.Lags.{minLag, maxLag}
 use Rattle.tempo.specs.declared.TempoEstimate.{TempoEstimate}
-use Rattle.tempo.specs.Search.{clarityRule, weightRule}
+use Rattle.lag_search.specs.Search.{clarityRule, weightRule}
 use Rattle.tempo.specs.Answers.{unused, withoutTempo, tempoOf, unwritten, curveOf}
 use Rattle.stability.specs.Windows.{Open}
 use Rattle.stability.specs.Answers.{shareOf, withoutStability, leftOpen}

@@ -15,6 +15,7 @@ use Rattle.stability.specs.Answers.{stabilityRefusal, leftOpen}
 use Rattle.stability.proofs.Promises as stability
 use Rattle.bars.specs.declared.BarBeat.{BarBeat}
 use Rattle.patching.specs.Patches.{Patch}
+use Rattle.patch_refusal.specs.Tracks as tracks
 use Rattle.patch_magnitudes.specs.Magnitudes as magnitudes
 use Rattle.patch_features.specs.Features as features
 use Rattle.capi.specs.Handed.{Handed, Listed}
@@ -93,9 +94,9 @@ boundaries-unique p q = (
   (p .rows-are ∙ sym (q .rows-are), p .work-length ∙ sym (q .work-length), p .work-keeps ∙ sym (q .work-keeps)),
 )
 
-pub rows-unique : {rows bins : ℕ} {was : magnitudes.Track} {patch : Patch} {work : List Float} {lent₀ : Ranges} {a b : ℕ} {x y : magnitudes.Track} {u v : List Float} {s t : Ranges}
+pub rows-unique : {rows bins : ℕ} {was : tracks.Track} {patch : Patch} {work : List Float} {lent₀ : Ranges} {a b : ℕ} {x y : tracks.Track} {u v : List Float} {s t : Ranges}
     → RowsPromise rows bins was patch work lent₀ a x u s → RowsPromise rows bins was patch work lent₀ b y v t
-    → let sorted = magnitudes.sortedIn (magnitudes.numberOf rows bins was patch (length work)) rows patch in
+    → let sorted = magnitudes.sortedIn (tracks.numberOf rows bins was patch (length work)) rows patch in
     ((a ≡ b) × (s ≡ t)) × ((x ≡ y) × (length u ≡ length v) × (drop sorted u ≡ drop sorted v))
 rows-unique p q = (
   handed-unique (p .handed) (q .handed),

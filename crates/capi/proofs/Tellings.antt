@@ -25,6 +25,7 @@ use Rattle.sections.specs.declared.Sections.{Sections}
 use Rattle.patching.specs.Patches.{Patch, unlessEmpty}
 use Rattle.patch_magnitudes.specs.declared.Patched as rows-done
 use Rattle.patch_magnitudes.specs.declared.Patched.the-variants as rows-case
+use Rattle.patch_refusal.specs.Tracks as tracks
 use Rattle.patch_magnitudes.specs.Magnitudes as magnitudes
 use Rattle.patch_features.specs.declared.PatchedFeatures as features-done
 use Rattle.patch_features.specs.declared.PatchedFeatures.the-variants as features-case
@@ -167,12 +168,12 @@ unfolding features.answered
 features-named zero rows patch lent₀ = features-ranges _ _ _ _ (patch .new) lent₀
 features-named (suc k) rows patch lent₀ = refl
 
-pub rows-told : {rows bins : ℕ} {was : magnitudes.Track} {patch : Patch} {work : List Float} {own : rows-done.Patched} {now : magnitudes.Track} {work′ : List Float}
+pub rows-told : {rows bins : ℕ} {was : tracks.Track} {patch : Patch} {work : List Float} {own : rows-done.Patched} {now : tracks.Track} {work′ : List Float}
     {lent₀ : repairs.Ranges} {answer : ℕ} {lent : repairs.Ranges}
     → magnitudes.Patches rows bins was patch work own now work′ → (answer ≡ repairs.numberIn own) × (lent ≡ repairs.rangesIn own lent₀)
     → repairs.RowsPromise rows bins was patch work lent₀ answer now work′ lent
 rows-told {rows} {bins} {was} {patch} {work} {lent₀ = lent₀} p h =
-    let n = magnitudes.numberOf rows bins was patch (length work) in
+    let n = tracks.numberOf rows bins was patch (length work) in
     record {
       handed =
           record {

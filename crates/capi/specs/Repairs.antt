@@ -6,6 +6,7 @@ use lib.Ieee.{Float}
 use Rattle.patching.specs.Patches.{Patch, unlessEmpty}
 use Rattle.patch_magnitudes.specs.declared.Patched as rows-done
 use Rattle.patch_magnitudes.specs.declared.Patched.the-variants as rows-case
+use Rattle.patch_refusal.specs.Tracks as tracks
 use Rattle.patch_magnitudes.specs.Magnitudes as magnitudes
 use Rattle.patch_features.specs.declared.PatchedFeatures as features-done
 use Rattle.patch_features.specs.declared.PatchedFeatures.the-variants as features-case
@@ -34,18 +35,18 @@ rowsNamed rows bins patch =
 -- What `ph_patch_magnitudes` promises, of the number of `patch_magnitudes`: the lent numbers are the slots named, and the slices are as that call
 -- leaves them.
 pub record RowsTold
-    (number rows bins : ℕ) (was : magnitudes.Track) (patch : Patch) (work : List Float) (lent₀ : Ranges)
-    (answer : ℕ) (now : magnitudes.Track) (work′ : List Float) (lent : Ranges) : Type 0 where
+    (number rows bins : ℕ) (was : tracks.Track) (patch : Patch) (work : List Float) (lent₀ : Ranges)
+    (answer : ℕ) (now : tracks.Track) (work′ : List Float) (lent : Ranges) : Type 0 where
   pub handed : Handed number (rowsNamed rows bins patch) lent₀ answer lent
   pub slices : magnitudes.Patches rows bins was patch work (magnitudes.answered number rows bins patch) now work′
 
-abbrev pub RowsPromise : (rows bins : ℕ) (was : magnitudes.Track) (patch : Patch) (work : List Float) (lent₀ : Ranges)
-    (answer : ℕ) (now : magnitudes.Track) (work′ : List Float) (lent : Ranges) → Type 0
-RowsPromise rows bins was patch work = RowsTold (magnitudes.numberOf rows bins was patch (length work)) rows bins was patch work
+abbrev pub RowsPromise : (rows bins : ℕ) (was : tracks.Track) (patch : Patch) (work : List Float) (lent₀ : Ranges)
+    (answer : ℕ) (now : tracks.Track) (work′ : List Float) (lent : Ranges) → Type 0
+RowsPromise rows bins was patch work = RowsTold (tracks.numberOf rows bins was patch (length work)) rows bins was patch work
 
 -- the track that is lent
-abbrev pub rowsLent : (slab flux threshold : List Float) → magnitudes.Track
-rowsLent slab flux threshold = magnitudes.track slab flux threshold
+abbrev pub rowsLent : (slab flux threshold : List Float) → tracks.Track
+rowsLent slab flux threshold = tracks.track slab flux threshold
 
 -- Inner: each case's number, and what the lent numbers, which held `lent₀`, then hold
 abbrev pub numberIn : rows-done.Patched → ℕ

@@ -1,5 +1,4 @@
 -- Repairs has the theorems that an auditor reads first; the others lead to it.
-pub mod Asked
 pub mod Outcomes
 pub mod Mended
 pub mod Repairs

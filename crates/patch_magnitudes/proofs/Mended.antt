@@ -17,8 +17,8 @@ use Rattle.flux.specs.Flux.{fluxAt}
 use Rattle.threshold.specs.Threshold.{reach, thresholdAt}
 use Rattle.patching.proofs.Parts.{take-filled, drop-filled}
 use Rattle.patching.specs.Patches.{Patch, edited}
+use Rattle.patch_refusal.specs.Tracks.{Track}
 use Rattle.patch_magnitudes.specs.Magnitudes.{
-  Track,
   fluxFirst,
   fluxPast,
   thresholdFirst,
@@ -27,7 +27,7 @@ use Rattle.patch_magnitudes.specs.Magnitudes.{
   mendedThreshold,
 }
 use Rattle.patch_magnitudes.specs.Runs.{fluxCurve, thresholdCurve, Fresh}
-use Rattle.patch_magnitudes.proofs.Asked.{Asked}
+use Rattle.patch_refusal.proofs.Asked.{Asked}
 
 -- ---- one patch
 

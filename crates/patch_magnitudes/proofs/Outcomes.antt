@@ -12,9 +12,8 @@ use Rattle.patching.proofs.Wholes.{empty-keeps, full-does}
 use Rattle.patching.specs.Patches.{Patch, edited}
 use Rattle.patch_magnitudes.specs.declared.Patched.{Patched}
 use Rattle.patch_magnitudes.specs.declared.Patched.the-variants.{Refused, Wrote}
+use Rattle.patch_refusal.specs.Tracks.{Track, track, numberOf}
 use Rattle.patch_magnitudes.specs.Magnitudes.{
-  Track,
-  track,
   fluxFirst,
   fluxPast,
   thresholdFirst,
@@ -22,7 +21,6 @@ use Rattle.patch_magnitudes.specs.Magnitudes.{
   mendedFlux,
   mendedThreshold,
   mended,
-  numberOf,
   answered,
   after,
   sortedIn,

@@ -24,9 +24,8 @@ use Rattle.patching.proofs.Wholes.{whole-asked}
 use Rattle.patching.specs.Patches.{Patch, patchOf, wholeRows, edited, unlessEmpty}
 use Rattle.patch_magnitudes.specs.declared.Patched.{Patched}
 use Rattle.patch_magnitudes.specs.declared.Patched.the-variants.{Refused, Wrote}
+use Rattle.patch_refusal.specs.Tracks.{Track, track, valuesFine, numberOf}
 use Rattle.patch_magnitudes.specs.Magnitudes.{
-  Track,
-  track,
   fluxFirst,
   fluxPast,
   thresholdFirst,
@@ -34,15 +33,13 @@ use Rattle.patch_magnitudes.specs.Magnitudes.{
   mendedFlux,
   mendedThreshold,
   mended,
-  valuesFine,
-  numberOf,
   answered,
   after,
   sortedIn,
   Patches,
 }
 use Rattle.patch_magnitudes.specs.Runs.{fluxCurve, thresholdCurve, Fresh, Kept, Sound, Good, analysed, Call, run, Ran, stays, patches, refuses}
-use Rattle.patch_magnitudes.proofs.Asked.{Asked, asked, bounds-asked, room-asked}
+use Rattle.patch_refusal.proofs.Asked.{Asked, asked, bounds-asked, room-asked}
 use Rattle.patch_magnitudes.proofs.Mended.{flux-mends, threshold-mends, flux-rest, threshold-rest, fluxes-fine, thresholds-fine}
 
 -- What holds of the track before a patch, and of a mended one, holds after it: it is refused, empty, or mended.

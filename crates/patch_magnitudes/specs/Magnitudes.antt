@@ -3,28 +3,17 @@
 -- slot written per curve; .. an empty patch names 0 to 0." Demand 3: "flux slots a to b and threshold slots a-10 to b+10, cut at the ends".
 use Prim.Native.Nat.{ℕ, zero, suc, _+_, _-_, min}
 use mathlib.Core.Path.{_≡_}
-use mathlib.Core.Bool.{Bool, _&&_}
 use mathlib.Core.List.{List}
-use lib.Dec.{leb}
 use lib.ListN.{length, take, drop}
 use lib.Ieee.{Float}
-use Rattle.numbers.specs.Limits.{mostRows, mostBins, between, magnitudeFine, valueFine}
-use Rattle.numbers.specs.Lists.{filled, every}
-use Rattle.numbers.specs.Refusals.{lowest, unlessRefused}
+use Rattle.numbers.specs.Lists.{filled}
+use Rattle.numbers.specs.Refusals.{unlessRefused}
 use Rattle.flux.specs.Flux.{fluxAt}
 use Rattle.threshold.specs.Threshold.{reach, thresholdAt, windowRoom}
-use Rattle.patching.specs.Patches.{Patch, pastRow, wholeRows, edited, unlessEmpty}
+use Rattle.patching.specs.Patches.{Patch, pastRow, edited, unlessEmpty}
+use Rattle.patch_refusal.specs.Tracks.{Track, track, numberOf}
 use Rattle.patch_magnitudes.specs.declared.Patched.{Patched}
 use Rattle.patch_magnitudes.specs.declared.Patched.the-variants.{Refused, Wrote}
-
--- what is lent and kept: the magnitudes, row behind row, and their two curves
-pub record Track : Type 0 where
-  pub magnitudes : List Float
-  pub flux : List Float
-  pub threshold : List Float
-
-abbrev pub track : (magnitudes flux threshold : List Float) → Track
-track magnitudes flux threshold = record { magnitudes = magnitudes; flux = flux; threshold = threshold }
 
 -- ---- the slots that are written, first and past-last
 
@@ -56,28 +45,6 @@ mendedThreshold rows bins was patch =
 unfoldable pub mended : (rows bins : ℕ) → Track → Patch → Track
 mended rows bins was patch =
     track (edited bins (was .magnitudes) patch) (mendedFlux rows bins was patch) (mendedThreshold rows bins was patch)
-
--- ---- refusal
-
--- number 1 else: rows 0 to 1,048,576, bins 1 to 4,096, a start of at most the row count
-unfoldable pub boundsFine : (rows bins start : ℕ) → Bool
-boundsFine rows bins start = leb rows mostRows && (between 1 mostBins bins && leb start rows)
-
--- number 3 else: "A lent curve too short is number 3 here, never 2"
-unfoldable pub roomFine : (rows flux threshold room : ℕ) → Bool
-roomFine rows flux threshold room = leb rows flux && (leb rows threshold && leb (windowRoom rows) room)
-
--- number 4 else: "old and new rows and .. each lent curve's slots up to its formula; slots beyond are not read"
-unfoldable pub valuesFine : (rows : ℕ) → Track → (new : List Float) → Bool
-valuesFine rows was new =
-    every magnitudeFine (was .magnitudes)
-    && (every magnitudeFine new && (every valueFine (take rows (was .flux)) && every valueFine (take rows (was .threshold))))
-
--- the number, with `room` slots lent to sort in
-unfoldable pub numberOf : (rows bins : ℕ) → Track → Patch → (room : ℕ) → ℕ
-numberOf rows bins was patch room =
-    lowest (boundsFine rows bins (patch .start)) (wholeRows (length (was .magnitudes)) rows bins (patch .start) (length (patch .new)))
-    (roomFine rows (length (was .flux)) (length (was .threshold)) room) (valuesFine rows was (patch .new))
 
 -- ---- the call
 

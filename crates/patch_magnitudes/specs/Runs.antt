@@ -14,7 +14,8 @@ use Rattle.threshold.specs.Threshold.{thresholdAt, windowRoom}
 use Rattle.patching.specs.Patches.{Patch, pastRow}
 use Rattle.patch_magnitudes.specs.declared.Patched.{Patched}
 use Rattle.patch_magnitudes.specs.declared.Patched.the-variants.{Refused}
-use Rattle.patch_magnitudes.specs.Magnitudes.{Track, track, after, Patches}
+use Rattle.patch_refusal.specs.Tracks.{Track, track}
+use Rattle.patch_magnitudes.specs.Magnitudes.{after, Patches}
 
 -- the curves that demand 2 gives rows of magnitudes
 unfoldable pub fluxCurve : (rows bins : ℕ) → (magnitudes : List Float) → List Float

@@ -1,14 +1,9 @@
 // A repair of a track: some magnitude rows are replaced, and the flux and threshold curves are mended where that can change them.
 //
 // Document 01, Patching (added). The curves are then, bit for bit, those of a full run on the edited rows: proofs/Repairs.antt.
-use threshold::MEDIAN_WINDOW;
-use threshold::REACH;
-ghost use mathlib.Core.Path.{_≡_};
-ghost use mathlib.Core.Bool.{true};
-ghost use Prim.Native.Nat.{_+_, _*_, _/_, _≤_, _<_};
-ghost use lib.ListN.{length};
 ghost use Rattle.patching.specs.Patches.{patchOf};
-ghost use Rattle.patch_magnitudes.specs.Magnitudes.{track, boundsFine, roomFine, valuesFine, numberOf, Patches};
+ghost use Rattle.patch_refusal.specs.Tracks.{track};
+ghost use Rattle.patch_magnitudes.specs.Magnitudes.{Patches};
 
 // What a patch did: the number of its refusal, or the slots that it wrote of each curve, first and past-last.
 pub enum Patched {
@@ -38,7 +33,7 @@ pub fn patch_magnitudes(
 ) -> Patched
     ensures { λ r. ⌜ Patches rows bins (track (now (magnitudes .entry)) (now (flux .entry)) (now (threshold .entry))) (patchOf start (now (new .entry))) (now (work .entry)) r (track (now (magnitudes .exit)) (now (flux .exit)) (now (threshold .exit))) (now (work .exit)) ⌝ }
 {
-    let number = refusal(
+    let number = patch_refusal::refusal(
         magnitudes,
         rows,
         bins,
@@ -59,84 +54,13 @@ pub fn patch_magnitudes(
             threshold_past: 0,
         };
     }
-    patching::copy_magnitudes(magnitudes, start * bins, new);
-    let past = start + new.len() / bins;
-    let flux_past = numbers::least(past + 1, rows);
-    flux::fill_flux(magnitudes, rows, bins, start, flux_past, flux);
-    let threshold_first = numbers::less(start, REACH);
-    let threshold_past = numbers::least(past + REACH + 1, rows);
-    threshold::fill_threshold(
-        &flux[0..rows],
-        threshold,
-        threshold_first,
-        threshold_past,
-        work,
-    );
+    let count = new.len() / bins;
+    let flux_past = mending::mend_flux(magnitudes, rows, bins, start, count, new, flux);
+    let slots = mending::mend_threshold(flux, rows, start, count, threshold, work);
     Patched::Wrote {
         flux_first: start,
         flux_past,
-        threshold_first,
-        threshold_past,
+        threshold_first: slots.first,
+        threshold_past: slots.past,
     }
-}
-
-fn refusal(
-    magnitudes: &[f32],
-    rows: usize,
-    bins: usize,
-    start: usize,
-    new: &[f32],
-    flux: &[f64],
-    threshold: &[f64],
-    room: usize,
-) -> u32
-    ensures { λ r. ⌜ r ≡ numberOf rows bins (track (now (magnitudes .entry)) (now (flux .entry)) (now (threshold .entry))) (patchOf start (now (new .entry))) room ⌝ }
-{
-    if !bounds_fine(rows, bins, start) {
-        return numbers::OUT_OF_BOUNDS;
-    }
-    if !patching::whole_rows(magnitudes.len(), rows, bins, start, new.len()) {
-        return numbers::WRONG_LENGTH;
-    }
-    if !room_fine(rows, flux.len(), threshold.len(), room) {
-        return numbers::TOO_LITTLE_ROOM;
-    }
-    if !values_fine(magnitudes, rows, new, flux, threshold) {
-        return numbers::WRONG_VALUE;
-    }
-    0
-}
-
-fn bounds_fine(rows: usize, bins: usize, start: usize) -> bool
-    ensures { λ r. ⌜ r ≡ boundsFine rows bins start ⌝ }
-{
-    rows <= numbers::MOST_ROWS && (1 <= bins && (bins <= numbers::MOST_BINS && start <= rows))
-}
-
-fn room_fine(rows: usize, flux: usize, threshold: usize, room: usize) -> bool
-    ensures { λ r. ⌜ r ≡ roomFine rows flux threshold room ⌝ }
-{
-    rows <= flux && (rows <= threshold && numbers::least(MEDIAN_WINDOW, rows) <= room)
-}
-
-fn values_fine(
-    magnitudes: &[f32],
-    rows: usize,
-    new: &[f32],
-    flux: &[f64],
-    threshold: &[f64],
-) -> bool
-    requires { ⌜ (rows ≤ length (now flux)) × (rows ≤ length (now threshold)) ⌝ }
-    ensures { λ r. ⌜ r ≡ valuesFine rows (track (now (magnitudes .entry)) (now (flux .entry)) (now (threshold .entry))) (now (new .entry)) ⌝ }
-{
-    if !numbers::magnitudes_fine(magnitudes) {
-        return false;
-    }
-    if !numbers::magnitudes_fine(new) {
-        return false;
-    }
-    if !numbers::values_fine(&flux[0..rows]) {
-        return false;
-    }
-    numbers::values_fine(&threshold[0..rows])
 }

@@ -41,6 +41,7 @@ use Rattle.sections.specs.Outcomes.{Found}
 use Rattle.sections.specs.declared.Sections.{Sections}
 use Rattle.sections.proofs.Outcomes.{found-unique}
 use Rattle.patching.specs.Patches.{Patch}
+use Rattle.patch_refusal.specs.Tracks as tracks
 use Rattle.patch_magnitudes.specs.Magnitudes as magnitudes
 use Rattle.patch_magnitudes.specs.declared.Patched.{Patched}
 use Rattle.patch_magnitudes.proofs.Outcomes as magnitude-outcomes
@@ -149,9 +150,9 @@ pub boundaries : (number : ℕ) (curve : List Float) (bounds rows : List ℕ) (w
 boundaries number curve bounds rows work p q = (found-unique number curve bounds rows work p q, p .work-length ∙ sym (q .work-length))
 
 -- `patch_magnitudes`: both ranges, the rows and both curves; and the work slice past the slots that are sorted in
-pub patch-magnitudes : (rows bins : ℕ) (was : magnitudes.Track) (patch : Patch) (work : List Float) {a b : Patched} {x y : magnitudes.Track} {v w : List Float}
+pub patch-magnitudes : (rows bins : ℕ) (was : tracks.Track) (patch : Patch) (work : List Float) {a b : Patched} {x y : tracks.Track} {v w : List Float}
     → magnitudes.Patches rows bins was patch work a x v → magnitudes.Patches rows bins was patch work b y w
-    → let sorted = magnitudes.sortedIn (magnitudes.numberOf rows bins was patch (length work)) rows patch in
+    → let sorted = magnitudes.sortedIn (tracks.numberOf rows bins was patch (length work)) rows patch in
     (a ≡ b) × (x ≡ y) × (length v ≡ length w) × (drop sorted v ≡ drop sorted w)
 patch-magnitudes rows bins was patch work p q = magnitude-outcomes.unique rows bins was patch work p q
 

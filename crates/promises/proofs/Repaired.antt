@@ -23,7 +23,8 @@ use Rattle.bars.specs.Downbeats.{Downbeats}
 use Rattle.patching.specs.Patches.{Patch, patchOf, pastRow, edited}
 use Rattle.patch_magnitudes.specs.declared.Patched.{Patched}
 use Rattle.patch_magnitudes.specs.declared.Patched.the-variants.{Refused, Wrote}
-use Rattle.patch_magnitudes.specs.Magnitudes.{Track, track, fluxFirst, fluxPast, thresholdFirst, thresholdPast, numberOf, answered, Patches}
+use Rattle.patch_refusal.specs.Tracks.{Track, track, numberOf}
+use Rattle.patch_magnitudes.specs.Magnitudes.{fluxFirst, fluxPast, thresholdFirst, thresholdPast, answered, Patches}
 use Rattle.patch_magnitudes.specs.Runs.{fluxCurve, thresholdCurve, Fresh, Kept, Sound, Good, analysed, Ran}
 use Rattle.patch_magnitudes.proofs.Repairs as repairs
 use Rattle.analysis.specs.Rooms.{Results, Spare, magnitudesNumber}

@@ -20,8 +20,8 @@ use Rattle.lags.specs.Pairs.{agrees}
 use Rattle.lag_sums.specs.Sums.{meanOf, energyOf, leastEnergy}
 use Rattle.lag_curves.specs.Curves.{clarityFrom, weightedBy}
 use Rattle.lag_curves.proofs.Weights.{weighted-by-is}
-use Rattle.tempo.specs.Search.{winnerLag, winningLag, Searched}
-use Rattle.tempo.proofs.Searches.{searched-flat, searched-written}
+use Rattle.lag_search.specs.Search.{winnerLag, winningLag, Searched}
+use Rattle.lag_search.proofs.Searches.{searched-flat, searched-written}
 use Rattle.stability.specs.Windows.{windowAt, windowAgrees, agreeingTo, Open, WindowSearched}
 use Rattle.stability.proofs.Rooms.{open-same, open-filled}
 

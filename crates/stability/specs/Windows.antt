@@ -11,7 +11,7 @@ use Rattle.numbers.specs.Lists.{row, filled}
 use Rattle.lags.specs.Lags.{lagRoom}
 use Rattle.lags.specs.Pairs.{agrees}
 use Rattle.lag_curves.specs.Curves.{priorFrom}
-use Rattle.tempo.specs.Search.{winningLag}
+use Rattle.lag_search.specs.Search.{winningLag}
 
 -- "w = min(4, n div (max_lag+2))"
 unfoldable pub windowsOf : (n maxLag : ℕ) → ℕ

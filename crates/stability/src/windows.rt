@@ -5,12 +5,12 @@
 use lag_curves::fill_clarity;
 use lag_curves::fill_priors;
 use lag_curves::weigh;
+use lag_search::LEAST_ENERGY;
+use lag_search::lag_of_winner;
 use lag_sums::energy_of;
 use lag_sums::mean_of;
 use lags::pairs::fold_fits;
 use lags::room_of;
-use tempo::search::LEAST_ENERGY;
-use tempo::search::lag_of_winner;
 ghost use mathlib.Core.Path.{_≡_};
 ghost use Prim.Native.Nat.{ℕ, _+_, _*_, _≤_, _<_};
 ghost use lib.ListN.{length};

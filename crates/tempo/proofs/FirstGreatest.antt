@@ -32,13 +32,14 @@ use Rattle.lag_sums.specs.Sums.{meanOf, leastEnergy}
 use Rattle.lag_curves.specs.Curves.{centre, width, priorAt, clarityAt, weightAt}
 use Rattle.lags.proofs.Ranges.{range-of, fine-rate}
 use Rattle.lag_curves.proofs.CurveSizes.{mean-within, energy-within, clarity-low, clarity-high}
-use Rattle.tempo.specs.Candidates.{winnerOf}
-use Rattle.tempo.specs.Search.{weightRule, weightCurve, ac0Of, flat, winnerAbove}
+use Rattle.candidates.specs.Candidates.{winnerOf}
+use Rattle.lag_search.specs.Search.{weightRule, weightCurve, ac0Of, flat, winnerAbove}
 use Rattle.tempo.specs.Answers.{searchRefusal, tooLittle, unwritten}
-use Rattle.tempo.proofs.Choices.{or-left, or-right}
+use Rattle.candidates.proofs.Choices.{or-left, or-right}
 use Rattle.tempo.proofs.Refusals.{accepted}
 use Rattle.tempo.proofs.Tells.{long-enough}
-use Rattle.tempo.proofs.Winners.{FirstGreatest, winner-is-first-greatest, none-above}
+use Rattle.candidates.proofs.Winners.{FirstGreatest, winner-is-first-greatest}
+use Rattle.lag_search.proofs.Winners.{none-above}
 
 -- ---- the prior
 

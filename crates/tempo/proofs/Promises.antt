@@ -25,12 +25,12 @@ use Rattle.tempo.specs.declared.Candidate.{Candidate}
 use Rattle.tempo.specs.declared.Tempo.{Tempo}
 use Rattle.tempo.specs.declared.Tempo.the-variants.{None, Found}
 use Rattle.tempo.specs.declared.TempoEstimate.{TempoEstimate}
-use Rattle.tempo.specs.Candidates.{winnerOf, ranked, standsApart, acceptedOf, candidatesOf}
-use Rattle.tempo.specs.Search.{weightRule, clarityCurve, weightCurve, winnerAbove}
+use Rattle.candidates.specs.Candidates.{winnerOf, ranked, standsApart, acceptedOf, candidatesOf}
+use Rattle.lag_search.specs.Search.{weightRule, clarityCurve, weightCurve, winnerAbove}
 use Rattle.tempo.specs.Answers.{unused, candidateAt, pairsOf, withoutTempo, foundOf, unwritten, tempoOf, searchRefusal, estimateOf, Estimated}
-use Rattle.tempo.proofs.Choices.{by-pick}
-use Rattle.tempo.proofs.Winners.{winner-below}
-use Rattle.tempo.proofs.Rankings.{ranked-below}
+use Rattle.candidates.proofs.Choices.{by-pick}
+use Rattle.candidates.proofs.Winners.{winner-below}
+use Rattle.candidates.proofs.Rankings.{ranked-below}
 use Rattle.tempo.proofs.Refusals.{accepted}
 
 -- any two outcomes that the promise permits coincide

@@ -18,13 +18,13 @@ use Rattle.lags.specs.declared.TempoOpts.{TempoOpts}
 use Rattle.lags.specs.declared.LagRange.{LagRange}
 use Rattle.lags.specs.Lags.{minLag, maxLag, lagRoom}
 use Rattle.tempo.specs.declared.TempoEstimate.{TempoEstimate}
-use Rattle.tempo.specs.Candidates.{winnerOf}
-use Rattle.tempo.specs.Search.{flat, clarityRule, weightRule, clarityCurve, weightCurve, winnerAbove, winnerLag, winningLag, Searched}
+use Rattle.candidates.specs.Candidates.{winnerOf}
+use Rattle.lag_search.specs.Search.{flat, clarityRule, weightRule, clarityCurve, weightCurve, winnerAbove, winnerLag, winningLag, Searched}
 use Rattle.tempo.specs.Answers.{withoutTempo, foundOf, tooLittle, unwritten, tempoOf, curveOf, Told, searchRefusal, estimateOf, Estimated}
-use Rattle.tempo.proofs.Choices.{or-right}
-use Rattle.tempo.proofs.Winners.{winner-below}
+use Rattle.candidates.proofs.Choices.{or-right}
+use Rattle.candidates.proofs.Winners.{winner-below}
 use Rattle.tempo.proofs.Refusals.{Ranged}
-use Rattle.tempo.proofs.Searches.{curve-part}
+use Rattle.lag_search.proofs.Searches.{curve-part}
 
 -- an envelope that is searched is longer than each lag
 pub long-enough : (n onsets maxLag : ℕ) → tooLittle n onsets maxLag ≡ false → maxLag + 1 < n

@@ -16,8 +16,8 @@ use Rattle.tempo.specs.declared.Candidate.{Candidate}
 use Rattle.tempo.specs.declared.Tempo.{Tempo}
 use Rattle.tempo.specs.declared.Tempo.the-variants.{None, Found}
 use Rattle.tempo.specs.declared.TempoEstimate.{TempoEstimate}
-use Rattle.tempo.specs.Candidates.{winnerOf, candidatesOf}
-use Rattle.tempo.specs.Search.{flat, clarityRule, weightRule, clarityCurve, weightCurve, winnerAbove}
+use Rattle.candidates.specs.Candidates.{winnerOf, candidatesOf}
+use Rattle.lag_search.specs.Search.{flat, clarityRule, weightRule, clarityCurve, weightCurve, winnerAbove}
 
 -- ---- refusals
 

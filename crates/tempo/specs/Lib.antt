@@ -1,3 +1,1 @@
-pub mod Candidates
-pub mod Search
 pub mod Answers

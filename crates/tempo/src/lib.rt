@@ -1,8 +1,8 @@
 // Tempo: how fast the pulse of an envelope is, and which other tempos it may be heard at.
 //
 // Document 01, Tempo and candidates. The Rust: tempo.rs `pick_tempo_peaks`.
-use crate::peaks::first_apart;
-use crate::search::winning_lag;
+use candidates::first_apart;
+use lag_search::winning_lag;
 use lags::TempoOpts;
 use lags::bounds_fine;
 use lags::bpm_at;
@@ -19,7 +19,7 @@ ghost use Prim.Native.Nat.{ℕ, _+_, _≤_, _<_};
 ghost use lib.ListN.{length};
 ghost use Rattle.numbers.specs.Limits.{mostPeriod};
 ghost use Rattle.lags.specs.Lags.{lagRoom, boundsFine};
-ghost use Rattle.tempo.specs.Candidates.{winnerOf};
+ghost use Rattle.candidates.specs.Candidates.{winnerOf};
 ghost use Rattle.tempo.specs.Answers.{
   searchRoom,
   searchRefusal,
@@ -30,9 +30,6 @@ ghost use Rattle.tempo.specs.Answers.{
   Told,
   Estimated,
 };
-
-pub mod peaks;
-pub mod search;
 
 // A tempo that the envelope may be heard at: its lag in frames, and its clarity, 0 to 1.
 pub struct Candidate {

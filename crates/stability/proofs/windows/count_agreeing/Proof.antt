@@ -8,7 +8,7 @@ use native.Mathlib.Omega.{arith}
 use lib.ListN.{length}
 use lib.Ieee.{Float}
 use Rattle.lags.specs.Lags.{lagRoom}
-use Rattle.tempo.specs.Search.{winningLag}
+use Rattle.lag_search.specs.Search.{winningLag}
 use Rattle.stability.specs.Windows.{windowAt, agreeingTo, Open}
 use Rattle.stability.proofs.Rooms.{open-same, open-then, open-filled}
 use Rattle.stability.proofs.Parts.{window-ends, part-is, part-long, next-without, next-counted, one-most}

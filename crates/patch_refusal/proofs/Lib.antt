@@ -1,0 +1,2 @@
+-- What number 0 says, for the crates that cite it.
+pub mod Asked
