@@ -13,13 +13,15 @@ use Rattle.lags.specs.declared.TempoOpts.{TempoOpts}
 use Rattle.tempo.specs.Answers.{unused}
 use Rattle.tempo.proofs.Promises.{isFound, tempo-has-lag}
 use Rattle.stability.specs.Windows.{Open}
-use Rattle.analysis.specs.declared.Analysis.{Analysis}
-use Rattle.analysis.specs.Rooms.{Results, Spare, magnitudesNumber}
-use Rattle.analysis.specs.Analyses.{onsetsIn, estimateIn, periodIn, withoutAnalysis, Analysed, AnalysedEnvelope, AnalysedMagnitudes}
-use Rattle.analysis.specs.Inner.{Ready}
-use Rattle.analysis.proofs.Lists.{written-part}
-use Rattle.analysis.proofs.Rooms.{Told, told, flux-ready, flux-taken}
-use Rattle.analysis.proofs.Following.{analysed-refused, analysed-passed}
+use Rattle.track.specs.declared.Analysis.{Analysis}
+use Rattle.rooms.specs.Rooms.{Results, Spare, magnitudesNumber}
+use Rattle.track_parts.specs.Parts.{onsetsIn}
+use Rattle.track.specs.Analyses.{estimateIn, periodIn, withoutAnalysis, Analysed}
+use Rattle.analysis.specs.Analyses.{AnalysedEnvelope, AnalysedMagnitudes}
+use Rattle.rooms.specs.Inner.{Ready}
+use Rattle.track_parts.proofs.Lists.{written-part}
+use Rattle.rooms.proofs.Rooms.{told, flux-ready, flux-taken}
+use Rattle.track.proofs.Whole.{analysed-refused, analysed-passed}
 
 -- ---- any two outcomes
 

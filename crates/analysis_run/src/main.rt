@@ -4,11 +4,11 @@
 // The clicks are four frames apart, from frame 1 on, at rate 2,048: eight frames a second, so 120 beats a minute. The lags are 2 to 16.
 ghost use Prim.Native.Nat.{_≤_};
 ghost use lib.ListN.{length};
-use analysis::Analysis;
 use lags::TempoOpts;
 use stability::Stability;
 use tempo::Candidate;
 use tempo::Tempo;
+use track::Analysis;
 
 fn tempo_is(t: Tempo) {
     match t {
@@ -436,7 +436,7 @@ fn magnitudes_lent(magnitudes: &[f32], rows: usize, bins: usize, flux: &mut [f64
 
 // The room of an analysis: number, N, L and the sorting room.
 fn named(label: &[u8], rows: usize, rate: u32, opts: TempoOpts) {
-    let r = analysis::room_of(rows, rate, opts);
+    let r = rooms::room_of(rows, rate, opts);
     show::words(label);
     show::small(r.number);
     show::count(r.rows);

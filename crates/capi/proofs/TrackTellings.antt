@@ -6,9 +6,10 @@ use lib.ListN.{length, drop}
 use lib.Ieee.{Float}
 use Rattle.numbers.specs.Refusals.{unlessRefused}
 use Rattle.lags.specs.declared.TempoOpts.{TempoOpts}
-use Rattle.analysis.specs.declared.Analysis.{Analysis}
-use Rattle.analysis.specs.Rooms.{Results, Spare}
-use Rattle.analysis.specs.Analyses.{analysisOf, withoutAnalysis, openLags, openWork, Analysed, AnalysedMagnitudes}
+use Rattle.track.specs.declared.Analysis.{Analysis}
+use Rattle.rooms.specs.Rooms.{Results, Spare}
+use Rattle.track.specs.Analyses.{analysisOf, withoutAnalysis, openLags, openWork, Analysed}
+use Rattle.analysis.specs.Analyses.{AnalysedMagnitudes}
 use Rattle.analysis.proofs.Promises.{open-coincide}
 use Rattle.capi.specs.Handed.{Handed}
 use Rattle.capi.specs.Tempos.{TempoLent, tempoLent, ShareLent}

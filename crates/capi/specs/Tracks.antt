@@ -1,4 +1,4 @@
--- The C interface to crate analysis: `room_of`, `analyse_envelope` and `analyse_magnitudes`.
+-- The C interface to `room_of` of crate rooms, and to `analyse_envelope` and `analyse_magnitudes` of crate analysis.
 use Prim.Native.Nat.{ℕ}
 use mathlib.Core.Path.{_≡_}
 use mathlib.Core.List.{List}
@@ -7,10 +7,10 @@ use Rattle.numbers.specs.Lists.{curve, filled}
 use Rattle.numbers.specs.Refusals.{unlessRefused}
 use Rattle.flux.specs.Flux.{fluxAt}
 use Rattle.lags.specs.declared.TempoOpts.{TempoOpts}
-use Rattle.analysis.specs.declared.Analysis.{Analysis}
-use Rattle.analysis.specs.declared.Room.{Room}
-use Rattle.analysis.specs.Rooms.{Results, Spare, envelopeNumber, magnitudesNumber}
-use Rattle.analysis.specs.Analyses.{analysisOf, withoutAnalysis, Analysed}
+use Rattle.track.specs.declared.Analysis.{Analysis}
+use Rattle.rooms.specs.declared.Room.{Room}
+use Rattle.rooms.specs.Rooms.{Results, Spare, envelopeNumber, magnitudesNumber}
+use Rattle.track.specs.Analyses.{analysisOf, withoutAnalysis, Analysed}
 use Rattle.capi.specs.Handed.{Handed}
 use Rattle.capi.specs.Tempos.{TempoLent, tempoLent, foundIn, bpmIn, clarityIn, lagsOf, saliencesOf, ShareLent, shareLent, shareParts}
 
@@ -57,7 +57,7 @@ trackParts a =
       downbeats = a .downbeats;
     }
 
--- An analysis of `env` with this number, as `Analysed` of crate analysis has it: the lent numbers hold the parts of its answer, and the slices
+-- An analysis of `env` with this number, as `Analysed` of crate track has it: the lent numbers hold the parts of its answer, and the slices
 -- are as that call leaves them.
 pub record TrackTold
     (number : ℕ) (env : List Float) (rate : ℕ) (o : TempoOpts) (was : Results) (spare : Spare) (lent₀ : TrackLent)

@@ -1,13 +1,13 @@
-// The calls of crate analysis, for C: one whole track in one call, and the room that it needs.
+// The calls of crates analysis and rooms, for C: one whole track in one call, and the room that it needs.
 use crate::tempos::put_candidates;
 use crate::tempos::put_stability;
 use crate::tempos::put_tempo;
-use analysis::Analysis;
-use analysis::Room;
 use lags::TempoOpts;
+use rooms::Room;
+use track::Analysis;
 ghost use mathlib.Core.Path.{_≡_};
 ghost use Rattle.lags.specs.Options.{optionsOf};
-ghost use Rattle.analysis.specs.Rooms.{results, spare, roomOf};
+ghost use Rattle.rooms.specs.Rooms.{results, spare, roomOf};
 ghost use Rattle.capi.specs.Handed.{Handed};
 ghost use Rattle.capi.specs.Tracks.{roomLent, roomParts, trackLent, trackParts, EnvelopePromise, MagnitudesPromise};
 
@@ -24,7 +24,7 @@ fn put_room(room: Room, row_slots: &mut usize, lag_slots: &mut usize, work_slots
     0
 }
 
-// `analysis::room_of`, for C.
+// `rooms::room_of`, for C.
 #[no_mangle]
 pub extern "C" fn ph_room_of(
     rows: usize,
@@ -38,7 +38,7 @@ pub extern "C" fn ph_room_of(
     ensures { λ r. ⌜ Handed (roomOf rows rate (optionsOf «min_bpm» «max_bpm») .number) (roomParts (roomOf rows rate (optionsOf «min_bpm» «max_bpm»))) (roomLent (now («row_slots» .entry)) (now («lag_slots» .entry)) (now («work_slots» .entry))) r (roomLent (now («row_slots» .exit)) (now («lag_slots» .exit)) (now («work_slots» .exit))) ⌝ }
 {
     put_room(
-        analysis::room_of(rows, rate, TempoOpts::between(min_bpm, max_bpm)),
+        rooms::room_of(rows, rate, TempoOpts::between(min_bpm, max_bpm)),
         row_slots,
         lag_slots,
         work_slots,

@@ -48,10 +48,11 @@ use Rattle.patch_magnitudes.proofs.Outcomes as magnitude-outcomes
 use Rattle.patch_features.specs.Features as features
 use Rattle.patch_features.specs.declared.PatchedFeatures.{PatchedFeatures}
 use Rattle.patch_features.proofs.Outcomes as feature-outcomes
-use Rattle.analysis.specs.Rooms.{Results, Spare, roomOf, magnitudesNumber}
-use Rattle.analysis.specs.Analyses.{openLags, openWork, Analysed, AnalysedMagnitudes}
-use Rattle.analysis.specs.declared.Analysis.{Analysis}
-use Rattle.analysis.specs.declared.Room.{Room}
+use Rattle.rooms.specs.Rooms.{Results, Spare, roomOf, magnitudesNumber}
+use Rattle.track.specs.Analyses.{openLags, openWork, Analysed}
+use Rattle.analysis.specs.Analyses.{AnalysedMagnitudes}
+use Rattle.track.specs.declared.Analysis.{Analysis}
+use Rattle.rooms.specs.declared.Room.{Room}
 use Rattle.analysis.proofs.Promises as analyses
 
 -- `lag_range`, `room_of`, `bar_beat_at`

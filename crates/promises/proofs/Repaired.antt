@@ -27,9 +27,9 @@ use Rattle.patch_refusal.specs.Tracks.{Track, track, numberOf}
 use Rattle.patch_magnitudes.specs.Magnitudes.{fluxFirst, fluxPast, thresholdFirst, thresholdPast, answered, Patches}
 use Rattle.patch_magnitudes.specs.Runs.{fluxCurve, thresholdCurve, Fresh, Kept, Sound, Good, analysed, Ran}
 use Rattle.patch_magnitudes.proofs.Repairs as repairs
-use Rattle.analysis.specs.Rooms.{Results, Spare, magnitudesNumber}
+use Rattle.rooms.specs.Rooms.{Results, Spare, magnitudesNumber}
 use Rattle.analysis.specs.Analyses.{AnalysedEnvelope, AnalysedMagnitudes}
-use Rattle.analysis.specs.declared.Analysis.{Analysis}
+use Rattle.track.specs.declared.Analysis.{Analysis}
 use Rattle.analysis.proofs.Promises.{flux-is-the-envelope}
 use Rattle.promises.proofs.Determined.{listing, estimate, stability-of, beat-grid, downbeats, analysis}
 

@@ -27,12 +27,14 @@ use Rattle.stability.specs.declared.Stability.the-variants.{None, Share}
 use Rattle.stability.specs.Windows.{windowsOf, agreeingTo}
 use Rattle.stability.specs.Answers.{shareOf}
 use Rattle.stability.proofs.Promises.{windows-most, agreeing-most}
-use Rattle.analysis.specs.declared.Analysis.{Analysis}
-use Rattle.analysis.specs.declared.Room.{Room}
-use Rattle.analysis.specs.Rooms.{Results, Spare, frameSlots, lagSlots, lagsOf, numbersFine, roomOf, suffices, envelopeRefusal, envelopeNumber}
-use Rattle.analysis.specs.Analyses.{onsetsIn, estimateIn, periodIn, beatsIn, downbeatsIn, analysisOf, writtenIn, AnalysedEnvelope}
-use Rattle.analysis.proofs.Numbers.{inBounds, by-bounds, room-inside}
-use Rattle.analysis.proofs.Rooms.{Enough, enough-suffices}
+use Rattle.track.specs.declared.Analysis.{Analysis}
+use Rattle.rooms.specs.declared.Room.{Room}
+use Rattle.rooms.specs.Rooms.{Results, Spare, frameSlots, lagSlots, lagsOf, numbersFine, roomOf, suffices, envelopeRefusal, envelopeNumber}
+use Rattle.track_parts.specs.Parts.{onsetsIn}
+use Rattle.track.specs.Analyses.{estimateIn, periodIn, beatsIn, downbeatsIn, analysisOf, writtenIn}
+use Rattle.analysis.specs.Analyses.{AnalysedEnvelope}
+use Rattle.rooms.proofs.Numbers.{inBounds, by-bounds, room-inside}
+use Rattle.rooms.proofs.Rooms.{Enough, enough-suffices}
 use Rattle.report.specs.Input.{mostReported}
 use Rattle.report_text.specs.Text.{reportText, reportRoom, Put}
 use Rattle.report_text.proofs.Puts.{put-as}

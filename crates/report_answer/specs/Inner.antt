@@ -7,7 +7,7 @@ use lib.ListN.{length, getD, take}
 use lib.Ieee.{Float}
 use Rattle.numbers.specs.Limits.{mostPeriod}
 use Rattle.tempo.specs.declared.Candidate.{Candidate}
-use Rattle.analysis.specs.declared.Analysis.{Analysis}
+use Rattle.track.specs.declared.Analysis.{Analysis}
 use Rattle.report.specs.Input.{mostReported}
 use Rattle.report_text.specs.Text.{reportText}
 use Rattle.report_answer.specs.Reports.{candidateLags, agreeingIn, windowsIn}

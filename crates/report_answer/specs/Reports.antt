@@ -12,7 +12,8 @@ use Rattle.tempo.specs.declared.TempoEstimate.{TempoEstimate}
 use Rattle.stability.specs.declared.Stability.{Stability}
 use Rattle.stability.specs.declared.Stability.the-variants.{None, Share}
 use Rattle.stability.specs.Answers.{shareOf}
-use Rattle.analysis.specs.Analyses.{onsetsIn, estimateIn, periodIn, beatsIn, downbeatsIn}
+use Rattle.track_parts.specs.Parts.{onsetsIn}
+use Rattle.track.specs.Analyses.{estimateIn, periodIn, beatsIn, downbeatsIn}
 use Rattle.report.specs.Input.{mostReported, reportNumber, reportFlux}
 use Rattle.report_text.specs.Text.{reportText, refusalText, reportRoom}
 

@@ -2,13 +2,13 @@
 //
 // Document 01, The reporting program: rate 48,000, the default options, at most 8,000 rows. Inner calls all. The analysis is lent room from one
 // function to the next: its curves first, then its lists.
-use analysis::Analysis;
 use analysis::analyse_envelope;
 use lags::TempoOpts;
 use report::MOST_REPORTED;
 use report_text::put_report;
 use stability::Stability;
 use tempo::Candidate;
+use track::Analysis;
 ghost use mathlib.Core.Path.{_≡_};
 ghost use mathlib.Core.Bool.{true};
 ghost use Prim.Native.Nat.{_≤_};

@@ -1,8 +1,8 @@
 -- `analysis::analyse_envelope` meets its contract: a number other than 0 returns at once, and number 0 says all that the inner call asks
 -- (`ready-of`). Assumes nothing.
 use mathlib.Core.Path.{sym, _∙_}
-use Rattle.analysis.proofs.Rooms.{ready-of}
-use Rattle.analysis.proofs.Following.{analysed-refused, analysed-passed}
+use Rattle.rooms.proofs.Rooms.{ready-of}
+use Rattle.track.proofs.Whole.{analysed-refused, analysed-passed}
 use borrow.Author.Needs.{needs}
 use Rattle.analysis.proofs.analyse_envelope.Statement.{statement}
 use Rattle.analysis.proofs.analyse_envelope.Tie as tie

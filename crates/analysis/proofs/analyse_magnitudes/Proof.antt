@@ -2,7 +2,7 @@
 -- its slice that is then lent is a flux that the inner call takes (`lent-ready`). Assumes nothing.
 use mathlib.Core.Path.{sym, _∙_}
 use native.Mathlib.Omega.{arith}
-use Rattle.analysis.proofs.Numbers.{flux-asks}
+use Rattle.rooms.proofs.Numbers.{flux-asks}
 use Rattle.analysis.proofs.Promises.{magnitudes-refused, lent-ready, magnitudes-passed}
 use borrow.Author.Needs.{needs}
 use Rattle.analysis.proofs.analyse_magnitudes.Statement.{statement}

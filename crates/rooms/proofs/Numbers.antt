@@ -1,0 +1,202 @@
+-- The numbers of the calls: what the room is where the numbers are in bounds, and each row of the table. Assumes nothing.
+use mathlib.Core.Path.{_≡_, refl, sym, ap, _∙_}
+use mathlib.Core.Bool.{Bool, true, false, _&&_}
+use mathlib.Core.List.{List}
+use mathlib.Core.Logic.{⊎-elim}
+use Prim.Native.Nat.{ℕ, _*_, _≤_, _<_, max}
+use native.Mathlib.Omega.{arith}
+use borrow.Author.Tests.{leb-true, le-leb, lt-leb, eqb-true, eq-eqb, ne-eqb}
+use lib.Dec.{leb, eqb}
+use lib.ListN.{length}
+use lib.Ieee.{Float}
+use Rattle.numbers.specs.Limits.{mostRows, mostBins, between, magnitudeFine, valueFine}
+use Rattle.numbers.specs.Lists.{every}
+use Rattle.numbers.proofs.Tests.{which, and-left, and-right, and-both, and-held, and-failed, pick-true, pick-false, lowest-zero, lowest-0, lowest-1, lowest-2, lowest-3, lowest-4}
+use Rattle.threshold.specs.Threshold.{windowRoom}
+use Rattle.lags.specs.declared.TempoOpts.{TempoOpts}
+use Rattle.lags.specs.Lags.{boundsFine}
+use Rattle.rooms.specs.declared.Room.{Room}
+use Rattle.rooms.specs.Rooms.{lagsOf, sortingOf, numbersFine, roomOf, suffices, envelopeRefusal, magnitudesRefusal}
+
+-- the room that is named where the numbers are in bounds, and where they are not
+abbrev pub inBounds : (rows rate : ℕ) → TempoOpts → Room
+inBounds rows rate o = record { number = 0; rows = rows; lags = lagsOf rate o; sorting = sortingOf rows (lagsOf rate o) }
+
+abbrev pub outside : Room
+outside = record { number = 1; rows = 0; lags = 0; sorting = 0 }
+
+module _ (rows rate : ℕ) (o : TempoOpts) where
+  pub too-long : mostRows < rows → numbersFine rows rate o ≡ false
+  unfolding numbersFine
+  too-long h = let e = lt-leb rows mostRows h in sym (and-failed (leb rows mostRows) (boundsFine rate o) e) ∙ e
+
+  pub by-bounds : rows ≤ mostRows → numbersFine rows rate o ≡ boundsFine rate o
+  unfolding numbersFine
+  by-bounds h = sym (and-held (leb rows mostRows) (boundsFine rate o) (le-leb rows mostRows h))
+
+  pub rows-fine : numbersFine rows rate o ≡ true → rows ≤ mostRows
+  unfolding numbersFine
+  rows-fine e = leb-true rows mostRows (and-left (leb rows mostRows) (boundsFine rate o) e)
+
+  pub bounds-fine : numbersFine rows rate o ≡ true → boundsFine rate o ≡ true
+  unfolding numbersFine
+  bounds-fine e = and-right (leb rows mostRows) (boundsFine rate o) e
+
+  pub room-inside : numbersFine rows rate o ≡ true → roomOf rows rate o ≡ inBounds rows rate o
+  unfolding roomOf
+  room-inside e = pick-true (numbersFine rows rate o) (inBounds rows rate o) outside e
+
+  pub room-outside : numbersFine rows rate o ≡ false → roomOf rows rate o ≡ outside
+  unfolding roomOf
+  room-outside e = pick-false (numbersFine rows rate o) (inBounds rows rate o) outside e
+
+  -- the room that is computed
+  pub named-room : (lags sorting least : ℕ) → rows ≤ mostRows → boundsFine rate o ≡ true → lags ≡ lagsOf rate o → least ≡ windowRoom rows → sorting ≡ max lags least
+      → _≡_ {A = Room} (record { number = 0; rows = rows; lags = lags; sorting = sorting }) (roomOf rows rate o)
+  named-room lags sorting least h fine l m s =
+      ap (λ (k : ℕ). record { number = 0; rows = rows; lags = lags; sorting = k }) (s ∙ ap (max lags) m)
+      ∙ ap (λ (k : ℕ). record { number = 0; rows = rows; lags = k; sorting = sortingOf rows k }) l
+      ∙ sym (room-inside (by-bounds h ∙ fine))
+
+-- ---- number 3
+
+module _ (room : Room) (frames lags : List ℕ) (work : ℕ) where
+  pub frames-short : every (leb (room .rows)) frames ≡ false → every (leb (room .rows)) frames ≡ suffices room frames lags work
+  unfolding suffices
+  frames-short e = and-failed (every (leb (room .rows)) frames) (every (leb (room .lags)) lags && leb (room .sorting) work) e
+
+  module _ (f : every (leb (room .rows)) frames ≡ true) where
+    pub lags-short : every (leb (room .lags)) lags ≡ false → every (leb (room .lags)) lags ≡ suffices room frames lags work
+    unfolding suffices
+    lags-short e =
+        and-failed (every (leb (room .lags)) lags) (leb (room .sorting) work) e
+        ∙ and-held (every (leb (room .rows)) frames) (every (leb (room .lags)) lags && leb (room .sorting) work) f
+
+    pub by-work : every (leb (room .lags)) lags ≡ true → leb (room .sorting) work ≡ suffices room frames lags work
+    unfolding suffices
+    by-work e =
+        and-held (every (leb (room .lags)) lags) (leb (room .sorting) work) e
+        ∙ and-held (every (leb (room .rows)) frames) (every (leb (room .lags)) lags && leb (room .sorting) work) f
+
+-- ---- each row of the table
+
+-- the numbers are in bounds where the room was named
+module _ (rows rate : ℕ) (o : TempoOpts) (room : Room) (is : room ≡ roomOf rows rate o) where
+  pub named : room .number ≡ 0 → numbersFine rows rate o ≡ true
+  named z = ⊎-elim (λ e. e) (λ e. let n : room .number ≡ 1 = ap (λ (r : Room). r .number) (is ∙ room-outside rows rate o e) in absurd (omega arith)) (which (numbersFine rows rate o))
+
+  pub unnamed : (room .number ≡ 0 → ⊥) → numbersFine rows rate o ≡ false
+  unnamed h = ⊎-elim (λ e. absurd (h (ap (λ (r : Room). r .number) (is ∙ room-inside rows rate o e)))) (λ e. e) (which (numbersFine rows rate o))
+
+module _ (env : List Float) (rate : ℕ) (o : TempoOpts) (frames lags : List ℕ) (work : ℕ) (room : Room) (is : room ≡ roomOf (length env) rate o) where
+  abbrev fine : Bool
+  fine = numbersFine (length env) rate o
+
+  abbrev roomy : Bool
+  roomy = suffices (roomOf (length env) rate o) frames lags work
+
+  abbrev valued : Bool
+  valued = every valueFine env
+
+  pub envelope-1 : (room .number ≡ 0 → ⊥) → 1 ≡ envelopeRefusal env rate o frames lags work
+  unfolding envelopeRefusal
+  envelope-1 h = sym (lowest-1 fine true roomy valued (unnamed (length env) rate o room is h))
+
+  module _ (z : room .number ≡ 0) (b : Bool) (asked : b ≡ suffices room frames lags work) where
+    room-is : roomy ≡ b
+    room-is = sym (asked ∙ ap (λ (r : Room). suffices r frames lags work) is)
+
+    pub envelope-3 : b ≡ false → 3 ≡ envelopeRefusal env rate o frames lags work
+    unfolding envelopeRefusal
+    envelope-3 e = sym (lowest-3 fine true roomy valued (named (length env) rate o room is z) refl (room-is ∙ e))
+
+    pub envelope-4 : b ≡ true → valued ≡ false → 4 ≡ envelopeRefusal env rate o frames lags work
+    unfolding envelopeRefusal
+    envelope-4 e v = sym (lowest-4 fine true roomy valued (named (length env) rate o room is z) refl (room-is ∙ e) v)
+
+    pub envelope-0 : b ≡ true → valued ≡ true → 0 ≡ envelopeRefusal env rate o frames lags work
+    unfolding envelopeRefusal
+    envelope-0 e v = sym (lowest-0 fine true roomy valued (named (length env) rate o room is z) refl (room-is ∙ e) v)
+
+module _
+    (magnitudes : List Float) (rows bins rate : ℕ) (o : TempoOpts) (flux : ℕ) (frames lags : List ℕ) (work : ℕ)
+    (room : Room) (is : room ≡ roomOf rows rate o) where
+  abbrev bounds : Bool
+  bounds = numbersFine rows rate o && between 1 mostBins bins
+
+  abbrev whole : Bool
+  whole = eqb (length magnitudes) (rows * bins)
+
+  abbrev wide : Bool
+  wide = leb rows flux && suffices (roomOf rows rate o) frames lags work
+
+  abbrev loud : Bool
+  loud = every magnitudeFine magnitudes
+
+  -- outside the bounds
+  refused-1 : bounds ≡ false → 1 ≡ magnitudesRefusal magnitudes rows bins rate o flux frames lags work
+  unfolding magnitudesRefusal
+  refused-1 e = sym (lowest-1 bounds whole wide loud e)
+
+  pub magnitudes-1 : (room .number ≡ 0 → ⊥) → 1 ≡ magnitudesRefusal magnitudes rows bins rate o flux frames lags work
+  magnitudes-1 h = let e = unnamed rows rate o room is h in refused-1 (sym (and-failed (numbersFine rows rate o) (between 1 mostBins bins) e) ∙ e)
+
+  module _ (z : room .number ≡ 0) where
+    held : (b : Bool) → between 1 mostBins bins ≡ b → bounds ≡ b
+    held b e = sym (and-held (numbersFine rows rate o) (between 1 mostBins bins) (named rows rate o room is z)) ∙ e
+
+    pub few-bins : bins < 1 → 1 ≡ magnitudesRefusal magnitudes rows bins rate o flux frames lags work
+    few-bins h = let e = lt-leb 1 bins h in refused-1 (held false (sym (and-failed (leb 1 bins) (leb bins mostBins) e) ∙ e))
+
+    pub many-bins : 1 ≤ bins → mostBins < bins → 1 ≡ magnitudesRefusal magnitudes rows bins rate o flux frames lags work
+    many-bins l h = refused-1 (held false (sym (and-held (leb 1 bins) (leb bins mostBins) (le-leb 1 bins l)) ∙ lt-leb bins mostBins h))
+
+    module _ (l : 1 ≤ bins) (m : bins ≤ mostBins) where
+      inside : bounds ≡ true
+      inside = held true (and-both (leb 1 bins) (leb bins mostBins) (le-leb 1 bins l) (le-leb bins mostBins m))
+
+      pub magnitudes-2 : (length magnitudes ≡ rows * bins → ⊥) → 2 ≡ magnitudesRefusal magnitudes rows bins rate o flux frames lags work
+      unfolding magnitudesRefusal
+      magnitudes-2 h = sym (lowest-2 bounds whole wide loud inside (ne-eqb (length magnitudes) (rows * bins) h))
+
+      module _ (w : length magnitudes ≡ rows * bins) where
+        refused-3 : wide ≡ false → 3 ≡ magnitudesRefusal magnitudes rows bins rate o flux frames lags work
+        unfolding magnitudesRefusal
+        refused-3 e = sym (lowest-3 bounds whole wide loud inside (eq-eqb (length magnitudes) (rows * bins) w) e)
+
+        pub flux-short : flux < rows → 3 ≡ magnitudesRefusal magnitudes rows bins rate o flux frames lags work
+        flux-short h = let e = lt-leb rows flux h in refused-3 (sym (and-failed (leb rows flux) (suffices (roomOf rows rate o) frames lags work) e) ∙ e)
+
+        module _ (f : rows ≤ flux) (b : Bool) (asked : b ≡ suffices room frames lags work) where
+          wide-is : wide ≡ b
+          wide-is =
+              sym (asked ∙ ap (λ (r : Room). suffices r frames lags work) is ∙ and-held (leb rows flux) (suffices (roomOf rows rate o) frames lags work) (le-leb rows flux f))
+
+          pub magnitudes-3 : b ≡ false → 3 ≡ magnitudesRefusal magnitudes rows bins rate o flux frames lags work
+          magnitudes-3 e = refused-3 (wide-is ∙ e)
+
+          pub magnitudes-4 : b ≡ true → loud ≡ false → 4 ≡ magnitudesRefusal magnitudes rows bins rate o flux frames lags work
+          unfolding magnitudesRefusal
+          magnitudes-4 e v = sym (lowest-4 bounds whole wide loud inside (eq-eqb (length magnitudes) (rows * bins) w) (wide-is ∙ e) v)
+
+          pub magnitudes-0 : b ≡ true → loud ≡ true → 0 ≡ magnitudesRefusal magnitudes rows bins rate o flux frames lags work
+          unfolding magnitudesRefusal
+          magnitudes-0 e v = sym (lowest-0 bounds whole wide loud inside (eq-eqb (length magnitudes) (rows * bins) w) (wide-is ∙ e) v)
+
+-- what number 0 says of the flux
+pub record FluxAsks (magnitudes : List Float) (rows bins flux : ℕ) : Type 0 where
+  pub whole : length magnitudes ≡ rows * bins
+  pub loud : every magnitudeFine magnitudes ≡ true
+  pub room : rows ≤ flux
+
+pub flux-asks : (magnitudes : List Float) (rows bins rate : ℕ) (o : TempoOpts) (flux : ℕ) (frames lags : List ℕ) (work : ℕ)
+    → magnitudesRefusal magnitudes rows bins rate o flux frames lags work ≡ 0 → FluxAsks magnitudes rows bins flux
+unfolding magnitudesRefusal
+flux-asks magnitudes rows bins rate o flux frames lags work e =
+    let suffice = suffices (roomOf rows rate o) frames lags work in
+    let p = lowest-zero (numbersFine rows rate o && between 1 mostBins bins) (eqb (length magnitudes) (rows * bins)) (leb rows flux && suffice) (every magnitudeFine magnitudes) e in
+    record {
+      whole = eqb-true _ _ (p .lengths);
+      loud = p .values;
+      room = leb-true rows flux (and-left (leb rows flux) suffice (p .room));
+    }

@@ -1,0 +1,271 @@
+-- How much room is enough, and how little is too little: what number 0 says of each slice that is lent, that with at least the room that
+-- `room_of` names number 3 is never given, and that with one slot fewer anywhere it is. Assumes nothing.
+use mathlib.Core.Path.{_≡_, refl, sym, ap, _∙_, subst}
+use mathlib.Core.Bool.{Bool, true, false, _&&_}
+use mathlib.Core.Logic.{_⊎_, inl, inr, ⊎-elim}
+use mathlib.Core.List.{List}
+use Prim.Native.Nat.{ℕ, _*_, _≤_, _<_}
+use native.Mathlib.Omega.{arith}
+use borrow.Author.Tests.{leb-true, le-leb, lt-leb, eqb-true, eq-eqb}
+use lib.Dec.{leb, eqb}
+use lib.ListN.{length}
+use lib.Ieee.{Float}
+use Rattle.numbers.specs.Refusals.{lowest}
+use Rattle.numbers.specs.Limits.{mostBins, between, magnitudeFine, valueFine}
+use Rattle.numbers.specs.Lists.{every, curve}
+use Rattle.numbers.proofs.Tests.{which, true-not-false, and-left, and-right, and-both, and-failed, lowest-zero, lowest-0, lowest-3}
+use Rattle.numbers.proofs.Tabs.{length-tab}
+use Rattle.flux.specs.Flux.{fluxAt}
+use Rattle.flux.proofs.Fluxes.{flux-curve-fine}
+use Rattle.lags.specs.declared.TempoOpts.{TempoOpts}
+use Rattle.rooms.specs.declared.Room.{Room}
+use Rattle.rooms.specs.Rooms.{Results, Spare, frameSlots, lagSlots, numbersFine, roomOf, suffices, envelopeRefusal, magnitudesRefusal, envelopeNumber, magnitudesNumber}
+use Rattle.rooms.specs.Inner.{Ready}
+use Rattle.rooms.proofs.Numbers.{inBounds, outside, rows-fine, bounds-fine, room-inside, room-outside}
+
+-- ---- enough, and too little
+
+-- each slice has at least the slots that a room names
+pub record Enough (room : Room) (r : Results) (s : Spare) : Type 0 where
+  pub threshold : room .rows ≤ length (r .threshold)
+  pub onsets : room .rows ≤ length (r .onsets)
+  pub score : room .rows ≤ length (r .score)
+  pub back : room .rows ≤ length (r .back)
+  pub beats : room .rows ≤ length (r .beats)
+  pub downbeats : room .rows ≤ length (r .downbeats)
+  pub clarity : room .lags ≤ length (r .clarity)
+  pub weight : room .lags ≤ length (r .weight)
+  pub window-clarity : room .lags ≤ length (s .windowClarity)
+  pub window-weight : room .lags ≤ length (s .windowWeight)
+  pub work : room .sorting ≤ length (s .work)
+
+-- some slice has fewer
+pub data Short (room : Room) (r : Results) (s : Spare) : Type 0 where
+  short-threshold : length (r .threshold) < room .rows → Short room r s
+  short-onsets : length (r .onsets) < room .rows → Short room r s
+  short-score : length (r .score) < room .rows → Short room r s
+  short-back : length (r .back) < room .rows → Short room r s
+  short-beats : length (r .beats) < room .rows → Short room r s
+  short-downbeats : length (r .downbeats) < room .rows → Short room r s
+  short-clarity : length (r .clarity) < room .lags → Short room r s
+  short-weight : length (r .weight) < room .lags → Short room r s
+  short-window-clarity : length (s .windowClarity) < room .lags → Short room r s
+  short-window-weight : length (s .windowWeight) < room .lags → Short room r s
+  short-work : length (s .work) < room .sorting → Short room r s
+
+module _ (room : Room) (r : Results) (s : Spare) where
+  abbrev enough? : Bool
+  enough? = suffices room (frameSlots r) (lagSlots r s) (length (s .work))
+
+  pub enough-suffices : Enough room r s → enough? ≡ true
+  unfolding suffices every
+  enough-suffices e =
+      rw (
+        le-leb _ _ (e .threshold),
+        le-leb _ _ (e .onsets),
+        le-leb _ _ (e .score),
+        le-leb _ _ (e .back),
+        le-leb _ _ (e .beats),
+        le-leb _ _ (e .downbeats),
+        le-leb _ _ (e .clarity),
+        le-leb _ _ (e .weight),
+        le-leb _ _ (e .window-clarity),
+        le-leb _ _ (e .window-weight),
+        le-leb _ _ (e .work),
+      ) refl
+
+  pub suffices-enough : enough? ≡ true → Enough room r s
+  unfolding suffices every
+  suffices-enough e =
+      let f = and-left (every (leb (room .rows)) (frameSlots r)) _ e in
+      let g = and-right (every (leb (room .rows)) (frameSlots r)) _ e in
+      let l = and-left (every (leb (room .lags)) (lagSlots r s)) _ g in
+      let f1 = and-right (leb (room .rows) (length (r .threshold))) _ f in
+      let f2 = and-right (leb (room .rows) (length (r .onsets))) _ f1 in
+      let f3 = and-right (leb (room .rows) (length (r .score))) _ f2 in
+      let f4 = and-right (leb (room .rows) (length (r .back))) _ f3 in
+      let f5 = and-right (leb (room .rows) (length (r .beats))) _ f4 in
+      let l1 = and-right (leb (room .lags) (length (r .clarity))) _ l in
+      let l2 = and-right (leb (room .lags) (length (r .weight))) _ l1 in
+      let l3 = and-right (leb (room .lags) (length (s .windowClarity))) _ l2 in
+      record {
+        threshold = leb-true _ _ (and-left (leb (room .rows) (length (r .threshold))) _ f);
+        onsets = leb-true _ _ (and-left (leb (room .rows) (length (r .onsets))) _ f1);
+        score = leb-true _ _ (and-left (leb (room .rows) (length (r .score))) _ f2);
+        back = leb-true _ _ (and-left (leb (room .rows) (length (r .back))) _ f3);
+        beats = leb-true _ _ (and-left (leb (room .rows) (length (r .beats))) _ f4);
+        downbeats = leb-true _ _ (and-left (leb (room .rows) (length (r .downbeats))) _ f5);
+        clarity = leb-true _ _ (and-left (leb (room .lags) (length (r .clarity))) _ l);
+        weight = leb-true _ _ (and-left (leb (room .lags) (length (r .weight))) _ l1);
+        window-clarity = leb-true _ _ (and-left (leb (room .lags) (length (s .windowClarity))) _ l2);
+        window-weight = leb-true _ _ (and-left (leb (room .lags) (length (s .windowWeight))) _ l3);
+        work = leb-true _ _ (and-right (every (leb (room .lags)) (lagSlots r s)) (leb (room .sorting) (length (s .work))) g);
+      }
+
+  enough-not-short : Enough room r s → Short room r s → ⊥
+  enough-not-short e (short-threshold h) = omega (arith, e .threshold)
+  enough-not-short e (short-onsets h) = omega (arith, e .onsets)
+  enough-not-short e (short-score h) = omega (arith, e .score)
+  enough-not-short e (short-back h) = omega (arith, e .back)
+  enough-not-short e (short-beats h) = omega (arith, e .beats)
+  enough-not-short e (short-downbeats h) = omega (arith, e .downbeats)
+  enough-not-short e (short-clarity h) = omega (arith, e .clarity)
+  enough-not-short e (short-weight h) = omega (arith, e .weight)
+  enough-not-short e (short-window-clarity h) = omega (arith, e .window-clarity)
+  enough-not-short e (short-window-weight h) = omega (arith, e .window-weight)
+  enough-not-short e (short-work h) = omega (arith, e .work)
+
+  pub short-fails : Short room r s → enough? ≡ false
+  short-fails w = ⊎-elim (λ e. absurd (enough-not-short (suffices-enough e) w)) (λ e. e) (which enough?)
+
+-- every slice is long enough for no room
+none-enough : (r : Results) (s : Spare) → Enough outside r s
+none-enough r s =
+    record {
+      threshold = omega arith;
+      onsets = omega arith;
+      score = omega arith;
+      back = omega arith;
+      beats = omega arith;
+      downbeats = omega arith;
+      clarity = omega arith;
+      weight = omega arith;
+      window-clarity = omega arith;
+      window-weight = omega arith;
+      work = omega arith;
+    }
+
+-- a room with a slice too short for it has its numbers in bounds
+short-bounds : (rows rate : ℕ) (o : TempoOpts) (r : Results) (s : Spare) → Short (roomOf rows rate o) r s → numbersFine rows rate o ≡ true
+short-bounds rows rate o r s w =
+    ⊎-elim (λ e. e) (λ e. absurd (enough-not-short outside r s (none-enough r s) (subst (λ (x : Room). Short x r s) (room-outside rows rate o e) w))) (which (numbersFine rows rate o))
+
+-- ---- an envelope
+
+never-3 : (b l r v : Bool) → r ≡ true → lowest b l r v ≡ 3 → ⊥
+never-3 true true true true e z = omega arith
+never-3 true true true false e z = omega arith
+never-3 true true false v e z = true-not-false false e refl
+never-3 true false r v e z = omega arith
+never-3 false l r v e z = omega arith
+
+-- the room that is named for an envelope in bounds is what an analysis asks for
+room-ready : (env : List Float) (rate : ℕ) (o : TempoOpts) (r : Results) (s : Spare) → numbersFine (length env) rate o ≡ true
+    → Enough (inBounds (length env) rate o) r s → every valueFine env ≡ true → Ready env rate o r s
+room-ready env rate o r s b e v =
+    record {
+      rows = rows-fine (length env) rate o b;
+      bounds = bounds-fine (length env) rate o b;
+      values = v;
+      thresholds = e .threshold;
+      onset-lists = e .onsets;
+      scores = e .score;
+      links = e .back;
+      beat-lists = e .beats;
+      downbeat-lists = e .downbeats;
+      clarities = e .clarity;
+      weights = e .weight;
+      window-clarities = e .window-clarity;
+      window-weights = e .window-weight;
+      lag-works = omega (arith, e .work);
+      window-works = omega (arith, e .work);
+    }
+
+module _ (env : List Float) (rate : ℕ) (o : TempoOpts) (r : Results) (s : Spare) where
+  -- with each slice at least what `room_of` names, number 3 is never given
+  pub exact-room : Enough (roomOf (length env) rate o) r s → envelopeNumber env rate o r s ≡ 3 → ⊥
+  unfolding envelopeRefusal
+  exact-room e = never-3 (numbersFine (length env) rate o) true (enough? (roomOf (length env) rate o) r s) (every valueFine env) (enough-suffices (roomOf (length env) rate o) r s e)
+
+  -- with one slot fewer anywhere it is
+  pub one-slot-fewer : Short (roomOf (length env) rate o) r s → envelopeNumber env rate o r s ≡ 3
+  unfolding envelopeRefusal
+  one-slot-fewer w =
+      lowest-3 (numbersFine (length env) rate o) true (enough? (roomOf (length env) rate o) r s) (every valueFine env)
+      (short-bounds (length env) rate o r s w)
+      refl
+      (short-fails (roomOf (length env) rate o) r s w)
+
+  -- what number 0 says
+  pub ready-of : envelopeNumber env rate o r s ≡ 0 → Ready env rate o r s
+  unfolding envelopeRefusal
+  ready-of e =
+      let p = lowest-zero (numbersFine (length env) rate o) true (enough? (roomOf (length env) rate o) r s) (every valueFine env) e in
+      room-ready env rate o r s (p .bounds) (suffices-enough (inBounds (length env) rate o) r s (sym (ap (λ (x : Room). enough? x r s) (room-inside (length env) rate o (p .bounds))) ∙ p .room)) (p .values)
+
+-- ---- magnitudes
+
+-- what number 0 says
+pub record Told (m : List Float) (rows bins rate : ℕ) (o : TempoOpts) (flux : ℕ) (r : Results) (s : Spare) : Type 0 where
+  pub numbers : numbersFine rows rate o ≡ true
+  pub some-bins : 1 ≤ bins
+  pub bins-fit : bins ≤ mostBins
+  pub whole : length m ≡ rows * bins
+  pub fluxes : rows ≤ flux
+  pub room : Enough (inBounds rows rate o) r s
+  pub loud : every magnitudeFine m ≡ true
+
+module _ (m : List Float) (rows bins rate : ℕ) (o : TempoOpts) (flux : List Float) (r : Results) (s : Spare) where
+  abbrev wide? : Bool
+  wide? = leb rows (length flux) && enough? (roomOf rows rate o) r s
+
+  pub told : magnitudesNumber m rows bins rate o flux r s ≡ 0 → Told m rows bins rate o (length flux) r s
+  unfolding magnitudesRefusal
+  told e =
+      let p = lowest-zero (numbersFine rows rate o && between 1 mostBins bins) (eqb (length m) (rows * bins)) wide? (every magnitudeFine m) e in
+      let n = and-left (numbersFine rows rate o) (between 1 mostBins bins) (p .bounds) in
+      let b = and-right (numbersFine rows rate o) (between 1 mostBins bins) (p .bounds) in
+      let w = and-right (leb rows (length flux)) (enough? (roomOf rows rate o) r s) (p .room) in
+      record {
+        numbers = n;
+        some-bins = leb-true _ _ (and-left (leb 1 bins) (leb bins mostBins) b);
+        bins-fit = leb-true _ _ (and-right (leb 1 bins) (leb bins mostBins) b);
+        whole = eqb-true _ _ (p .lengths);
+        fluxes = leb-true _ _ (and-left (leb rows (length flux)) (enough? (roomOf rows rate o) r s) (p .room));
+        room = suffices-enough (inBounds rows rate o) r s (sym (ap (λ (x : Room). enough? x r s) (room-inside rows rate o n)) ∙ w);
+        loud = p .values;
+      }
+
+  -- with each slice at least what `room_of` names, number 3 is never given
+  pub exact-room-of-magnitudes : rows ≤ length flux → Enough (roomOf rows rate o) r s → magnitudesNumber m rows bins rate o flux r s ≡ 3 → ⊥
+  unfolding magnitudesRefusal
+  exact-room-of-magnitudes f e =
+      never-3 (numbersFine rows rate o && between 1 mostBins bins) (eqb (length m) (rows * bins)) wide? (every magnitudeFine m)
+      (and-both (leb rows (length flux)) (enough? (roomOf rows rate o) r s) (le-leb _ _ f) (enough-suffices (roomOf rows rate o) r s e))
+
+  -- with one slot fewer anywhere it is, where neither number 1 nor number 2 applies
+  pub one-slot-fewer-of-magnitudes : numbersFine rows rate o ≡ true → 1 ≤ bins → bins ≤ mostBins → length m ≡ rows * bins
+      → (length flux < rows) ⊎ Short (roomOf rows rate o) r s → magnitudesNumber m rows bins rate o flux r s ≡ 3
+  unfolding magnitudesRefusal
+  one-slot-fewer-of-magnitudes n l h w short =
+      lowest-3 (numbersFine rows rate o && between 1 mostBins bins) (eqb (length m) (rows * bins)) wide? (every magnitudeFine m)
+      (and-both (numbersFine rows rate o) (between 1 mostBins bins) n (and-both (leb 1 bins) (leb bins mostBins) (le-leb _ _ l) (le-leb _ _ h)))
+      (eq-eqb _ _ w)
+      (fails short)
+    where
+      fails : (length flux < rows) ⊎ Short (roomOf rows rate o) r s → wide? ≡ false
+      fails (inl f) = let e = lt-leb rows (length flux) f in sym (and-failed (leb rows (length flux)) (enough? (roomOf rows rate o) r s) e) ∙ e
+      fails (inr f) = rw (short-fails (roomOf rows rate o) r s f) (and-false (leb rows (length flux)))
+        where
+          and-false : (b : Bool) → (b && false) ≡ false
+          and-false true = refl
+          and-false false = refl
+
+  -- the flux of magnitudes that are not refused is an envelope that isn't either
+  flux-long : length (curve (fluxAt m bins) rows) ≡ rows
+  flux-long = length-tab (fluxAt m bins) 0 rows
+
+  pub flux-ready : Told m rows bins rate o (length flux) r s → Ready (curve (fluxAt m bins) rows) rate o r s
+  flux-ready t =
+      room-ready (curve (fluxAt m bins) rows) rate o r s (rw flux-long (t .numbers)) (rw flux-long (t .room)) (flux-curve-fine m rows bins (t .loud) (t .bins-fit))
+
+  pub flux-taken : magnitudesNumber m rows bins rate o flux r s ≡ 0 → envelopeNumber (curve (fluxAt m bins) rows) rate o r s ≡ 0
+  unfolding envelopeRefusal
+  flux-taken e =
+      let t = told e in
+      let env = curve (fluxAt m bins) rows in
+      let n : numbersFine (length env) rate o ≡ true = rw flux-long (t .numbers) in
+      let q : enough? (roomOf (length env) rate o) r s ≡ true =
+      ap (λ (j : ℕ). enough? (roomOf j rate o) r s) flux-long ∙ ap (λ (x : Room). enough? x r s) (room-inside rows rate o (t .numbers)) ∙ enough-suffices (inBounds rows rate o) r s (t .room) in
+      lowest-0 (numbersFine (length env) rate o) true (enough? (roomOf (length env) rate o) r s) (every valueFine env) n refl q
+      (flux-curve-fine m rows bins (t .loud) (t .bins-fit))

@@ -1,0 +1,4 @@
+-- The laws that other crates cite.
+pub mod Lists
+pub mod Follows
+mod Together

@@ -1,0 +1,87 @@
+-- What the parts of an analysis leave, put together. Assumes nothing.
+use mathlib.Core.Path.{_≡_, refl, _∙_}
+use mathlib.Core.Bool.{true, _&&_}
+use mathlib.Core.List.{List}
+use Prim.Native.Nat.{ℕ, zero, suc, _-_, _≤_}
+use native.Mathlib.Omega.{arith}
+use borrow.Author.Tests.{le-leb}
+use lib.Dec.{leb}
+use lib.ListN.{length, take, drop}
+use lib.Ieee.{Float}
+use Rattle.numbers.specs.Refusals.{unlessRefused}
+use Rattle.numbers.specs.Limits.{mostRows, mostPeriod, between, valueFine}
+use Rattle.numbers.specs.Lists.{every, filled, listed}
+use Rattle.numbers.proofs.Tests.{and-both, lowest-0, passed-does}
+use Rattle.threshold.specs.Threshold.{thresholdAt, sortingRoom}
+use Rattle.onsets.specs.Peaks.{at, peaksOf, suppressed}
+use Rattle.onsets.specs.Onsets.{gapOf, onsetsOf}
+use Rattle.onsets.specs.Steps.{Picked}
+use Rattle.beats.specs.Grids.{numbersFine, roomFine, gridRefusal, gridOf, Gridded}
+use Rattle.beats.proofs.Steps.{beats-fit}
+use Rattle.bars.specs.Downbeats.{commonMeter, downbeatRefusal, Downbeats}
+use Rattle.bars.specs.Downbeats as bars
+use Rattle.track_parts.specs.Parts.{onsetsIn}
+use Rattle.track_parts.specs.Parts.{Listed, Grid}
+use Rattle.track_parts.proofs.Lists.{written-part, listed-part, beats-listable}
+
+-- ---- onsets
+
+pub listed-by : (env : List Float) (rate gap count : ℕ) (threshold threshold′ : List Float) (onsets onsets′ : List ℕ) (work work′ : List Float)
+    → threshold′ ≡ filled (thresholdAt env) threshold 0 (length env)
+    → length work′ ≡ length work → drop (sortingRoom env) work′ ≡ drop (sortingRoom env) work
+    → gap ≡ gapOf rate
+    → Picked (suppressed env gap (peaksOf env (at (take (length env - 0) (drop 0 threshold′))))) onsets count onsets′
+    → Listed env rate threshold onsets work count threshold′ onsets′ work′
+unfolding onsetsIn onsetsOf
+listed-by env rate gap count threshold threshold′ onsets onsets′ work work′ t l k g p =
+    let c = written-part (thresholdAt env) threshold threshold′ (length env) t in
+    let p′ = rw (c, g) at p in
+    record { count-is = p′ .count-is; threshold-is = t; onsets-are = p′ .frames-are; works = record { same-length = l; kept = k } }
+
+-- ---- beats and downbeats
+
+module _
+    (env : List Float) (period : ℕ) (few : length env ≤ mostRows) (fine : every valueFine env ≡ true) (short : period ≤ mostPeriod) where
+  pub grid-passed : (score back beats : ℕ) → length env ≤ score → length env ≤ back → length env ≤ beats → gridRefusal env period score back beats ≡ 0
+  unfolding gridRefusal numbersFine roomFine
+  grid-passed score back beats s b f =
+      lowest-0 (leb (length env) mostRows && leb period mostPeriod) true (leb (length env) score && (leb (length env) back && leb (length env) beats)) (every valueFine env)
+      (and-both _ _ (le-leb _ _ few) (le-leb _ _ short)) refl
+      (and-both _ _ (le-leb _ _ s) (and-both _ _ (le-leb _ _ b) (le-leb _ _ f)))
+      fine
+
+  pub downbeats-passed : (room : ℕ) → length env ≤ room → downbeatRefusal env (gridOf env period) commonMeter room ≡ 0
+  unfolding downbeatRefusal bars.numbersFine bars.roomFine
+  downbeats-passed room h =
+      lowest-0 (leb (length env) mostRows && (every bars.frameFine (gridOf env period) && between 1 bars.mostMeter commonMeter)) true (leb (length (gridOf env period)) room)
+      (every valueFine env)
+      (and-both (leb (length env) mostRows) _ (le-leb _ _ few) (and-both (every bars.frameFine (gridOf env period)) (between 1 bars.mostMeter commonMeter) (beats-listable env period few) refl)) refl
+      (le-leb (length (gridOf env period)) room (omega (arith, beats-fit env period)))
+      fine
+
+-- no more beats than frames, refused or not
+pub beats-counted : (env : List Float) (period number count : ℕ) → count ≡ unlessRefused number (length (gridOf env period)) 0 → count ≤ length env
+beats-counted env period zero count e = omega (arith, beats-fit env period)
+beats-counted env period (suc n) count e = omega arith
+
+pub laid-by : (env : List Float) (period : ℕ) (score score′ : List Float) (back back′ beats beats′ downbeats downbeats′ : List ℕ) (number count number-2 count-2 : ℕ)
+    → length env ≤ mostRows → every valueFine env ≡ true → period ≤ mostPeriod
+    → length env ≤ length score → length env ≤ length back → length env ≤ length beats → length env ≤ length downbeats
+    → Gridded env period score back beats number count score′ back′ beats′
+    → Downbeats env (take (count - 0) (drop 0 beats′)) commonMeter downbeats number-2 count-2 downbeats′
+    → Grid env period score back beats downbeats (record { beats = count; downbeats = count-2 }) score′ back′ beats′ downbeats′
+laid-by env period score score′ back back′ beats beats′ downbeats downbeats′ number count number-2 count-2 few fine short s b f d g h =
+    let z : number ≡ 0 = g .number-is ∙ grid-passed env period few fine short _ _ _ s b f in
+    let n : count ≡ length (gridOf env period) = g .count-is ∙ passed-does number _ 0 z in
+    let l : beats′ ≡ listed (gridOf env period) beats = g .beats-are ∙ passed-does number _ beats z in
+    let e : take (count - 0) (drop 0 beats′) ≡ gridOf env period = listed-part (gridOf env period) beats beats′ count l n in
+    let y = downbeats-passed env period few fine short (length downbeats) d in
+    let k = rw e at h in
+    record {
+      beat-count = n;
+      downbeat-count = k .count-is ∙ passed-does _ _ 0 y;
+      score-is = g .score-is ∙ passed-does number _ score z;
+      back-is = g .back-is ∙ passed-does number _ back z;
+      beats-are = l;
+      downbeats-are = k .frames-are ∙ passed-does _ _ downbeats y;
+    }

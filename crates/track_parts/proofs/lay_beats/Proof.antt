@@ -1,0 +1,59 @@
+-- `track_parts::lay_beats` meets its contract: a grid's beats are frames of the envelope, no more than it has, so neither call refuses. Assumes nothing.
+use native.Mathlib.Omega.{arith}
+use denote.Ref.{now}
+use Rattle.track_parts.proofs.Together.{beats-counted, laid-by}
+use borrow.Author.Needs.{needs}
+use Rattle.track_parts.proofs.lay_beats.Statement.{statement}
+use Rattle.track_parts.proofs.lay_beats.Tie as tie
+
+beat-grid-requires : tie.Need-beat-grid-requires
+beat-grid-requires c κs = search needs
+
+sub-downbeats : tie.Need-sub-downbeats
+sub-downbeats c = search needs
+
+part-downbeats-start : tie.Need-part-downbeats-start
+part-downbeats-start c = search needs
+
+part-downbeats-end : tie.Need-part-downbeats-end
+part-downbeats-end c =
+    let g = c .before .before .before .before .before .before .before in
+    let a = g .before .before .before .before .before .before .before .before .before .args in
+    omega (arith, beats-counted (now (a .envelope)) (a .period) (g .beat-grid .result .number) (g .beat-grid .result .count) (g .beat-grid .ensures .count-is))
+
+downbeats-requires : tie.Need-downbeats-requires
+downbeats-requires c κs = search needs
+
+same-length : tie.Need-same-length
+same-length c = search needs
+
+same-length-2 : tie.Need-same-length-2
+same-length-2 c = search needs
+
+same-length-3 : tie.Need-same-length-3
+same-length-3 c = search needs
+
+same-length-4 : tie.Need-same-length-4
+same-length-4 c = search needs
+
+returns : tie.Need-returns
+returns c =
+    let d = c .before .before in
+    let g = d .before .before .before .before .before .before .before .before .before .before in
+    let p = g .before .before .before .before .before .before .before .before .before .pre in
+    laid-by _ _ _ _ _ _ _ _ _ _ _ _ _ _ (p .0 .0) (p .0 .1) (p .0 .2) (p .1 .0) (p .1 .1) (p .1 .2) (p .1 .3) (g .beat-grid .ensures) (d .downbeats .ensures)
+
+pub lay-beats-spec : {M : Type 1} → statement M
+lay-beats-spec =
+    tie.close
+    (tie.spec
+    beat-grid-requires
+    sub-downbeats
+    part-downbeats-start
+    part-downbeats-end
+    downbeats-requires
+    same-length
+    same-length-2
+    same-length-3
+    same-length-4
+    returns)
