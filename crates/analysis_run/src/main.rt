@@ -2,7 +2,7 @@
 // what must come out.
 //
 // The clicks are four frames apart, from frame 1 on, at rate 2,048: eight frames a second, so 120 beats a minute. The lags are 2 to 16.
-ghost use Prim.Native.Nat.{_≤_};
+ghost use Prim.Native.Nat.{_≤_, _+_};
 ghost use lib.ListN.{length};
 use lags::TempoOpts;
 use stability::Stability;
@@ -67,37 +67,18 @@ fn answer(a: Analysis) {
     show::end();
 }
 
-// Analyses the slices as they are lent.
-fn part_lent(
-    envelope: &[f64],
-    threshold: &mut [f64],
-    onsets: &mut [u32],
-    clarity: &mut [f64],
-    weight: &mut [f64],
-    window_clarity: &mut [f64],
-    window_weight: &mut [f64],
-    score: &mut [f64],
-    back: &mut [u32],
-    beats: &mut [u32],
-    downbeats: &mut [u32],
-    work: &mut [f64],
-) {
-    answer(analysis::analyse_envelope(
-        envelope,
-        2048,
-        TempoOpts::new(),
-        threshold,
-        onsets,
-        clarity,
-        weight,
-        window_clarity,
-        window_weight,
-        score,
-        back,
-        beats,
-        downbeats,
-        work,
-    ));
+// So many slots of a slice are lent: one fewer than its room where `at` is the slice that is short; two more than its room where short is 12.
+fn slots(room: usize, at: usize, short: usize) -> usize
+    requires { ⌜ room ≤ 48 ⌝ }
+    ensures { λ r. ⌜ r ≤ room + 2 ⌝ }
+{
+    if short == 12 {
+        return room + 2;
+    }
+    if at == short {
+        return numbers::less(room, 1);
+    }
+    room
 }
 
 // A curve's first two slots, and the two past its room.
@@ -117,8 +98,38 @@ fn list(label: &[u8], xs: &[u32]) {
     show::end();
 }
 
-// Every slice has two slots more than its room: those are lent too, and stay.
-fn whole(label: &[u8], envelope: &[f64]) {
+fn curves_are(threshold: &[f64; 50], clarity: &[f64; 17], weight: &[f64; 17], score: &[f64; 50]) {
+    curve(b"threshold", threshold, 48);
+    curve(b"clarity", clarity, 15);
+    curve(b"weight", weight, 15);
+    curve(b"score", score, 48);
+}
+
+fn past(xs: &[f64], room: usize)
+    requires { ⌜ room ≤ length (now xs) ⌝ }
+{
+    show::floats(&xs[room..]);
+}
+
+// What is worked in, past its room.
+fn worked_in(clarity: &[f64; 17], weight: &[f64; 17], work: &[f64; 23]) {
+    show::words(b"past what is worked in");
+    past(clarity, 15);
+    past(weight, 15);
+    past(work, 21);
+    show::end();
+}
+
+fn lists_are(onsets: &[u32; 50], back: &[u32; 50], beats: &[u32; 50], downbeats: &[u32; 50]) {
+    list(b"onsets", onsets);
+    list(b"back", back);
+    list(b"beats", beats);
+    list(b"downbeats", downbeats);
+}
+
+// Analyses an envelope with the slice `short` of the eleven, counted from 1, one slot short; 0: exactly the room; 12: two slots more in each.
+// Every slice is shown with two slots past its room.
+fn lent(envelope: &[f64], rate: u32, short: usize) {
     let mut threshold = [9.0f64; 50];
     let mut onsets = [77u32; 50];
     let mut clarity = [9.0f64; 17];
@@ -130,115 +141,42 @@ fn whole(label: &[u8], envelope: &[f64]) {
     let mut beats = [77u32; 50];
     let mut downbeats = [77u32; 50];
     let mut work = [9.0f64; 23];
-    show::words(label);
-    part_lent(
+    answer(analysis::analyse_envelope(
         envelope,
-        &mut threshold,
-        &mut onsets,
-        &mut clarity,
-        &mut weight,
-        &mut window_clarity,
-        &mut window_weight,
-        &mut score,
-        &mut back,
-        &mut beats,
-        &mut downbeats,
-        &mut work,
-    );
-    curve(b"threshold", &threshold, 48);
-    list(b"onsets", &onsets);
-    curve(b"clarity", &clarity, 15);
-    curves_past(&window_clarity, &window_weight, &work);
-    curve(b"score", &score, 48);
-    list(b"beats", &beats);
-    list(b"downbeats", &downbeats);
+        rate,
+        TempoOpts::new(),
+        &mut threshold[0..slots(48, 1, short)],
+        &mut onsets[0..slots(48, 2, short)],
+        &mut clarity[0..slots(15, 3, short)],
+        &mut weight[0..slots(15, 4, short)],
+        &mut window_clarity[0..slots(15, 5, short)],
+        &mut window_weight[0..slots(15, 6, short)],
+        &mut score[0..slots(48, 7, short)],
+        &mut back[0..slots(48, 8, short)],
+        &mut beats[0..slots(48, 9, short)],
+        &mut downbeats[0..slots(48, 10, short)],
+        &mut work[0..slots(21, 11, short)],
+    ));
+    curves_are(&threshold, &clarity, &weight, &score);
+    worked_in(&window_clarity, &window_weight, &work);
+    lists_are(&onsets, &back, &beats, &downbeats);
 }
 
-// What is worked in, past its room.
-fn curves_past(window_clarity: &[f64], window_weight: &[f64], work: &[f64])
-    requires { ⌜ (15 ≤ length (now «window_clarity»)) × (15 ≤ length (now «window_weight»)) × (21 ≤ length (now work)) ⌝ }
-{
-    show::words(b"past what is worked in");
-    show::floats(&window_clarity[15..]);
-    show::floats(&window_weight[15..]);
-    show::floats(&work[21..]);
-    show::end();
+fn of_envelope(label: &[u8], envelope: &[f64], rate: u32, short: usize) {
+    show::words(label);
+    lent(envelope, rate, short);
 }
 
-// One slot fewer in the slice `short` of the eleven, counted from 1; 0: exactly the room.
-fn slots(full: usize, at: usize, short: usize) -> usize
-    ensures { λ r. ⌜ r ≤ full ⌝ }
-{
-    if at == short {
-        numbers::less(full, 1)
-    } else {
-        full
+// Exactly the room, then each of the eleven slices one short.
+fn each_short(envelope: &[f64]) {
+    let mut short = 0;
+    while short < 12 {
+        show::words(b"short");
+        show::count(short);
+        show::words(b":");
+        lent(envelope, 2048, short);
+        short += 1;
     }
-}
-
-fn short_lists(
-    envelope: &[f64],
-    short: usize,
-    threshold: &mut [f64],
-    clarity: &mut [f64],
-    weight: &mut [f64],
-    window_clarity: &mut [f64],
-    window_weight: &mut [f64],
-    score: &mut [f64],
-    work: &mut [f64],
-) {
-    let mut onsets = [77u32; 48];
-    let mut back = [77u32; 48];
-    let mut beats = [77u32; 48];
-    let mut downbeats = [77u32; 48];
-    let o = slots(48, 2, short);
-    let b = slots(48, 8, short);
-    let t = slots(48, 9, short);
-    let d = slots(48, 10, short);
-    part_lent(
-        envelope,
-        threshold,
-        &mut onsets[0..o],
-        clarity,
-        weight,
-        window_clarity,
-        window_weight,
-        score,
-        &mut back[0..b],
-        &mut beats[0..t],
-        &mut downbeats[0..d],
-        work,
-    );
-    list(b"first", &[onsets[0], back[0], beats[0], downbeats[0]]);
-}
-
-fn short_curves(label: &[u8], envelope: &[f64], short: usize) {
-    let mut threshold = [9.0f64; 48];
-    let mut clarity = [9.0f64; 15];
-    let mut weight = [9.0f64; 15];
-    let mut window_clarity = [9.0f64; 15];
-    let mut window_weight = [9.0f64; 15];
-    let mut score = [9.0f64; 48];
-    let mut work = [9.0f64; 21];
-    let t = slots(48, 1, short);
-    let c = slots(15, 3, short);
-    let w = slots(15, 4, short);
-    let v = slots(15, 5, short);
-    let u = slots(15, 6, short);
-    let s = slots(48, 7, short);
-    let k = slots(21, 11, short);
-    show::words(label);
-    short_lists(
-        envelope,
-        short,
-        &mut threshold[0..t],
-        &mut clarity[0..c],
-        &mut weight[0..w],
-        &mut window_clarity[0..v],
-        &mut window_weight[0..u],
-        &mut score[0..s],
-        &mut work[0..k],
-    );
 }
 
 fn clicks() {
@@ -292,33 +230,21 @@ fn clicks() {
         0.0,
         0.0,
     ];
-    whole(b"clicks:", &e);
-    whole(b"seventeen slots of them:", &e[0..17]);
-    whole(b"one of them:", &e[0..4]);
-    rooms_of_clicks(&e);
+    of_envelope(b"clicks:", &e, 2048, 12);
+    of_envelope(b"seventeen slots of them:", &e[0..17], 2048, 12);
+    of_envelope(b"one of them:", &e[0..4], 2048, 12);
+    each_short(&e);
+    refused(&e);
 }
 
-fn rooms_of_clicks(e: &[f64]) {
-    short_curves(b"exactly the room:", e, 0);
-    short_curves(b"threshold one short:", e, 1);
-    short_curves(b"onsets one short:", e, 2);
-    short_curves(b"clarity one short:", e, 3);
-    short_curves(b"weight one short:", e, 4);
-    short_curves(b"window clarity one short:", e, 5);
-    short_curves(b"window weight one short:", e, 6);
-    short_curves(b"score one short:", e, 7);
-    short_curves(b"back one short:", e, 8);
-    more_of_clicks(e);
-}
-
-fn more_of_clicks(e: &[f64]) {
+fn refused(e: &[f64]) {
     let nan = 0.0f64 / 0.0;
     let odd = [nan; 48];
-    short_curves(b"beats one short:", e, 9);
-    short_curves(b"downbeats one short:", e, 10);
-    short_curves(b"work one short:", e, 11);
-    short_curves(b"a NaN:", &odd, 0);
-    short_curves(b"3 before 4:", &odd, 11);
+    of_envelope(b"a NaN:", &odd, 2048, 0);
+    of_envelope(b"3 before 4:", &odd, 2048, 11);
+    of_envelope(b"rate 0:", e, 0, 0);
+    of_envelope(b"rate 192,001:", e, 192001, 0);
+    of_envelope(b"1 before 3:", e, 0, 11);
 }
 
 // The magnitudes whose flux is the clicks, and what is refused of them.
@@ -373,35 +299,41 @@ fn magnitudes() {
         0.0,
         0.0,
     ];
-    let none = [0.0f32; 1];
+    each_case(&m);
     let infinite = [1.0f32 / 0.0; 48];
-    of_magnitudes(b"clicks of one bin:", &m, 48, 1);
-    of_magnitudes(b"two bins:", &m, 24, 2);
-    short_flux(b"flux one short:", &m, 48, 1);
-    of_magnitudes(b"no bins:", &none[0..0], 48, 0);
-    of_magnitudes(b"4,097 bins:", &m, 0, 4097);
-    of_magnitudes(b"half a row:", &m[0..47], 24, 2);
-    of_magnitudes(b"no rows:", &none[0..0], 0, 1);
-    of_magnitudes(b"an infinity:", &infinite, 48, 1);
-    of_magnitudes(b"1,048,577 rows:", &none[0..0], 1048577, 1);
+    show::words(b"an infinity:");
+    of_magnitudes(&infinite, 48, 1, 48);
 }
 
-fn of_magnitudes(label: &[u8], magnitudes: &[f32], rows: usize, bins: usize) {
+// A case: so many of the magnitudes, rows, bins, room for the flux.
+fn each_case(m: &[f32])
+    requires { ⌜ 48 ≤ length (now m) ⌝ }
+{
+    let cases = [
+        [48usize, 48, 1, 48], // 0: clicks of one bin
+        [48, 24, 2, 48], // 1: two bins
+        [48, 48, 1, 47], // 2: flux one short
+        [0, 48, 0, 48], // 3: no bins
+        [48, 0, 4097, 48], // 4: 4,097 bins
+        [47, 24, 2, 48], // 5: half a row
+        [0, 0, 1, 48], // 6: no rows
+        [0, 1048577, 1, 48], // 7: 1,048,577 rows
+        [47, 24, 2, 23], // 8: 2 before 3
+    ];
+    let mut k = 0;
+    while k < 9 {
+        let c = cases[k];
+        show::words(b"magnitudes");
+        show::count(k);
+        show::words(b":");
+        of_magnitudes(&m[0..numbers::least(c[0], 48)], c[1], c[2], c[3]);
+        k += 1;
+    }
+}
+
+// Everything but the flux has exactly its room; the flux is shown with the slots that are not lent.
+fn of_magnitudes(magnitudes: &[f32], rows: usize, bins: usize, room: usize) {
     let mut flux = [9.0f64; 48];
-    show::words(label);
-    magnitudes_lent(magnitudes, rows, bins, &mut flux);
-    curve(b"flux", &flux, 46);
-}
-
-fn short_flux(label: &[u8], magnitudes: &[f32], rows: usize, bins: usize) {
-    let mut flux = [9.0f64; 47];
-    show::words(label);
-    magnitudes_lent(magnitudes, rows, bins, &mut flux);
-    curve(b"flux", &flux, 45);
-}
-
-// Everything else has exactly its room.
-fn magnitudes_lent(magnitudes: &[f32], rows: usize, bins: usize, flux: &mut [f64]) {
     let mut threshold = [9.0f64; 48];
     let mut onsets = [77u32; 48];
     let mut clarity = [9.0f64; 15];
@@ -419,7 +351,7 @@ fn magnitudes_lent(magnitudes: &[f32], rows: usize, bins: usize, flux: &mut [f64
         bins,
         2048,
         TempoOpts::new(),
-        flux,
+        &mut flux[0..numbers::least(room, 48)],
         &mut threshold,
         &mut onsets,
         &mut clarity,
@@ -432,12 +364,16 @@ fn magnitudes_lent(magnitudes: &[f32], rows: usize, bins: usize, flux: &mut [f64
         &mut downbeats,
         &mut work,
     ));
+    flux_is(&flux);
+}
+
+fn flux_is(flux: &[f64; 48]) {
+    curve(b"flux", flux, 46);
 }
 
 // The room of an analysis: number, N, L and the sorting room.
-fn named(label: &[u8], rows: usize, rate: u32, opts: TempoOpts) {
+fn named(rows: usize, rate: u32, opts: TempoOpts) {
     let r = rooms::room_of(rows, rate, opts);
-    show::words(label);
     show::small(r.number);
     show::count(r.rows);
     show::count(r.lags);
@@ -447,35 +383,59 @@ fn named(label: &[u8], rows: usize, rate: u32, opts: TempoOpts) {
 
 // N frames of so many minutes: 1 + (samples - 1,024) div 256.
 fn rooms() {
-    named(b"3 minutes at 44,100:", 31004, 44100, TempoOpts::new());
-    named(b"10 minutes at 44,100:", 103356, 44100, TempoOpts::new());
-    named(b"60 minutes at 44,100:", 620153, 44100, TempoOpts::new());
-    named(b"3 minutes at 48,000:", 33747, 48000, TempoOpts::new());
-    named(b"10 minutes at 48,000:", 112497, 48000, TempoOpts::new());
-    named(b"60 minutes at 48,000:", 674997, 48000, TempoOpts::new());
-    named(b"no frames, rate 1:", 0, 1, TempoOpts::new());
-    named(b"1,048,576 frames:", 1048576, 48000, TempoOpts::new());
-    named(b"1,048,577 frames:", 1048577, 48000, TempoOpts::new());
-    more_rooms();
+    // 3, 10 and 60 minutes at 44,100 and at 48,000, then the bounds of both
+    let rows = [
+        31004usize,
+        103356,
+        620153,
+        33747,
+        112497,
+        674997,
+        0,
+        1048576,
+        1048577,
+        48,
+        48,
+        20,
+        48,
+    ];
+    let rates = [
+        44100u32,
+        44100,
+        44100,
+        48000,
+        48000,
+        48000,
+        1,
+        48000,
+        48000,
+        0,
+        192001,
+        2048,
+        2048,
+    ];
+    let mut k = 0;
+    while k < 13 {
+        show::words(b"frames, rate");
+        show::count(rows[k]);
+        show::small(rates[k]);
+        show::words(b":");
+        named(rows[k], rates[k], TempoOpts::new());
+        k += 1;
+    }
 }
 
-fn more_rooms() {
+fn bounds() {
     let nan = 0.0f64 / 0.0;
-    named(b"rate 0:", 48, 0, TempoOpts::new());
-    named(b"rate 192,001:", 48, 192001, TempoOpts::new());
-    named(
-        b"a bound that is a NaN:",
-        48,
-        48000,
-        TempoOpts::between(30.0, nan),
-    );
-    named(b"20 frames, rate 2,048:", 20, 2048, TempoOpts::new());
-    named(b"48 frames, rate 2,048:", 48, 2048, TempoOpts::new());
-    named(b"0 and 0:", 48, 48000, TempoOpts::between(0.0, 0.0));
+    show::words(b"a bound that is a NaN:");
+    named(48, 48000, TempoOpts::between(30.0, nan));
+    show::words(b"0 and 0:");
+    named(48, 48000, TempoOpts::between(0.0, 0.0));
 }
 
 fn main() {
     clicks();
     magnitudes();
     rooms();
+    bounds();
 }

@@ -116,6 +116,24 @@ fn named(first: usize, past: usize) {
     show::count(past);
 }
 
+// The slots that the answer names, of the similarity and of the novelty; where it refuses, none.
+fn named_in(answer: PatchedFeatures) -> [usize; 4] {
+    match answer {
+        PatchedFeatures::Refused(number) => [0, 0, 0, 0],
+        PatchedFeatures::Wrote {
+            similarity_first,
+            similarity_past,
+            novelty_first,
+            novelty_past,
+        } => [
+            similarity_first,
+            similarity_past,
+            novelty_first,
+            novelty_past,
+        ],
+    }
+}
+
 // The answer, and how many slots of the similarity and of the novelty changed outside what it names.
 fn told(
     answer: PatchedFeatures,
@@ -124,31 +142,13 @@ fn told(
     old_novelty: &[f64; 38],
     novelty: &[f64; 38],
 ) {
-    match answer {
-        PatchedFeatures::Refused(number) => {
-            show::words(b" refused");
-            show::small(number);
-            show::words(b", changed outside");
-            show::count(changed(old, similarity, 0, 0));
-            show::count(changed(old_novelty, novelty, 0, 0));
-        }
-        PatchedFeatures::Wrote {
-            similarity_first,
-            similarity_past,
-            novelty_first,
-            novelty_past,
-        } => {
-            show::words(b" wrote");
-            named(similarity_first, similarity_past);
-            show::words(b" and");
-            named(novelty_first, novelty_past);
-            show::words(b", similarity changed");
-            show::count(changed(old, similarity, 0, 0));
-            show::words(b", changed outside");
-            show::count(changed(old, similarity, similarity_first, similarity_past));
-            show::count(changed(old_novelty, novelty, novelty_first, novelty_past));
-        }
-    }
+    let n = named_in(answer);
+    told_alone(answer);
+    show::words(b", similarity changed");
+    show::count(changed(old, similarity, 0, 0));
+    show::words(b", changed outside");
+    show::count(changed(old, similarity, n[0], n[1]));
+    show::count(changed(old_novelty, novelty, n[2], n[3]));
 }
 
 // How many slots of each curve differ from an analysis from nothing.
@@ -163,7 +163,7 @@ fn compared(features: &[f64; 576], similarity: &[f64; 614], novelty: &[f64; 38])
 }
 
 // One patch and its line; rows a up to b are those that it should replace, 0 and 0 where it should replace none.
-fn step(label: &[u8], was: State, start: usize, new: &[f64], a: usize, b: usize) -> State
+fn step(was: State, start: usize, new: &[f64], a: usize, b: usize) -> State
     requires { ⌜ (a ≤ b) × (b ≤ 36) ⌝ }
 {
     let first = a * 16;
@@ -174,7 +174,6 @@ fn step(label: &[u8], was: State, start: usize, new: &[f64], a: usize, b: usize)
     let mut features = was.features;
     let mut similarity = was.similarity;
     let mut novelty = was.novelty;
-    show::words(label);
     let answer = patch_features::patch_features(
         &mut features,
         36,
@@ -198,34 +197,92 @@ fn step(label: &[u8], was: State, start: usize, new: &[f64], a: usize, b: usize)
     }
 }
 
-fn ends_and_middle(was: State) -> State {
-    let mut n0 = [0.0f64; 16];
-    fill(&mut n0, 1);
-    let s0 = step(b"row 0:", was, 0, &n0, 0, 1);
-    let mut n1 = [0.0f64; 16];
-    fill(&mut n1, 2);
-    let s1 = step(b"row 35:", s0, 35, &n1, 35, 36);
-    let mut n2 = [0.0f64; 16];
-    fill(&mut n2, 3);
-    let s2 = step(b"row 18:", s1, 18, &n2, 18, 19);
-    let mut n3 = [0.0f64; 48];
-    fill(&mut n3, 4);
-    let s3 = step(b"rows 10 to 12:", s2, 10, &n3, 10, 13);
-    let mut n4 = [0.0f64; 576];
-    fill(&mut n4, 5);
-    let s4 = step(b"whole track:", s3, 0, &n4, 0, 36);
-    let mut n5 = [0.0f64; 256];
-    fill(&mut n5, 6);
-    let s5 = step(b"rows 20 to 35:", s4, 20, &n5, 20, 36);
-    s5
+// The rows of a step: 100: zeros, 101: a NaN before zeros, else the features of that seed.
+fn new_rows(seed: u32) -> [f64; 576] {
+    let mut rows = [0.0f64; 576];
+    if seed == 100 {
+        return rows;
+    }
+    if seed == 101 {
+        rows[0] = 0.0f64 / 0.0;
+        return rows;
+    }
+    fill(&mut rows, seed % 100);
+    rows
 }
 
-fn empty_ones(was: State) -> State {
-    let s0 = step(b"none at 0:", was, 0, &[], 0, 0);
-    let s1 = step(b"none at 18:", s0, 18, &[], 0, 0);
-    let s2 = step(b"none at 36:", s1, 36, &[], 0, 0);
-    let s3 = step(b"none at 37:", s2, 37, &[], 0, 0);
-    s3
+// A step: where it starts, so many new slots, and the rows from a up to b that it should replace.
+fn steps(was: State) -> State {
+    let cases = [
+        [0usize, 16, 0, 1], // 0: row 0
+        [35, 16, 35, 36], // 1: row 35
+        [18, 16, 18, 19], // 2: row 18
+        [10, 48, 10, 13], // 3: rows 10 to 12
+        [0, 576, 0, 36], // 4: whole track
+        [20, 256, 20, 36], // 5: rows 20 to 35
+        [0, 0, 0, 0], // 6: none at 0
+        [18, 0, 0, 0], // 7: none at 18
+        [36, 0, 0, 0], // 8: none at 36
+        [37, 0, 0, 0], // 9: none at 37
+        [3, 32, 3, 5], // 10: rows 3 and 4
+        [5, 32, 5, 7], // 11: rows 5 and 6
+        [5, 64, 5, 9], // 12: rows 5 to 8
+        [7, 64, 7, 11], // 13: rows 7 to 10
+        [7, 64, 7, 11], // 14: rows 7 to 10 again
+        [1, 16, 1, 2], // 15: row 1
+        [37, 16, 0, 0], // 16: start 37
+        [2, 16, 2, 3], // 17: row 2
+        [5, 24, 0, 0], // 18: half a row
+        [35, 32, 0, 0], // 19: past the end
+        [20, 16, 20, 21], // 20: row 20 of zeros
+        [36, 16, 0, 0], // 21: at the row count
+        [8, 16, 0, 0], // 22: no number
+        [33, 16, 33, 34], // 23: row 33
+    ];
+    let seeds = [
+        1u32,
+        2,
+        3,
+        4,
+        5,
+        6,
+        0,
+        0,
+        0,
+        0,
+        7,
+        8,
+        9,
+        10,
+        10,
+        11,
+        1,
+        12,
+        13,
+        14,
+        100,
+        15,
+        101,
+        16,
+    ];
+    let mut state = was;
+    let mut k = 0;
+    while k < 24 {
+        show::words(b"step");
+        show::count(k);
+        show::words(b":");
+        state = step_of(state, cases[k], seeds[k]);
+        k += 1;
+    }
+    state
+}
+
+fn step_of(was: State, c: [usize; 4], seed: u32) -> State {
+    let rows = new_rows(seed);
+    let b = numbers::least(c[3], 36);
+    let a = numbers::least(c[2], b);
+    let n = numbers::least(c[1], 576);
+    step(was, c[0], &rows[0..n], a, b)
 }
 
 fn names_none(answer: PatchedFeatures) -> bool {
@@ -284,87 +341,6 @@ fn none_anywhere(was: State) {
     show::end();
 }
 
-fn one_after_the_other(was: State) -> State {
-    let mut n0 = [0.0f64; 32];
-    fill(&mut n0, 7);
-    let s0 = step(b"rows 3 and 4:", was, 3, &n0, 3, 5);
-    let mut n1 = [0.0f64; 32];
-    fill(&mut n1, 8);
-    let s1 = step(b"rows 5 and 6:", s0, 5, &n1, 5, 7);
-    let mut n2 = [0.0f64; 64];
-    fill(&mut n2, 9);
-    let s2 = step(b"rows 5 to 8:", s1, 5, &n2, 5, 9);
-    let mut n3 = [0.0f64; 64];
-    fill(&mut n3, 10);
-    let s3 = step(b"rows 7 to 10:", s2, 7, &n3, 7, 11);
-    let mut n4 = [0.0f64; 64];
-    fill(&mut n4, 10);
-    let s4 = step(b"rows 7 to 10 again:", s3, 7, &n4, 7, 11);
-    let mut n5 = [0.0f64; 16];
-    fill(&mut n5, 11);
-    let s5 = step(b"row 1:", s4, 1, &n5, 1, 2);
-    s5
-}
-
-fn refused_between(was: State) {
-    let mut n0 = [0.0f64; 16];
-    fill(&mut n0, 1);
-    let s0 = step(b"start 37:", was, 37, &n0, 0, 0);
-    let mut n1 = [0.0f64; 16];
-    fill(&mut n1, 12);
-    let s1 = step(b"row 2:", s0, 2, &n1, 2, 3);
-    let mut n2 = [0.0f64; 24];
-    fill(&mut n2, 13);
-    let s2 = step(b"half a row:", s1, 5, &n2, 0, 0);
-    let mut n3 = [0.0f64; 32];
-    fill(&mut n3, 14);
-    let s3 = step(b"past the end:", s2, 35, &n3, 0, 0);
-    let n4 = [0.0f64; 16];
-    let s4 = step(b"row 20 of zeros:", s3, 20, &n4, 20, 21);
-    let mut n5 = [0.0f64; 16];
-    fill(&mut n5, 15);
-    let s5 = step(b"at the row count:", s4, 36, &n5, 0, 0);
-    let mut n6 = [0.0f64; 16];
-    n6[0] = 0.0f64 / 0.0;
-    let s6 = step(b"no number:", s5, 8, &n6, 0, 0);
-    let mut n7 = [0.0f64; 16];
-    fill(&mut n7, 16);
-    step(b"row 33:", s6, 33, &n7, 33, 34);
-}
-
-struct Room {
-    similarity: usize,
-    novelty: usize,
-}
-
-// One row of ones with lent curves that are not its own, `room` slots of each: the answer, and the first slots of the curves.
-fn part_lent(
-    rows: usize,
-    start: usize,
-    new: &[f64],
-    similarity: &mut [f64],
-    novelty: &mut [f64],
-    room: Room,
-)
-    requires { ⌜ (room .similarity ≤ length (now similarity)) × (room .novelty ≤ length (now novelty)) ⌝ }
-{
-    let mut features = [1.0f64; 16];
-    let of_similarity = room.similarity;
-    let of_novelty = room.novelty;
-    let answer = patch_features::patch_features(
-        &mut features,
-        rows,
-        start,
-        new,
-        &mut similarity[0..of_similarity],
-        &mut novelty[0..of_novelty],
-    );
-    told_alone(answer);
-    show::words(b", novelty");
-    show::floats(novelty);
-    show::end();
-}
-
 fn told_alone(answer: PatchedFeatures) {
     match answer {
         PatchedFeatures::Refused(number) => {
@@ -385,299 +361,95 @@ fn told_alone(answer: PatchedFeatures) {
     }
 }
 
-fn line(label: &[u8], rows: usize, start: usize, new: &[f64], first: f64, novel: f64, room: Room)
-    requires { ⌜ (room .similarity ≤ 18) × (room .novelty ≤ 2) ⌝ }
-{
+// One row, its first old and new features x[0] and x[1], with lent curves that are not its own and begin with x[2] and x[3]. The numbers c: rows,
+// start, so many new slots, and so many slots of each curve. Shown are the answer, how many features changed, and the novelty with its slot
+// that is not lent.
+fn line(c: [usize; 5], x: [f64; 4]) {
+    let mut was = [1.0f64; 16];
+    was[0] = x[0];
+    let mut features = was;
+    let mut new = [1.0f64; 16];
+    new[0] = x[1];
     let mut similarity = [0.0f64; 18];
-    similarity[0] = first;
+    similarity[0] = x[2];
     similarity[17] = 9.0;
     let mut novelty = [0.0f64; 2];
-    novelty[0] = novel;
-    show::words(label);
-    part_lent(rows, start, new, &mut similarity, &mut novelty, room);
-}
-
-fn rooms() {
-    let row = [1.0f64; 16];
-    line(
-        b"one row:",
-        1,
-        0,
-        &row,
-        0.0,
-        0.5,
-        Room {
-            similarity: 17,
-            novelty: 1,
-        },
-    );
-    line(
-        b"more room:",
-        1,
-        0,
-        &row,
-        0.0,
-        0.5,
-        Room {
-            similarity: 18,
-            novelty: 2,
-        },
-    );
-    line(
-        b"short similarity:",
-        1,
-        0,
-        &row,
-        0.0,
-        0.5,
-        Room {
-            similarity: 16,
-            novelty: 1,
-        },
-    );
-    line(
-        b"short novelty:",
-        1,
-        0,
-        &row,
-        0.0,
-        0.5,
-        Room {
-            similarity: 17,
-            novelty: 0,
-        },
-    );
-    line(
-        b"short novelty, no rows:",
-        1,
-        0,
-        &[],
-        0.0,
-        0.5,
-        Room {
-            similarity: 17,
-            novelty: 0,
-        },
-    );
-    line(
-        b"50,001 rows:",
-        50001,
-        0,
-        &row,
-        0.0,
-        0.5,
-        Room {
-            similarity: 17,
-            novelty: 1,
-        },
-    );
-    line(
-        b"50,000 rows:",
-        50000,
-        0,
-        &row,
-        0.0,
-        0.5,
-        Room {
-            similarity: 17,
-            novelty: 1,
-        },
-    );
-    line(
-        b"no rows at 2:",
-        1,
-        2,
-        &[],
-        0.0,
-        0.5,
-        Room {
-            similarity: 17,
-            novelty: 1,
-        },
-    );
-    line(
-        b"a row at 1:",
-        1,
-        1,
-        &row,
-        0.0,
-        0.5,
-        Room {
-            similarity: 17,
-            novelty: 1,
-        },
-    );
-    line(
-        b"no rows at 1:",
-        1,
-        1,
-        &[],
-        0.0,
-        0.5,
-        Room {
-            similarity: 17,
-            novelty: 1,
-        },
-    );
-}
-
-fn values() {
-    let row = [1.0f64; 16];
-    line(
-        b"similarity 1:",
-        1,
-        0,
-        &row,
-        1.0,
-        0.5,
-        Room {
-            similarity: 17,
-            novelty: 1,
-        },
-    );
-    line(
-        b"similarity above 1:",
-        1,
-        0,
-        &row,
-        1.0000000000000002,
-        0.5,
-        Room {
-            similarity: 17,
-            novelty: 1,
-        },
-    );
-    line(
-        b"similarity below -1:",
-        1,
-        0,
-        &row,
-        -1.0000000000000002,
-        0.5,
-        Room {
-            similarity: 17,
-            novelty: 1,
-        },
-    );
-    line(
-        b"similarity no number:",
-        1,
-        0,
-        &row,
-        0.0f64 / 0.0,
-        0.5,
-        Room {
-            similarity: 17,
-            novelty: 1,
-        },
-    );
-    line(
-        b"novelty 2^150:",
-        1,
-        0,
-        &row,
-        0.0,
-        1427247692705959881058285969449495136382746624.0,
-        Room {
-            similarity: 17,
-            novelty: 1,
-        },
-    );
-    line(
-        b"novelty above 2^150:",
-        1,
-        0,
-        &row,
-        0.0,
-        1427247692705960197970936026506845510558547968.0,
-        Room {
-            similarity: 17,
-            novelty: 1,
-        },
-    );
-    line(
-        b"novelty no number:",
-        1,
-        0,
-        &row,
-        0.0,
-        0.0f64 / 0.0,
-        Room {
-            similarity: 17,
-            novelty: 1,
-        },
-    );
-}
-
-// One row replaced by ones, whose first old feature is x: the answer, and how many features changed.
-fn old(label: &[u8], x: f64) {
-    let mut was = [1.0f64; 16];
-    was[0] = x;
-    let mut features = was;
-    let new = [1.0f64; 16];
-    let mut similarity = [0.0f64; 17];
-    let mut novelty = [0.0f64; 1];
-    show::words(label);
+    novelty[0] = x[3];
     let answer = patch_features::patch_features(
         &mut features,
-        1,
-        0,
-        &new,
-        &mut similarity,
-        &mut novelty,
+        c[0],
+        c[1],
+        &new[0..numbers::least(c[2], 16)],
+        &mut similarity[0..numbers::least(c[3], 18)],
+        &mut novelty[0..numbers::least(c[4], 2)],
     );
     told_alone(answer);
+    left(&was, &features, &novelty);
+}
+
+fn left(was: &[f64; 16], features: &[f64; 16], novelty: &[f64; 2]) {
     show::words(b", features changed");
-    show::count(changed(&was, &features, 0, 0));
+    show::count(changed(was, features, 0, 0));
+    show::words(b", novelty");
+    show::floats(novelty);
     show::end();
 }
 
-// The row replaced by one whose first feature is x.
-fn new(label: &[u8], x: f64) {
-    let mut row = [1.0f64; 16];
-    row[0] = x;
-    line(
-        label,
-        1,
-        0,
-        &row,
-        0.0,
-        0.5,
-        Room {
-            similarity: 17,
-            novelty: 1,
-        },
-    );
+fn rooms() {
+    let cases = [
+        [1usize, 0, 16, 17, 1], // 0: one row
+        [1, 0, 16, 18, 2], // 1: more room
+        [1, 0, 16, 16, 1], // 2: short similarity
+        [1, 0, 16, 17, 0], // 3: short novelty
+        [1, 0, 0, 17, 0], // 4: short novelty, no rows
+        [50001, 0, 16, 17, 1], // 5: 50,001 rows
+        [50000, 0, 16, 17, 1], // 6: 50,000 rows
+        [1, 2, 0, 17, 1], // 7: no rows at 2
+        [1, 1, 16, 17, 1], // 8: a row at 1
+        [1, 1, 0, 17, 1], // 9: no rows at 1
+    ];
+    let mut k = 0;
+    while k < 10 {
+        show::words(b"room");
+        show::count(k);
+        show::words(b":");
+        line(cases[k], [1.0, 1.0, 0.0, 0.5]);
+        k += 1;
+    }
 }
 
-fn features_lent() {
-    old(b"old no number:", 0.0f64 / 0.0);
-    old(
-        b"old -2^150:",
-        -1427247692705959881058285969449495136382746624.0,
-    );
-    old(
-        b"old below -2^150:",
-        -1427247692705960197970936026506845510558547968.0,
-    );
-    new(b"new no number:", 0.0f64 / 0.0);
-    new(
-        b"new 2^150:",
-        1427247692705959881058285969449495136382746624.0,
-    );
-    new(
-        b"new above 2^150:",
-        1427247692705960197970936026506845510558547968.0,
-    );
+fn values() {
+    let nan = 0.0f64 / 0.0;
+    let most = 1427247692705959881058285969449495136382746624.0f64; // 2^150
+    let above = 1427247692705960197970936026506845510558547968.0f64;
+    let cases = [
+        [1.0, 1.0, 1.0, 0.5], // 0: similarity 1
+        [1.0, 1.0, 1.0000000000000002, 0.5], // 1: similarity above 1
+        [1.0, 1.0, -1.0000000000000002, 0.5], // 2: similarity below -1
+        [1.0, 1.0, nan, 0.5], // 3: similarity no number
+        [1.0, 1.0, 0.0, most], // 4: novelty 2^150
+        [1.0, 1.0, 0.0, above], // 5: novelty above 2^150
+        [1.0, 1.0, 0.0, nan], // 6: novelty no number
+        [nan, 1.0, 0.0, 0.5], // 7: old no number
+        [-most, 1.0, 0.0, 0.5], // 8: old -2^150
+        [-above, 1.0, 0.0, 0.5], // 9: old below -2^150
+        [1.0, nan, 0.0, 0.5], // 10: new no number
+        [1.0, most, 0.0, 0.5], // 11: new 2^150
+        [1.0, above, 0.0, 0.5], // 12: new above 2^150
+    ];
+    let mut k = 0;
+    while k < 13 {
+        show::words(b"value");
+        show::count(k);
+        show::words(b":");
+        line([1, 0, 16, 17, 1], cases[k]);
+        k += 1;
+    }
 }
 
 fn main() {
-    let a = ends_and_middle(analysed());
-    let b = empty_ones(a);
-    none_anywhere(b);
-    let c = one_after_the_other(b);
-    refused_between(c);
+    let s = steps(analysed());
+    none_anywhere(s);
     rooms();
     values();
-    features_lent();
 }

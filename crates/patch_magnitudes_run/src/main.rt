@@ -88,6 +88,19 @@ fn named(first: usize, past: usize) {
     show::count(past);
 }
 
+// The slots that the answer names, of the flux and of the threshold; where it refuses, none.
+fn named_in(answer: Patched) -> [usize; 4] {
+    match answer {
+        Patched::Refused(number) => [0, 0, 0, 0],
+        Patched::Wrote {
+            flux_first,
+            flux_past,
+            threshold_first,
+            threshold_past,
+        } => [flux_first, flux_past, threshold_first, threshold_past],
+    }
+}
+
 // The answer, and how many slots of the flux and of the threshold changed outside what it names.
 fn told(
     answer: Patched,
@@ -96,31 +109,13 @@ fn told(
     old_threshold: &[f64; 32],
     threshold: &[f64; 32],
 ) {
-    match answer {
-        Patched::Refused(number) => {
-            show::words(b" refused");
-            show::small(number);
-            show::words(b", changed outside");
-            show::count(changed(old, flux, 0, 0));
-            show::count(changed(old_threshold, threshold, 0, 0));
-        }
-        Patched::Wrote {
-            flux_first,
-            flux_past,
-            threshold_first,
-            threshold_past,
-        } => {
-            show::words(b" wrote");
-            named(flux_first, flux_past);
-            show::words(b" and");
-            named(threshold_first, threshold_past);
-            show::words(b", flux changed");
-            show::count(changed(old, flux, 0, 0));
-            show::words(b", changed outside");
-            show::count(changed(old, flux, flux_first, flux_past));
-            show::count(changed(old_threshold, threshold, threshold_first, threshold_past));
-        }
-    }
+    let n = named_in(answer);
+    told_alone(answer);
+    show::words(b", flux changed");
+    show::count(changed(old, flux, 0, 0));
+    show::words(b", changed outside");
+    show::count(changed(old, flux, n[0], n[1]));
+    show::count(changed(old_threshold, threshold, n[2], n[3]));
 }
 
 // How many magnitudes changed outside the rows replaced, and how many slots of each curve differ from an analysis from nothing.
@@ -144,7 +139,7 @@ fn compared(
 }
 
 // One patch and its line; `at` and `past` are the slots of the rows that it replaces, 0 and 0 where it should replace none.
-fn step(label: &[u8], was: State, start: usize, new: &[f32], at: usize, past: usize) -> State
+fn step(was: State, start: usize, new: &[f32], at: usize, past: usize) -> State
     requires { ⌜ (at ≤ past) × (past ≤ 60) ⌝ }
 {
     let old_magnitudes = was.magnitudes;
@@ -154,7 +149,6 @@ fn step(label: &[u8], was: State, start: usize, new: &[f32], at: usize, past: us
     let mut flux = was.flux;
     let mut threshold = was.threshold;
     let mut work = [0.0f64; 21];
-    show::words(label);
     let answer = patch_magnitudes::patch_magnitudes(
         &mut magnitudes,
         30,
@@ -176,112 +170,76 @@ fn step(label: &[u8], was: State, start: usize, new: &[f32], at: usize, past: us
     }
 }
 
-fn first_and_last(was: State) -> State {
-    let n0: [f32; 2] = [0.25, 11.0];
-    let s0 = step(b"row 0:", was, 0, &n0, 0, 2);
-    let n1: [f32; 2] = [0.0, 0.0];
-    let s1 = step(b"row 29:", s0, 29, &n1, 58, 60);
-    let n2: [f32; 2] = [0.25, 11.0];
-    let s2 = step(b"row 14:", s1, 14, &n2, 28, 30);
-    let n3: [f32; 6] = [0.25, 1.5, 0.0, 7.75, 7.75, 0.25];
-    let s3 = step(b"rows 10 to 12:", s2, 10, &n3, 20, 26);
-    let n4: [f32; 60] = [
-        0.0,
-        0.75,
-        3.0,
-        0.5,
-        0.0,
-        0.0,
-        0.75,
-        3.0,
-        0.5,
-        0.0,
-        0.0,
-        0.75,
-        3.0,
-        0.5,
-        0.0,
-        0.0,
-        8.75,
-        11.0,
-        0.5,
-        0.0,
-        0.0,
-        0.75,
-        3.0,
-        0.5,
-        0.0,
-        0.0,
-        0.75,
-        3.0,
-        0.5,
-        0.0,
-        0.0,
-        0.75,
-        3.0,
-        0.5,
-        8.0,
-        8.0,
-        8.75,
-        3.0,
-        0.5,
-        0.0,
-        0.0,
-        0.75,
-        3.0,
-        0.5,
-        0.0,
-        0.0,
-        0.75,
-        3.0,
-        0.5,
-        0.0,
-        8.0,
-        0.75,
-        3.0,
-        0.5,
-        0.0,
-        0.0,
-        0.75,
-        3.0,
-        0.5,
-        0.0,
-    ];
-    let s4 = step(b"whole track:", s3, 0, &n4, 0, 60);
-    let n5: [f32; 20] = [
-        11.0,
-        1.5,
-        1.5,
-        11.0,
-        0.0,
-        7.75,
-        0.25,
-        0.0,
-        0.25,
-        0.0,
-        1.5,
-        7.75,
-        0.25,
-        7.75,
-        11.0,
-        0.0,
-        11.0,
-        0.25,
-        0.0,
-        0.25,
-    ];
-    let s5 = step(b"rows 20 to 29:", s4, 20, &n5, 40, 60);
-    s5
+// A magnitude of a byte: its distance from A in quarters; z: infinite.
+fn spelled(byte: u8) -> f32 {
+    if byte == 122 {
+        return 1.0f32 / 0.0;
+    }
+    (byte as f32 - 65.0) / 4.0
 }
 
-fn empty_ones(was: State) -> State {
-    let s0 = step(b"none at 0:", was, 0, &[], 0, 0);
-    let s1 = step(b"none at 1:", s0, 1, &[], 0, 0);
-    let s2 = step(b"none at 14:", s1, 14, &[], 0, 0);
-    let s3 = step(b"none at 29:", s2, 29, &[], 0, 0);
-    let s4 = step(b"none at 30:", s3, 30, &[], 0, 0);
-    let s5 = step(b"none at 31:", s4, 31, &[], 0, 0);
-    s5
+fn spell(text: &[u8], values: &mut [f32]) {
+    let most = numbers::least(text.len(), values.len());
+    let mut i = 0;
+    while i < most {
+        values[i] = spelled(text[i]);
+        i += 1;
+    }
+}
+
+// A step: where it starts, its new slots in the text from the second number up to the third, and the slots of the rows that it should replace.
+fn steps(was: State) -> State {
+    let cases = [
+        [0usize, 0, 2, 0, 2], // 0: row 0
+        [29, 2, 4, 58, 60], // 1: row 29
+        [14, 4, 6, 28, 30], // 2: row 14
+        [10, 6, 12, 20, 26], // 3: rows 10 to 12
+        [0, 12, 72, 0, 60], // 4: whole track
+        [20, 72, 92, 40, 60], // 5: rows 20 to 29
+        [0, 92, 92, 0, 0], // 6: none at 0
+        [1, 92, 92, 0, 0], // 7: none at 1
+        [14, 92, 92, 0, 0], // 8: none at 14
+        [29, 92, 92, 0, 0], // 9: none at 29
+        [30, 92, 92, 0, 0], // 10: none at 30
+        [31, 92, 92, 0, 0], // 11: none at 31
+        [3, 92, 96, 6, 10], // 12: rows 3 and 4
+        [5, 96, 100, 10, 14], // 13: rows 5 and 6
+        [5, 100, 108, 10, 18], // 14: rows 5 to 8
+        [7, 108, 116, 14, 22], // 15: rows 7 to 10
+        [7, 116, 124, 14, 22], // 16: rows 7 to 10 again
+        [1, 124, 126, 2, 4], // 17: row 1
+        [31, 126, 128, 0, 0], // 18: start 31
+        [2, 128, 130, 4, 6], // 19: row 2
+        [5, 130, 133, 0, 0], // 20: half a row
+        [29, 133, 137, 0, 0], // 21: past the end
+        [28, 137, 139, 56, 58], // 22: row 28
+        [30, 139, 141, 0, 0], // 23: at the row count
+        [8, 141, 143, 0, 0], // 24: infinite
+        [17, 143, 145, 34, 36], // 25: row 17
+    ];
+    let mut state = was;
+    let mut k = 0;
+    while k < 26 {
+        show::words(b"step");
+        show::count(k);
+        show::words(b":");
+        state = step_of(state, cases[k]);
+        k += 1;
+    }
+    state
+}
+
+fn step_of(was: State, c: [usize; 5]) -> State {
+    let mut values = [0.0f32; 145];
+    spell(
+        b"BmAABmBGA``BADMCAADMCAADMCAAdmCAADMCAADMCAADMCaadMCAADMCAADMCAaDMCAADMCAmGGmA`BABAG`B`mAmBABmA`GGB`ABG`BBAAB`mGGBBAG`mGGBBAGmA`m`GGGEAmmBBAG`Ezm`",
+        &mut values,
+    );
+    let to = numbers::least(c[2], 145);
+    let from = numbers::least(c[1], to);
+    let past = numbers::least(c[4], 60);
+    let at = numbers::least(c[3], past);
+    step(was, c[0], &values[from..to], at, past)
 }
 
 fn names_none(answer: Patched) -> bool {
@@ -340,144 +298,13 @@ fn none_anywhere(was: State) {
     show::end();
 }
 
-fn one_after_the_other(was: State) -> State {
-    let n0: [f32; 4] = [11.0, 0.0, 7.75, 1.5];
-    let s0 = step(b"rows 3 and 4:", was, 3, &n0, 6, 10);
-    let n1: [f32; 4] = [1.5, 0.25, 7.75, 0.0];
-    let s1 = step(b"rows 5 and 6:", s0, 5, &n1, 10, 14);
-    let n2: [f32; 8] = [0.25, 1.5, 7.75, 0.25, 0.25, 0.0, 0.0, 0.25];
-    let s2 = step(b"rows 5 to 8:", s1, 5, &n2, 10, 18);
-    let n3: [f32; 8] = [7.75, 11.0, 1.5, 1.5, 0.25, 0.25, 0.0, 1.5];
-    let s3 = step(b"rows 7 to 10:", s2, 7, &n3, 14, 22);
-    let n4: [f32; 8] = [7.75, 11.0, 1.5, 1.5, 0.25, 0.25, 0.0, 1.5];
-    let s4 = step(b"rows 7 to 10 again:", s3, 7, &n4, 14, 22);
-    let n5: [f32; 2] = [11.0, 0.0];
-    let s5 = step(b"row 1:", s4, 1, &n5, 2, 4);
-    s5
-}
-
-fn refused_between(was: State) {
-    let n0: [f32; 2] = [7.75, 11.0];
-    let s0 = step(b"start 31:", was, 31, &n0, 0, 0);
-    let n1: [f32; 2] = [7.75, 1.5];
-    let s1 = step(b"row 2:", s0, 2, &n1, 4, 6);
-    let n2: [f32; 3] = [1.5, 1.5, 1.0];
-    let s2 = step(b"half a row:", s1, 5, &n2, 0, 0);
-    let n3: [f32; 4] = [0.0, 11.0, 11.0, 0.25];
-    let s3 = step(b"past the end:", s2, 29, &n3, 0, 0);
-    let n4: [f32; 2] = [0.25, 0.0];
-    let s4 = step(b"row 28:", s3, 28, &n4, 56, 58);
-    let n5: [f32; 2] = [1.5, 7.75];
-    let s5 = step(b"at the row count:", s4, 30, &n5, 0, 0);
-    let n6: [f32; 2] = [1.0, 1.0f32 / 0.0];
-    let s6 = step(b"infinite:", s5, 8, &n6, 0, 0);
-    let n7: [f32; 2] = [11.0, 7.75];
-    step(b"row 17:", s6, 17, &n7, 34, 36);
-}
-
 fn track() -> [f32; 60] {
-    [
-        0.5,
-        0.25,
-        1.0,
-        0.0,
-        0.0,
-        0.0,
-        0.5,
-        0.0,
-        6.25,
-        9.5,
-        1.0,
-        0.0,
-        0.25,
-        0.0,
-        1.0,
-        0.0,
-        0.0,
-        0.25,
-        0.0,
-        1.0,
-        0.0,
-        0.25,
-        12.25,
-        9.75,
-        7.0,
-        12.25,
-        0.5,
-        0.25,
-        0.0,
-        0.25,
-        0.5,
-        0.0,
-        0.0,
-        0.0,
-        0.25,
-        1.0,
-        1.0,
-        0.5,
-        13.25,
-        10.5,
-        0.5,
-        0.25,
-        0.25,
-        0.25,
-        0.0,
-        0.5,
-        1.0,
-        0.5,
-        1.0,
-        0.5,
-        0.0,
-        0.0,
-        7.0,
-        6.5,
-        1.0,
-        1.0,
-        0.0,
-        0.0,
-        0.5,
-        0.5,
-    ]
-}
-
-// A track of 3 rows of 1 bin, 0, 0, 5, with lent curves that are not its own, `room` slots of each of them and of the work slice: the answer, and
-// the four slots that the flux is lent from.
-fn part_lent(
-    rows: usize,
-    bins: usize,
-    start: usize,
-    new: &[f32],
-    flux: &mut [f64],
-    threshold: &mut [f64],
-    work: &mut [f64],
-    room: Room,
-)
-    requires { ⌜ (room .flux ≤ length (now flux)) × (room .threshold ≤ length (now threshold)) × (room .work ≤ length (now work)) ⌝ }
-{
-    let mut magnitudes = [0.0f32, 0.0, 5.0];
-    let of_flux = room.flux;
-    let of_threshold = room.threshold;
-    let of_work = room.work;
-    let answer = patch_magnitudes::patch_magnitudes(
+    let mut magnitudes = [0.0f32; 60];
+    spell(
+        b"CBEAAACAZgEABAEAABAEABrh]rCBABCAAABEECvkCBBBACECECAA][EEAACC",
         &mut magnitudes,
-        rows,
-        bins,
-        start,
-        new,
-        &mut flux[0..of_flux],
-        &mut threshold[0..of_threshold],
-        &mut work[0..of_work],
     );
-    told_alone(answer);
-    show::words(b", flux");
-    show::floats(flux);
-    show::end();
-}
-
-struct Room {
-    flux: usize,
-    threshold: usize,
-    work: usize,
+    magnitudes
 }
 
 fn told_alone(answer: Patched) {
@@ -500,347 +327,116 @@ fn told_alone(answer: Patched) {
     }
 }
 
-fn line(label: &[u8], rows: usize, bins: usize, start: usize, new: &[f32], first: f64, room: Room)
-    requires { ⌜ (room .flux ≤ 4) × (room .threshold ≤ 4) × (room .work ≤ 4) ⌝ }
-{
+// A track of 3 rows of 1 bin, 0, y[0], 5, whose new row is y[1], with lent curves that are not its own and begin with x[0] and x[1]. The numbers
+// c: rows, bins, start, new slots, and so many slots of the flux, of the threshold and of the work slice. Shown are the answer, how many rows
+// changed, the four slots that the flux is lent from, and the two behind the three that are sorted in.
+fn line(c: [usize; 7], x: [f64; 2], y: [f32; 2]) {
+    let was = [0.0f32, y[0], 5.0];
+    let mut magnitudes = was;
+    let new = [y[1]; 1];
     let mut flux = [0.0f64; 4];
-    flux[0] = first;
+    flux[0] = x[0];
     flux[3] = 0.0f64 / 0.0;
     let mut threshold = [0.0f64; 4];
-    let mut work = [0.0f64; 4];
-    show::words(label);
-    part_lent(
-        rows,
-        bins,
-        start,
-        new,
-        &mut flux,
-        &mut threshold,
-        &mut work,
-        room,
-    );
-}
-
-fn room_lent() {
-    line(
-        b"row 1:",
-        3,
-        1,
-        1,
-        &[2.0f32],
-        0.0,
-        Room {
-            flux: 3,
-            threshold: 3,
-            work: 3,
-        },
-    );
-    line(
-        b"more room:",
-        3,
-        1,
-        1,
-        &[2.0f32],
-        0.0,
-        Room {
-            flux: 4,
-            threshold: 4,
-            work: 4,
-        },
-    );
-    line(
-        b"short flux:",
-        3,
-        1,
-        1,
-        &[2.0f32],
-        0.0,
-        Room {
-            flux: 2,
-            threshold: 3,
-            work: 3,
-        },
-    );
-    line(
-        b"short threshold:",
-        3,
-        1,
-        1,
-        &[2.0f32],
-        0.0,
-        Room {
-            flux: 3,
-            threshold: 2,
-            work: 3,
-        },
-    );
-    line(
-        b"short work:",
-        3,
-        1,
-        1,
-        &[2.0f32],
-        0.0,
-        Room {
-            flux: 3,
-            threshold: 3,
-            work: 2,
-        },
-    );
-    line(
-        b"short work, no rows:",
-        3,
-        1,
-        1,
-        &[],
-        0.0,
-        Room {
-            flux: 3,
-            threshold: 3,
-            work: 2,
-        },
-    );
-}
-
-fn bounds() {
-    line(
-        b"no bins:",
-        3,
-        0,
-        1,
-        &[2.0f32],
-        0.0,
-        Room {
-            flux: 2,
-            threshold: 3,
-            work: 3,
-        },
-    );
-    line(
-        b"4,097 bins:",
-        3,
-        4097,
-        1,
-        &[2.0f32],
-        0.0,
-        Room {
-            flux: 2,
-            threshold: 3,
-            work: 3,
-        },
-    );
-    line(
-        b"1,048,577 rows:",
-        1048577,
-        1,
-        1,
-        &[2.0f32],
-        0.0,
-        Room {
-            flux: 2,
-            threshold: 3,
-            work: 3,
-        },
-    );
-    line(
-        b"1,048,576 rows:",
-        1048576,
-        1,
-        1,
-        &[2.0f32],
-        0.0,
-        Room {
-            flux: 2,
-            threshold: 3,
-            work: 3,
-        },
-    );
-    line(
-        b"no rows at 4:",
-        3,
-        1,
-        4,
-        &[],
-        0.0,
-        Room {
-            flux: 2,
-            threshold: 3,
-            work: 3,
-        },
-    );
-    line(
-        b"two rows of three:",
-        2,
-        1,
-        1,
-        &[2.0f32],
-        0.0,
-        Room {
-            flux: 1,
-            threshold: 3,
-            work: 3,
-        },
-    );
-    line(
-        b"a row at 3:",
-        3,
-        1,
-        3,
-        &[2.0f32],
-        0.0,
-        Room {
-            flux: 1,
-            threshold: 3,
-            work: 3,
-        },
-    );
-    line(
-        b"no rows at 3:",
-        3,
-        1,
-        3,
-        &[],
-        0.0,
-        Room {
-            flux: 3,
-            threshold: 3,
-            work: 3,
-        },
-    );
-}
-
-fn values() {
-    line(
-        b"no number:",
-        3,
-        1,
-        1,
-        &[2.0f32],
-        0.0f64 / 0.0,
-        Room {
-            flux: 3,
-            threshold: 3,
-            work: 3,
-        },
-    );
-    line(
-        b"2^150:",
-        3,
-        1,
-        1,
-        &[2.0f32],
-        1427247692705959881058285969449495136382746624.0,
-        Room {
-            flux: 3,
-            threshold: 3,
-            work: 3,
-        },
-    );
-    line(
-        b"above 2^150:",
-        3,
-        1,
-        1,
-        &[2.0f32],
-        1427247692705960197970936026506845510558547968.0,
-        Room {
-            flux: 3,
-            threshold: 3,
-            work: 3,
-        },
-    );
-    line(
-        b"new 2^126:",
-        3,
-        1,
-        1,
-        &[85070591730234615865843651857942052864.0f32],
-        0.0,
-        Room {
-            flux: 3,
-            threshold: 3,
-            work: 3,
-        },
-    );
-    line(
-        b"new above 2^126:",
-        3,
-        1,
-        1,
-        &[85070601871439417999505073614676459520.0f32],
-        0.0,
-        Room {
-            flux: 3,
-            threshold: 3,
-            work: 3,
-        },
-    );
-    line(
-        b"new minus infinity:",
-        3,
-        1,
-        1,
-        &[-1.0f32 / 0.0],
-        0.0,
-        Room {
-            flux: 3,
-            threshold: 3,
-            work: 3,
-        },
-    );
-}
-
-// Row 1 of three rows of 1 bin replaced by 2, lent curves of zeros but for the first threshold, and five slots to sort in: the answer, how
-// many rows changed, and the work slots behind the three that are sorted in.
-fn replaced(label: &[u8], was: [f32; 3], first: f64) {
-    let mut magnitudes = was;
-    let mut flux = [0.0f64; 3];
-    let mut threshold = [0.0f64; 3];
-    threshold[0] = first;
+    threshold[0] = x[1];
     let mut work = [7.0f64; 5];
-    show::words(label);
     let answer = patch_magnitudes::patch_magnitudes(
         &mut magnitudes,
-        3,
-        1,
-        1,
-        &[2.0f32],
-        &mut flux,
-        &mut threshold,
-        &mut work,
+        c[0],
+        c[1],
+        c[2],
+        &new[0..numbers::least(c[3], 1)],
+        &mut flux[0..numbers::least(c[4], 4)],
+        &mut threshold[0..numbers::least(c[5], 4)],
+        &mut work[0..numbers::least(c[6], 5)],
     );
     told_alone(answer);
+    left(&was, &magnitudes, &flux, &work);
+}
+
+fn left(was: &[f32; 3], magnitudes: &[f32; 3], flux: &[f64; 4], work: &[f64; 5]) {
     show::words(b", rows changed");
-    show::count(magnitudes_changed(&was, &magnitudes, 0, 0));
+    show::count(magnitudes_changed(was, magnitudes, 0, 0));
+    show::words(b", flux");
+    show::floats(flux);
     show::words(b", work behind");
-    show::floats(&work[3..5]);
+    show::float(work[3]);
+    show::float(work[4]);
     show::end();
 }
 
-fn old_values() {
-    replaced(b"fine:", [0.0, 0.0, 5.0], 0.0);
-    replaced(b"threshold no number:", [0.0, 0.0, 5.0], 0.0f64 / 0.0);
-    replaced(
-        b"threshold -2^150:",
-        [0.0, 0.0, 5.0],
-        -1427247692705959881058285969449495136382746624.0,
-    );
-    replaced(
-        b"threshold below -2^150:",
-        [0.0, 0.0, 5.0],
-        -1427247692705960197970936026506845510558547968.0,
-    );
-    replaced(b"old infinite:", [0.0, 1.0f32 / 0.0, 5.0], 0.0);
-    replaced(
-        b"old 2^126:",
-        [0.0, 85070591730234615865843651857942052864.0f32, 5.0],
-        0.0,
-    );
-    replaced(
-        b"old above 2^126:",
-        [0.0, 85070601871439417999505073614676459520.0f32, 5.0],
-        0.0,
-    );
+fn rooms() {
+    let cases = [
+        [3usize, 1, 1, 1, 3, 3, 3], // 0: row 1
+        [3, 1, 1, 1, 4, 4, 4], // 1: more room
+        [3, 1, 1, 1, 2, 3, 3], // 2: short flux
+        [3, 1, 1, 1, 3, 2, 3], // 3: short threshold
+        [3, 1, 1, 1, 3, 3, 2], // 4: short work
+        [3, 1, 1, 0, 3, 3, 2], // 5: short work, no rows
+        [3, 0, 1, 1, 2, 3, 3], // 6: no bins
+        [3, 4097, 1, 1, 2, 3, 3], // 7: 4,097 bins
+        [1048577, 1, 1, 1, 2, 3, 3], // 8: 1,048,577 rows
+        [1048576, 1, 1, 1, 2, 3, 3], // 9: 1,048,576 rows
+        [3, 1, 4, 0, 2, 3, 3], // 10: no rows at 4
+        [2, 1, 1, 1, 1, 3, 3], // 11: two rows of three
+        [3, 1, 3, 1, 1, 3, 3], // 12: a row at 3
+        [3, 1, 3, 0, 3, 3, 3], // 13: no rows at 3
+    ];
+    let mut k = 0;
+    while k < 14 {
+        show::words(b"room");
+        show::count(k);
+        show::words(b":");
+        line(cases[k], [0.0, 0.0], [0.0, 2.0]);
+        k += 1;
+    }
+}
+
+fn values() {
+    let nan = 0.0f64 / 0.0;
+    let most = 1427247692705959881058285969449495136382746624.0f64; // 2^150
+    let above = 1427247692705960197970936026506845510558547968.0f64;
+    let large = 85070591730234615865843651857942052864.0f32; // 2^126
+    let larger = 85070601871439417999505073614676459520.0f32;
+    let infinite = 1.0f32 / 0.0;
+    let curves = [
+        [nan, 0.0], // 0: flux no number
+        [most, 0.0], // 1: flux 2^150
+        [above, 0.0], // 2: flux above 2^150
+        [0.0, 0.0], // 3: new 2^126
+        [0.0, 0.0], // 4: new above 2^126
+        [0.0, 0.0], // 5: new minus infinity
+        [0.0, 0.0], // 6: fine
+        [0.0, nan], // 7: threshold no number
+        [0.0, -most], // 8: threshold -2^150
+        [0.0, -above], // 9: threshold below -2^150
+        [0.0, 0.0], // 10: old infinite
+        [0.0, 0.0], // 11: old 2^126
+        [0.0, 0.0], // 12: old above 2^126
+    ];
+    let magnitudes = [
+        [0.0, 2.0],
+        [0.0, 2.0],
+        [0.0, 2.0],
+        [0.0, large],
+        [0.0, larger],
+        [0.0, -infinite],
+        [0.0, 2.0],
+        [0.0, 2.0],
+        [0.0, 2.0],
+        [0.0, 2.0],
+        [infinite, 2.0],
+        [large, 2.0],
+        [larger, 2.0],
+    ];
+    let mut k = 0;
+    while k < 13 {
+        show::words(b"value");
+        show::count(k);
+        show::words(b":");
+        line([3, 1, 1, 1, 3, 3, 5], curves[k], magnitudes[k]);
+        k += 1;
+    }
 }
 
 // Two rows of 4,096 bins, the second replaced by ones.
@@ -869,20 +465,10 @@ fn widest() {
     show::end();
 }
 
-fn alone() {
-    room_lent();
-    bounds();
-    values();
-    old_values();
-    widest();
-}
-
 fn main() {
-    let a = analysed(track());
-    let b = first_and_last(a);
-    let c = empty_ones(b);
-    none_anywhere(c);
-    let d = one_after_the_other(c);
-    refused_between(d);
-    alone();
+    let s = steps(analysed(track()));
+    none_anywhere(s);
+    rooms();
+    values();
+    widest();
 }

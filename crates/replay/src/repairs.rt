@@ -39,14 +39,18 @@ fn magnitudes(s: u64, start: usize) {
     inputs::fill_magnitudes(&mut new, inputs::next(s));
     flux::spectral_flux(&slab, 40, 1, &mut flux);
     threshold::adaptive_threshold(&flux, &mut threshold, &mut work);
-    patched(&mut slab, start, &new, &mut flux, &mut threshold);
-}
-
-fn patched(slab: &mut [f32], start: usize, new: &[f32], flux: &mut [f64], threshold: &mut [f64]) {
-    let mut work = [0.0f64; 21];
-    wrote(patch_magnitudes::patch_magnitudes(slab, 40, 1, start, new, flux, threshold, &mut work));
-    lines::slots(b"patched flux", flux);
-    lines::slots(b"patched threshold", threshold);
+    wrote(patch_magnitudes::patch_magnitudes(
+        &mut slab,
+        40,
+        1,
+        start,
+        &new,
+        &mut flux,
+        &mut threshold,
+        &mut work,
+    ));
+    lines::slots(b"patched flux", &flux);
+    lines::slots(b"patched threshold", &threshold);
 }
 
 fn wrote_features(p: PatchedFeatures) {
@@ -80,18 +84,15 @@ fn features(s: u64, start: usize) {
     inputs::fill(&mut new, inputs::next(s));
     similarities::similarity(&lent, 20, &mut similarity);
     novelties::novelty(&similarity, 20, &mut novelty);
-    patched_features(&mut lent, start, &new, &mut similarity, &mut novelty);
-}
-
-fn patched_features(
-    lent: &mut [f64],
-    start: usize,
-    new: &[f64],
-    similarity: &mut [f64],
-    novelty: &mut [f64],
-) {
-    wrote_features(patch_features::patch_features(lent, 20, start, new, similarity, novelty));
-    lines::slots(b"patched novelty", novelty);
+    wrote_features(patch_features::patch_features(
+        &mut lent,
+        20,
+        start,
+        &new,
+        &mut similarity,
+        &mut novelty,
+    ));
+    lines::slots(b"patched novelty", &novelty);
 }
 
 pub fn round(s: u64) {

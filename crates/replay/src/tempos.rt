@@ -50,7 +50,8 @@ fn lag_of(e: TempoEstimate, period: usize) -> usize {
     if e.count == 0 { period } else { c.lag }
 }
 
-fn searched(envelope: &[f64], rate: u32, opts: TempoOpts, s: u64) {
+// The tempo, and the lag to go on with.
+fn searched(envelope: &[f64], rate: u32, opts: TempoOpts, s: u64) -> usize {
     let mut clarity = [0.0f64; 60];
     let mut weight = [0.0f64; 60];
     let mut work = [0.0f64; 60];
@@ -64,7 +65,13 @@ fn searched(envelope: &[f64], rate: u32, opts: TempoOpts, s: u64) {
         &mut work,
     );
     told(e);
-    let lag = lag_of(e, inputs::up_to_twenty(s));
+    lag_of(e, inputs::up_to_twenty(s))
+}
+
+fn windows(envelope: &[f64], rate: u32, opts: TempoOpts, lag: usize) {
+    let mut clarity = [0.0f64; 60];
+    let mut weight = [0.0f64; 60];
+    let mut work = [0.0f64; 60];
     let w = stability::stability_of(
         envelope,
         rate,
@@ -76,7 +83,6 @@ fn searched(envelope: &[f64], rate: u32, opts: TempoOpts, s: u64) {
     );
     let share = w.stability;
     steady(share);
-    beats_of(envelope, lag);
 }
 
 fn steady(stability: Stability) {
@@ -140,6 +146,8 @@ pub fn round(s: u64) {
     let rate = (s % 5000) as u32 + 1;
     let opts = TempoOpts::between(30.0 + inputs::level(2, 0, s), 300.0);
     range(rate, opts);
-    searched(&envelope, rate, opts, s);
+    let lag = searched(&envelope, rate, opts, s);
+    windows(&envelope, rate, opts, lag);
+    beats_of(&envelope, lag);
     places(s);
 }
