@@ -12,7 +12,9 @@ one that isn't contiguous, or an output that can't be written raises TypeError; 
 a whole number that its C type cannot hold raises OverflowError; and none of these writes anything. A call that lists answers how many
 entries it listed: they stand first in the slice, and the slots behind them are unchanged.
 
-Calls hold no lock while they compute: threads run at the same time, each with outputs of its own. Don't change a lent buffer meanwhile.
+Calls hold no lock while they compute: threads run at the same time, each with outputs of its own, and may read the same inputs. A call
+that shares a slice with one of another thread that is still at work, where either writes it, raises ValueError. Only calls of this module
+are seen: that nothing else, such as NumPy in another thread, changes a lent buffer meanwhile is the caller's to see to.
 """
 import array
 import ctypes
@@ -20,6 +22,7 @@ import operator
 import os
 import pathlib
 import sys
+import threading
 from typing import NamedTuple, Optional
 
 __all__ = [
@@ -227,13 +230,29 @@ def _small(name, number):
     return _whole(name, number, ctypes.c_uint32)
 
 
-def _apart(call, lent):
-    """Raises a ValueError where a slice that is written overlaps another: the proofs hold of slices that don't."""
+# what calls have been lent that are still at work, each by the id of its list; ctypes lets other threads run meanwhile
+_flying, _gate = {}, threading.RLock()
+
+
+def _forked():
+    """In a forked child only the thread that forked lives on: no call is at work."""
+    global _gate
+    _gate = threading.RLock()
+    _flying.clear()
+
+
+if hasattr(os, "register_at_fork"):
+    os.register_at_fork(after_in_child=_forked)
+
+
+def _apart(call, lent, others=None):
+    """Raises a ValueError where a slice that is written overlaps another, of this call or of `others`, what another call was lent: the
+    proofs hold of slices that don't, and that nobody else writes."""
     for slice_, view in lent:
-        for other, seen in lent:
-            if slice_.written and slice_ is not other and view.len and seen.len:
+        for other, seen in lent if others is None else others:
+            if (slice_.written or others and other.written) and slice_ is not other and view.len and seen.len:
                 if view.buf < seen.buf + seen.len and seen.buf < view.buf + view.len:
-                    raise ValueError(f"{call}: {slice_.name} overlaps {other.name}")
+                    raise ValueError(f"{call}: {slice_.name} overlaps {other.name}{' of a call in another thread' if others else ''}")
 
 
 def _call(call, *parts):
@@ -251,8 +270,14 @@ def _call(call, *parts):
         _apart(call, lent)
         function = getattr(_library, "ph_" + call)
         function.restype = ctypes.c_uint32
+        with _gate:
+            for others in list(_flying.values()):
+                _apart(call, lent, others)
+            _flying[id(lent)] = lent
         number = function(*words)
     finally:
+        with _gate:
+            _flying.pop(id(lent), None)
         for _, view in lent:
             _release(view)
     if number:
@@ -464,7 +489,11 @@ class Analysis(NamedTuple):
 
 
 class Buffers:
-    """The room of one analysis, made once and used for track after track. A call that refuses changes no view handed out before."""
+    """The room of one analysis, made once and used for track after track. A call that refuses changes no view handed out before.
+
+    One thread at a time: a call while another thread's is at work in the same Buffers raises ValueError. Once that one is done, a call
+    writes over what its views show, so let each thread have Buffers of its own, or copy the views first. Nothing else may write the
+    magnitudes or the envelope while a call reads them."""
 
     def __init__(self, rows, rate, opts=TempoOpts()):
         self.room = room_of(rows, rate, opts)

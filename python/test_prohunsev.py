@@ -10,6 +10,7 @@ import random
 import re
 import subprocess
 import sys
+import threading
 import unittest
 import unittest.mock
 from array import array
@@ -447,6 +448,63 @@ class Tracks(unittest.TestCase):
         with concurrent.futures.ThreadPoolExecutor(8) as pool:
             for told in pool.map(lambda _: self.told(ph.Buffers(3_000, RATE).analyse_envelope(envelope, RATE)), range(16)):
                 self.assertEqual(told, alone)
+
+    def test_threads_share_no_output(self):
+        # the first call is held inside the library until the others have been tried
+        envelope, score, back, beats = pulses(200), room(200), frame_room(200), frame_room(200)
+        begun, done, inner = threading.Event(), threading.Event(), ph._library.ph_beat_grid
+
+        class Held:
+            def __call__(self, *words):
+                begun.set()
+                done.wait(30)
+                return inner(*words)
+
+        alone = ph.beat_grid(envelope, 94, room(200), frame_room(200), frame_room(200))
+        with concurrent.futures.ThreadPoolExecutor(1) as pool:
+            with unittest.mock.patch.object(ph._library, "ph_beat_grid", Held()):
+                first = pool.submit(ph.beat_grid, envelope, 94, score, back, beats)
+                self.assertTrue(begun.wait(30))
+            try:
+                for name, call, words in (
+                    ("back overlaps back", ph.beat_grid, (envelope, 94, room(200), back, frame_room(200))),
+                    ("work overlaps envelope", ph.median_of, (reals(1, 2), memoryview(envelope)[10:12])),
+                    ("frames overlaps beats", ph.frame_times, (memoryview(beats)[:2], RATE, room(2))),
+                ):
+                    with self.assertRaisesRegex(ValueError, name + " of a call in another thread"):
+                        call(*words)
+                # what both only read, and neighbours, are allowed
+                self.assertEqual(ph.beat_grid(envelope, 94, room(200), frame_room(200), frame_room(200)), alone)
+            finally:
+                done.set()
+            self.assertEqual(first.result(), alone)
+        self.assertEqual(ph.beat_grid(envelope, 94, score, back, beats), alone)
+        self.assertEqual(ph._flying, {})
+
+    def test_threads_in_one_buffers(self):
+        buffers, envelope = ph.Buffers(3_000, RATE), pulses(3_000)
+        alone = self.told(buffers.analyse_envelope(envelope, RATE))[:3]
+
+        def tried(_):
+            try:
+                return buffers.analyse_envelope(envelope, RATE)[:3]
+            except ValueError as error:
+                return str(error)
+
+        with concurrent.futures.ThreadPoolExecutor(3) as pool:
+            for told in pool.map(tried, range(60)):
+                if told != alone:
+                    self.assertRegex(str(told), "analyse_envelope: .* of a call in another thread")
+
+    @unittest.skipUnless(hasattr(os, "fork"), "no fork here")
+    def test_a_fork_forgets_calls(self):
+        values = reals(1, 2, 3)
+        with unittest.mock.patch.dict(ph._flying, {0: [(ph._reals_out("work", values), ph._reals_out("work", values).take("x"))]}):
+            self.assertRaises(ValueError, ph.median_of, values, room(3))
+            child = os.fork()
+            if child == 0:
+                os._exit(0 if ph._flying == {} and ph.median_of(values, room(3)) == 2.0 else 1)
+            self.assertEqual(os.waitpid(child, 0)[1], 0)
 
 
 @unittest.skipUnless(numpy, "NumPy is not installed")
