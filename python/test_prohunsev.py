@@ -296,8 +296,17 @@ class Lending(unittest.TestCase):
         self.wrong(OverflowError, "rate is -1", ph.lag_range, -1)
         self.wrong(OverflowError, "rate is 4295015296", ph.lag_range, 2 ** 32 + RATE)
         self.wrong(OverflowError, "rows is", ph.spectral_flux, singles(1), 2 ** 64 + 1, 1, room(1))
-        self.wrong(TypeError, "", ph.lag_range, 48_000.0)
-        self.wrong(TypeError, "", ph.bar_beat_at, "now", reals(), reals())
+        self.wrong(TypeError, "rate must be a whole number, not float", ph.lag_range, 48_000.0)
+        self.wrong(TypeError, "time must be a real number, not str", ph.bar_beat_at, "now", reals(), reals())
+        self.wrong(TypeError, "median must be a real number, not NoneType", ph.mad_of, reals(1), None, room(1))
+        self.wrong(OverflowError, "median is too large", ph.mad_of, reals(1), 10 ** 400, room(1))
+
+    def test_bounds(self):
+        self.assertEqual(ph.lag_range(RATE, (100, 200)), (56, 113))
+        self.assertEqual(ph.room_of(30, RATE, [200, 100]).lags, 58)
+        self.wrong(TypeError, "opts must be a TempoOpts or a pair of numbers, not 120", ph.lag_range, RATE, 120)
+        self.wrong(TypeError, "opts must be a TempoOpts or a pair of numbers, not (1, 2, 3)", ph.room_of, 30, RATE, (1, 2, 3))
+        self.wrong(TypeError, "max_bpm must be a real number, not str", ph.lag_range, RATE, (100, "200"))
 
     def test_empty_slices(self):
         ph.spectral_flux(singles(), 0, 1, reals())
