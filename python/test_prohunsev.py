@@ -555,10 +555,23 @@ class Arrays(unittest.TestCase):
 
     def test_readme(self):
         text = (pathlib.Path(__file__).parent / "README.md").read_text()
+        self.assertEqual(self.said(text), "Tempo(bpm=119.68085106382979, clarity=1.0) 240 [5, 381, 757]\n")
+
+    ROOT = pathlib.Path(__file__).resolve().parent.parent / "README.md"
+
+    @unittest.skipUnless(ROOT.is_file(), "the project's README is not above this folder")
+    def test_readme_of_the_project(self):
+        text = self.ROOT.read_text()
+        said = self.said(text)
+        self.assertTrue(said.startswith("Tempo(bpm=119.68"), said)
+        self.assertTrue(f"`{said.strip()}`" in text, "README.md says something else than " + said)
+
+    def said(self, text):
+        """What the Python example of a text prints."""
         said = io.StringIO()
         with contextlib.redirect_stdout(said):
             exec(text.split("```python\n")[1].split("```")[0], {})
-        self.assertEqual(said.getvalue(), "None 0 []\n")
+        return said.getvalue()
 
     def test_numbers_of_numpy(self):
         self.assertEqual(ph.lag_range(numpy.uint32(RATE)), (38, 375))
