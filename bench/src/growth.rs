@@ -61,7 +61,8 @@ fn of_envelopes(rounds: usize, stage: &str, run: Stage, tell: Tell) {
     }
     if stage == "beats" {
         each(stage, "period", 50, doubled(50).map(|n| [16_384, 338, n]), rounds);
-        // a period above 2,048 has no table: few slots and runs, since it takes seconds; of 8,192 slots the last period has no term left
+        // a period above 2,048 has no table: few slots and runs, since it takes seconds; in 8,192 slots the last period has no frame far
+        // enough back
         each("beats, no table", "slots", 2_048, doubled(2_048).map(|n| [n, 338, 2_500]), rounds.min(3));
         each("beats, no table", "period", 2_500, doubled(2_500).map(|n| [8_192, 338, n]), rounds.min(3));
     }
