@@ -12,7 +12,9 @@ one that isn't contiguous, or an output that can't be written raises TypeError; 
 a whole number that its C type cannot hold raises OverflowError; and none of these writes anything. A call that lists answers how many
 entries it listed: they stand first in the slice, and the slots behind them are unchanged.
 
-Calls hold no lock while they compute: threads run at the same time, each with outputs of its own. Don't change a lent buffer meanwhile.
+Calls hold no lock while they compute: threads run at the same time, each with outputs of its own, and may read the same inputs. A call
+that shares a slice with one of another thread that is still at work, where either writes it, raises ValueError. Only calls of this module
+are seen: that nothing else, such as NumPy in another thread, changes a lent buffer meanwhile is the caller's to see to.
 """
 import array
 import ctypes
@@ -20,6 +22,7 @@ import operator
 import os
 import pathlib
 import sys
+import threading
 from typing import NamedTuple, Optional
 
 __all__ = [
@@ -42,7 +45,7 @@ class Refused(Exception):
            " 45,000, at most 50,000 feature rows of 1 to 2**31 samples, finite BPM bounds, frames at most 1,048,575; or a patch starts"
            " past its rows, a median's list is empty, or a peak list doesn't ascend or points past its curve",
         2: "an input's length isn't rows times width, or a patch isn't whole rows or runs past the end",
-        3: "an output or work slice has fewer slots than its formula",
+        3: "an output or work slice has fewer slots than its formula, which the call's help says under Room, and docs/ROOM.md",
         4: "a value isn't finite or is too large: magnitudes up to 2**126, envelopes, curves, medians and features up to 2**150,"
            " similarities -1 to 1",
     }
@@ -56,7 +59,7 @@ class Refused(Exception):
 
 
 class TempoOpts(NamedTuple):
-    """The bounds of the tempo search in beats a minute, in either order."""
+    """The bounds of the tempo search in beats a minute, in either order; where a call takes one, it takes a pair of numbers too."""
     min_bpm: float = 30.0
     max_bpm: float = 300.0
 
@@ -213,10 +216,31 @@ def _frames_out(name, lent):
 
 def _whole(name, number, kind):
     """A whole number in its C type; ctypes alone would cut one that doesn't fit."""
-    number, most = operator.index(number), 2 ** (8 * ctypes.sizeof(kind)) - 1
+    try:
+        number, most = operator.index(number), 2 ** (8 * ctypes.sizeof(kind)) - 1
+    except TypeError:
+        raise TypeError(f"{name} must be a whole number, not {type(number).__name__}") from None
     if not 0 <= number <= most:
         raise OverflowError(f"{name} is {number}, outside 0 to {most}")
     return kind(number)
+
+
+def _real(name, number):
+    try:
+        return ctypes.c_double(number)
+    except TypeError:
+        raise TypeError(f"{name} must be a real number, not {type(number).__name__}") from None
+    except OverflowError:
+        raise OverflowError(f"{name} is too large for a float64") from None
+
+
+def _bounds(opts):
+    """The bounds of a tempo search: a TempoOpts, or any pair of numbers."""
+    try:
+        first, second = opts
+    except (TypeError, ValueError):
+        raise TypeError(f"opts must be a TempoOpts or a pair of numbers, not {opts!r}") from None
+    return _real("min_bpm", first), _real("max_bpm", second)
 
 
 def _size(name, number):
@@ -227,13 +251,29 @@ def _small(name, number):
     return _whole(name, number, ctypes.c_uint32)
 
 
-def _apart(call, lent):
-    """Raises a ValueError where a slice that is written overlaps another: the proofs hold of slices that don't."""
+# what calls have been lent that are still at work, each by the id of its list; ctypes lets other threads run meanwhile
+_flying, _gate = {}, threading.RLock()
+
+
+def _forked():
+    """In a forked child only the thread that forked lives on: no call is at work."""
+    global _gate
+    _gate = threading.RLock()
+    _flying.clear()
+
+
+if hasattr(os, "register_at_fork"):
+    os.register_at_fork(after_in_child=_forked)
+
+
+def _apart(call, lent, others=None):
+    """Raises a ValueError where a slice that is written overlaps another, of this call or of `others`, what another call was lent: the
+    proofs hold of slices that don't, and that nobody else writes."""
     for slice_, view in lent:
-        for other, seen in lent:
-            if slice_.written and slice_ is not other and view.len and seen.len:
+        for other, seen in lent if others is None else others:
+            if (slice_.written or others and other.written) and slice_ is not other and view.len and seen.len:
                 if view.buf < seen.buf + seen.len and seen.buf < view.buf + view.len:
-                    raise ValueError(f"{call}: {slice_.name} overlaps {other.name}")
+                    raise ValueError(f"{call}: {slice_.name} overlaps {other.name}{' of a call in another thread' if others else ''}")
 
 
 def _call(call, *parts):
@@ -251,8 +291,14 @@ def _call(call, *parts):
         _apart(call, lent)
         function = getattr(_library, "ph_" + call)
         function.restype = ctypes.c_uint32
+        with _gate:
+            for others in list(_flying.values()):
+                _apart(call, lent, others)
+            _flying[id(lent)] = lent
         number = function(*words)
     finally:
+        with _gate:
+            _flying.pop(id(lent), None)
         for _, view in lent:
             _release(view)
     if number:
@@ -278,7 +324,7 @@ def median_of(values, work):
 def mad_of(values, median, work):
     """The median of the values' distances from a given median. Room: work as long as values; it then holds anything."""
     mad = ctypes.c_double()
-    _call("mad_of", _reals("values", values), ctypes.c_double(median), _reals_out("work", work), ctypes.byref(mad))
+    _call("mad_of", _reals("values", values), _real("median", median), _reals_out("work", work), ctypes.byref(mad))
     return mad.value
 
 
@@ -324,8 +370,7 @@ def frame_times(frames, rate, ms):
 def lag_range(rate, opts=TempoOpts()):
     """The lags that the bounds stand for; its `lags` is the room of each lag curve."""
     least, most = ctypes.c_size_t(), ctypes.c_size_t()
-    _call("lag_range", _small("rate", rate), ctypes.c_double(opts.min_bpm), ctypes.c_double(opts.max_bpm), ctypes.byref(least),
-          ctypes.byref(most))
+    _call("lag_range", _small("rate", rate), *_bounds(opts), ctypes.byref(least), ctypes.byref(most))
     return LagRange(least.value, most.value)
 
 
@@ -336,8 +381,8 @@ def estimate(envelope, onsets, rate, opts, clarity, weight, work):
     onsets, clarity and weight then hold each lag's."""
     found, bpm, clear, count = ctypes.c_uint32(), ctypes.c_double(), ctypes.c_double(), ctypes.c_size_t()
     lags, saliences = (ctypes.c_size_t * 3)(), (ctypes.c_double * 3)()
-    _call("estimate", _reals("envelope", envelope), _size("onsets", onsets), _small("rate", rate), ctypes.c_double(opts.min_bpm),
-          ctypes.c_double(opts.max_bpm), _reals_out("clarity", clarity), _reals_out("weight", weight), _reals_out("work", work),
+    _call("estimate", _reals("envelope", envelope), _size("onsets", onsets), _small("rate", rate), *_bounds(opts),
+          _reals_out("clarity", clarity), _reals_out("weight", weight), _reals_out("work", work),
           ctypes.byref(found), ctypes.byref(bpm), ctypes.byref(clear), lags, saliences, ctypes.byref(count))
     tempo = Tempo(bpm.value, clear.value) if found.value else None
     return TempoEstimate(tempo, tuple(Candidate(lags[k], saliences[k]) for k in range(count.value)))
@@ -348,7 +393,7 @@ def stability_of(envelope, rate, opts, whole_lag, clarity, weight, work):
 
     All three then hold anything."""
     found, fraction, agreeing, windows = ctypes.c_uint32(), ctypes.c_double(), ctypes.c_size_t(), ctypes.c_size_t()
-    _call("stability_of", _reals("envelope", envelope), _small("rate", rate), ctypes.c_double(opts.min_bpm), ctypes.c_double(opts.max_bpm),
+    _call("stability_of", _reals("envelope", envelope), _small("rate", rate), *_bounds(opts),
           _size("whole_lag", whole_lag), _reals_out("clarity", clarity), _reals_out("weight", weight), _reals_out("work", work),
           ctypes.byref(found), ctypes.byref(fraction), ctypes.byref(agreeing), ctypes.byref(windows))
     return Stability(fraction.value, agreeing.value, windows.value) if found.value else None
@@ -371,7 +416,7 @@ def downbeats(envelope, beats, frames):
 def bar_beat_at(time, downbeats, beats):
     """The bar and beat that a time lies in, or None before the first bar; all times in one unit. Refuses nothing."""
     found, bar, beat = ctypes.c_uint32(), ctypes.c_size_t(), ctypes.c_size_t()
-    _call("bar_beat_at", ctypes.c_double(time), _reals("downbeats", downbeats), _reals("beats", beats), ctypes.byref(found),
+    _call("bar_beat_at", _real("time", time), _reals("downbeats", downbeats), _reals("beats", beats), ctypes.byref(found),
           ctypes.byref(bar), ctypes.byref(beat))
     return BarBeat(bar.value, beat.value) if found.value else None
 
@@ -419,14 +464,18 @@ def _patch(call, *parts):
 
 
 def patch_magnitudes(magnitudes, rows, bins, start, new_rows, flux, threshold, work):
-    """Replaces rows from start on and repairs flux and threshold, as a fresh analysis of the edited rows gives them."""
+    """Replaces rows from start on and repairs flux and threshold, as a fresh analysis of the edited rows gives them.
+
+    Room: rows slots of flux and of threshold, threshold_room(rows) slots of work, which then hold anything."""
     return Patched(*_patch("patch_magnitudes", _Slice("magnitudes", magnitudes, _FLOAT32, True), _size("rows", rows), _size("bins", bins),
                            _size("start", start), _Slice("new_rows", new_rows, _FLOAT32, False), _reals_out("flux", flux),
                            _reals_out("threshold", threshold), _reals_out("work", work)))
 
 
 def patch_features(features, rows, start, new_rows, similarity, novelty):
-    """Replaces feature rows from start on and repairs similarity and novelty, as a fresh analysis of the edited rows gives them."""
+    """Replaces feature rows from start on and repairs similarity and novelty, as a fresh analysis of the edited rows gives them.
+
+    Room: similarity_room(rows) slots of similarity and rows slots of novelty."""
     return PatchedFeatures(*_patch("patch_features", _reals_out("features", features), _size("rows", rows), _size("start", start),
                                    _reals("new_rows", new_rows), _reals_out("similarity", similarity), _reals_out("novelty", novelty)))
 
@@ -448,7 +497,7 @@ class Room(NamedTuple):
 def room_of(rows, rate, opts=TempoOpts()):
     """The room for a track of at most so many rows."""
     slots = [ctypes.c_size_t() for _ in range(3)]
-    _call("room_of", _size("rows", rows), _small("rate", rate), ctypes.c_double(opts.min_bpm), ctypes.c_double(opts.max_bpm),
+    _call("room_of", _size("rows", rows), _small("rate", rate), *_bounds(opts),
           *map(ctypes.byref, slots))
     return Room(*(slot.value for slot in slots))
 
@@ -464,7 +513,11 @@ class Analysis(NamedTuple):
 
 
 class Buffers:
-    """The room of one analysis, made once and used for track after track. A call that refuses changes no view handed out before."""
+    """The room of one analysis, made once and used for track after track. A call that refuses changes no view handed out before.
+
+    One thread at a time: a call while another thread's is at work in the same Buffers raises ValueError. Once that one is done, a call
+    writes over what its views show, so let each thread have Buffers of its own, or copy the views first. Nothing else may write the
+    magnitudes or the envelope while a call reads them."""
 
     def __init__(self, rows, rate, opts=TempoOpts()):
         self.room = room_of(rows, rate, opts)
@@ -495,7 +548,7 @@ class Buffers:
         found, steady = ctypes.c_uint32(), ctypes.c_uint32()
         bpm, clarity, fraction = (ctypes.c_double() for _ in range(3))
         lags, saliences = (ctypes.c_size_t * 3)(), (ctypes.c_double * 3)()
-        _call(call, *lent, _small("rate", rate), ctypes.c_double(opts.min_bpm), ctypes.c_double(opts.max_bpm), *flux,
+        _call(call, *lent, _small("rate", rate), *_bounds(opts), *flux,
               _reals_out("threshold", self._threshold), _frames_out("onsets", self._onsets), _reals_out("clarity", self._clarity),
               _reals_out("weight", self._weight), _reals_out("window_clarity", self._window_clarity),
               _reals_out("window_weight", self._window_weight), _reals_out("score", self._score), _frames_out("back", self._back),

@@ -10,6 +10,7 @@ import random
 import re
 import subprocess
 import sys
+import threading
 import unittest
 import unittest.mock
 from array import array
@@ -295,8 +296,17 @@ class Lending(unittest.TestCase):
         self.wrong(OverflowError, "rate is -1", ph.lag_range, -1)
         self.wrong(OverflowError, "rate is 4295015296", ph.lag_range, 2 ** 32 + RATE)
         self.wrong(OverflowError, "rows is", ph.spectral_flux, singles(1), 2 ** 64 + 1, 1, room(1))
-        self.wrong(TypeError, "", ph.lag_range, 48_000.0)
-        self.wrong(TypeError, "", ph.bar_beat_at, "now", reals(), reals())
+        self.wrong(TypeError, "rate must be a whole number, not float", ph.lag_range, 48_000.0)
+        self.wrong(TypeError, "time must be a real number, not str", ph.bar_beat_at, "now", reals(), reals())
+        self.wrong(TypeError, "median must be a real number, not NoneType", ph.mad_of, reals(1), None, room(1))
+        self.wrong(OverflowError, "median is too large", ph.mad_of, reals(1), 10 ** 400, room(1))
+
+    def test_bounds(self):
+        self.assertEqual(ph.lag_range(RATE, (100, 200)), (56, 113))
+        self.assertEqual(ph.room_of(30, RATE, [200, 100]).lags, 58)
+        self.wrong(TypeError, "opts must be a TempoOpts or a pair of numbers, not 120", ph.lag_range, RATE, 120)
+        self.wrong(TypeError, "opts must be a TempoOpts or a pair of numbers, not (1, 2, 3)", ph.room_of, 30, RATE, (1, 2, 3))
+        self.wrong(TypeError, "max_bpm must be a real number, not str", ph.lag_range, RATE, (100, "200"))
 
     def test_empty_slices(self):
         ph.spectral_flux(singles(), 0, 1, reals())
@@ -448,6 +458,63 @@ class Tracks(unittest.TestCase):
             for told in pool.map(lambda _: self.told(ph.Buffers(3_000, RATE).analyse_envelope(envelope, RATE)), range(16)):
                 self.assertEqual(told, alone)
 
+    def test_threads_share_no_output(self):
+        # the first call is held inside the library until the others have been tried
+        envelope, score, back, beats = pulses(200), room(200), frame_room(200), frame_room(200)
+        begun, done, inner = threading.Event(), threading.Event(), ph._library.ph_beat_grid
+
+        class Held:
+            def __call__(self, *words):
+                begun.set()
+                done.wait(30)
+                return inner(*words)
+
+        alone = ph.beat_grid(envelope, 94, room(200), frame_room(200), frame_room(200))
+        with concurrent.futures.ThreadPoolExecutor(1) as pool:
+            with unittest.mock.patch.object(ph._library, "ph_beat_grid", Held()):
+                first = pool.submit(ph.beat_grid, envelope, 94, score, back, beats)
+                self.assertTrue(begun.wait(30))
+            try:
+                for name, call, words in (
+                    ("back overlaps back", ph.beat_grid, (envelope, 94, room(200), back, frame_room(200))),
+                    ("work overlaps envelope", ph.median_of, (reals(1, 2), memoryview(envelope)[10:12])),
+                    ("frames overlaps beats", ph.frame_times, (memoryview(beats)[:2], RATE, room(2))),
+                ):
+                    with self.assertRaisesRegex(ValueError, name + " of a call in another thread"):
+                        call(*words)
+                # what both only read, and neighbours, are allowed
+                self.assertEqual(ph.beat_grid(envelope, 94, room(200), frame_room(200), frame_room(200)), alone)
+            finally:
+                done.set()
+            self.assertEqual(first.result(), alone)
+        self.assertEqual(ph.beat_grid(envelope, 94, score, back, beats), alone)
+        self.assertEqual(ph._flying, {})
+
+    def test_threads_in_one_buffers(self):
+        buffers, envelope = ph.Buffers(3_000, RATE), pulses(3_000)
+        alone = self.told(buffers.analyse_envelope(envelope, RATE))[:3]
+
+        def tried(_):
+            try:
+                return buffers.analyse_envelope(envelope, RATE)[:3]
+            except ValueError as error:
+                return str(error)
+
+        with concurrent.futures.ThreadPoolExecutor(3) as pool:
+            for told in pool.map(tried, range(60)):
+                if told != alone:
+                    self.assertRegex(str(told), "analyse_envelope: .* of a call in another thread")
+
+    @unittest.skipUnless(hasattr(os, "fork"), "no fork here")
+    def test_a_fork_forgets_calls(self):
+        values = reals(1, 2, 3)
+        with unittest.mock.patch.dict(ph._flying, {0: [(ph._reals_out("work", values), ph._reals_out("work", values).take("x"))]}):
+            self.assertRaises(ValueError, ph.median_of, values, room(3))
+            child = os.fork()
+            if child == 0:
+                os._exit(0 if ph._flying == {} and ph.median_of(values, room(3)) == 2.0 else 1)
+            self.assertEqual(os.waitpid(child, 0)[1], 0)
+
 
 @unittest.skipUnless(numpy, "NumPy is not installed")
 class Arrays(unittest.TestCase):
@@ -488,10 +555,23 @@ class Arrays(unittest.TestCase):
 
     def test_readme(self):
         text = (pathlib.Path(__file__).parent / "README.md").read_text()
+        self.assertEqual(self.said(text), "Tempo(bpm=119.68085106382979, clarity=1.0) 240 [5, 381, 757]\n")
+
+    ROOT = pathlib.Path(__file__).resolve().parent.parent / "README.md"
+
+    @unittest.skipUnless(ROOT.is_file(), "the project's README is not above this folder")
+    def test_readme_of_the_project(self):
+        text = self.ROOT.read_text()
+        said = self.said(text)
+        self.assertTrue(said.startswith("Tempo(bpm=119.68"), said)
+        self.assertTrue(f"`{said.strip()}`" in text, "README.md says something else than " + said)
+
+    def said(self, text):
+        """What the Python example of a text prints."""
         said = io.StringIO()
         with contextlib.redirect_stdout(said):
             exec(text.split("```python\n")[1].split("```")[0], {})
-        self.assertEqual(said.getvalue(), "None 0 []\n")
+        return said.getvalue()
 
     def test_numbers_of_numpy(self):
         self.assertEqual(ph.lag_range(numpy.uint32(RATE)), (38, 375))

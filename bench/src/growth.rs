@@ -1,7 +1,7 @@
 //! How the port's cost grows: each count doubled three times, all else kept.
 use crate::clock::{in_turns, ran};
 use crate::music::{RATE, features, magnitudes};
-use crate::stages::{Patched, Room, Search, Worker, counted};
+use crate::stages::{Patched, PatchedRows, Room, Search, Worker, counted};
 use prohunsev as port;
 
 /// Tells the stage, the count, its first value and the four times in seconds.
@@ -48,19 +48,23 @@ fn beats(flux: &[f64], _: Search, period: usize, room: &mut Room) {
 }
 
 fn of_envelopes(rounds: usize, stage: &str, run: Stage, tell: Tell) {
-    let mut each = |count: &str, first: usize, sizes: [[usize; 3]; 4]| {
+    let mut each = |stage: &str, count: &str, first: usize, sizes: [[usize; 3]; 4], rounds: usize| {
         let mut works = sizes.map(|[slots, lags, period]| -> Box<dyn FnMut()> {
             let (flux, mut room, search) = (envelope_of(slots), Room::of(slots, lags), search(lags));
             Box::new(move || run(&flux, search, period, &mut room))
         });
         tell(stage, count, first, times(&mut works, rounds));
     };
-    each("slots", 16_384, doubled(16_384).map(|n| [n, 338, 95]));
+    each(stage, "slots", 16_384, doubled(16_384).map(|n| [n, 338, 95]), rounds);
     if stage == "lag curves" || stage == "stability" {
-        each("lags", 256, doubled(256).map(|n| [16_384, n, 95]));
+        each(stage, "lags", 256, doubled(256).map(|n| [16_384, n, 95]), rounds);
     }
     if stage == "beats" {
-        each("period", 50, doubled(50).map(|n| [16_384, 338, n]));
+        each(stage, "period", 50, doubled(50).map(|n| [16_384, 338, n]), rounds);
+        // a period above 2,048 has no table: few slots and runs, since it takes seconds; in 8,192 slots the last period has no frame far
+        // enough back
+        each("beats, no table", "slots", 2_048, doubled(2_048).map(|n| [n, 338, 2_500]), rounds.min(3));
+        each("beats, no table", "period", 2_500, doubled(2_500).map(|n| [8_192, 338, n]), rounds.min(3));
     }
 }
 
@@ -83,11 +87,15 @@ fn of_magnitudes(rounds: usize, tell: Tell) {
         });
         tell("patch of magnitudes", count, first, times(&mut works, rounds));
     }
-    let mut works = doubled(4_096).map(|rows| -> Box<dyn FnMut()> {
-        let (slab, mut worker) = (magnitudes(rows, 128, 1), Worker::for_tracks(rows));
-        Box::new(move || ran(worker.analyse(&slab, rows, 128)))
-    });
-    tell("whole track", "rows", 4_096, times(&mut works, rounds));
+    for (count, first, sizes) in
+        [("rows", 4_096, doubled(4_096).map(|n| [n, 128])), ("bins", 128, doubled(128).map(|n| [4_096, n]))]
+    {
+        let mut works = sizes.map(|[rows, bins]| -> Box<dyn FnMut()> {
+            let (slab, mut worker) = (magnitudes(rows, bins, 1), Worker::for_tracks(rows));
+            Box::new(move || ran(worker.analyse(&slab, rows, bins)))
+        });
+        tell("whole track", count, first, times(&mut works, rounds));
+    }
 }
 
 fn of_features(rounds: usize, tell: Tell) {
@@ -123,6 +131,15 @@ fn of_features(rounds: usize, tell: Tell) {
     };
     bounds("rows", sizes[0], [(0, 12), (1, 12), (2, 12), (3, 12)]);
     bounds("most sections", 12, doubled(12).map(|most| (3, most)));
+    let patches =
+        [("rows", 6_250, doubled(6_250).map(|n| [n, 512])), ("new rows", 512, doubled(512).map(|n| [50_000, n]))];
+    for (count, first, sizes) in patches {
+        let mut works = sizes.map(|[rows, new]| -> Box<dyn FnMut()> {
+            let mut patched = PatchedRows::of(features(rows, 3), rows, new);
+            Box::new(move || patched.turn())
+        });
+        tell("patch of features", count, first, times(&mut works, rounds));
+    }
 }
 
 /// Every stage, by each count that it depends on, as rows of a table.

@@ -1,7 +1,7 @@
 //! The speed of each stage beside the Rust of docs/src: the same inputs, one process, bits compared before anything is timed.
 //!
 //!   bench          every size, and how cost grows
-//!   bench quick    tracks up to three minutes and 3,600 feature rows, and no growth
+//!   bench quick    tracks up to three minutes and feature rows up to an hour, and no growth
 mod clock;
 mod growth;
 mod music;
@@ -9,7 +9,7 @@ mod stages;
 
 use stages::{Line, counted};
 
-// What original / ours should reach, from the study of forms; at 3,600 feature rows and at more where there are two.
+// What original / ours should reach, from the study of forms; up to 3,600 feature rows and above where there are two.
 fn aim(stage: &str, feature_rows: usize) -> Option<f64> {
     Some(match stage {
         "flux" => 1.25,
@@ -78,7 +78,8 @@ fn main() {
         let [rust, port] = stages::beats(&flux, 3_000, 3);
         take(Line { stage: "beats, period 3,000", size: counted(16_384), rust, port, full: None }, 0);
     }
-    for rows in if quick { vec![3_600] } else { vec![3_600, 50_000] } {
+    // three minutes, an hour and the most, at a row a second
+    for &rows in &[180, 3_600, 50_000][..if quick { 2 } else { 3 }] {
         stages::sections(rows, 15, &mut |line| take(line, rows));
     }
     println!("\n| patch | of | ours ms | our full run ms | part | original's full run ms |");

@@ -179,6 +179,14 @@ pub fn beats(flux: &[f64], period: usize, rounds: usize) -> [f64; 2] {
     )
 }
 
+/// What the calls on a track answer: the tempo, its clarity, the stability, and how many onset, beat and downbeat times there are.
+pub struct Told {
+    tempo: Option<[f64; 2]>,
+    stability: Option<f64>,
+    candidates: [Option<(usize, f64)>; 3],
+    times: [usize; 3],
+}
+
 /// From magnitudes to onset times, tempo, stability, beat times and downbeat times, in lent room that is made once.
 pub struct Worker {
     buffers: port::Buffers,
@@ -191,14 +199,18 @@ impl Worker {
         Worker { buffers, ms: [(); 3].map(|()| vec![0.0; rows]) }
     }
 
-    // the tempo and the stability, and how many onset, beat and downbeat times there are
-    pub fn analyse(&mut self, slab: &[f32], rows: usize, bins: usize) -> (Option<f64>, Option<f64>, [usize; 3]) {
+    pub fn analyse(&mut self, slab: &[f32], rows: usize, bins: usize) -> Told {
         let found = self.buffers.analyse_magnitudes(slab, rows, bins, RATE, port::TempoOpts::new()).unwrap();
         let lists = [found.onsets, found.beats, found.downbeats];
         for (list, ms) in lists.iter().zip(&mut self.ms) {
             port::frame_times(list, RATE, ms).unwrap();
         }
-        (found.tempo.map(|t| t.bpm), found.stability.map(|s| s.fraction), lists.map(<[u32]>::len))
+        Told {
+            tempo: found.tempo.map(|t| [t.bpm, t.clarity]),
+            stability: found.stability.map(|s| s.fraction),
+            candidates: std::array::from_fn(|k| found.candidates().get(k).map(|c| (c.lag, c.salience))),
+            times: lists.map(<[u32]>::len),
+        }
     }
 }
 
@@ -210,15 +222,20 @@ fn whole(slab: &[f32], given: &Stft, rows: usize, bins: usize, rounds: usize) ->
         (heard, report)
     };
     let mut worker = Worker::for_tracks(rows);
-    let (bpm, stability, counts) = worker.analyse(slab, rows, bins);
+    let told = worker.analyse(slab, rows, bins);
     let (heard, report) = run();
-    same("tempo", (report.bpm, report.stability), (bpm, stability));
+    let tempo = report.bpm.map(|bpm| bits(&[bpm, report.confidence]));
+    same("tempo", tempo, told.tempo.map(|tempo| bits(&tempo)));
+    same("stability", report.stability.map(f64::to_bits), told.stability.map(f64::to_bits));
+    let bpm_of = |lag: usize| tempo::open::frame_rate(RATE) * 60.0 / lag as f64;
+    let candidates = told.candidates.iter().flatten().map(|&(lag, salience)| bits(&[bpm_of(lag), salience])).collect();
+    same("candidates", report.candidates.iter().map(|c| bits(&[c.bpm, c.salience])).collect::<Vec<_>>(), candidates);
     for (k, (name, ms)) in
         [("onsets", &heard.times_ms), ("beats", &report.beats_ms), ("downbeats", &report.downbeats_ms)]
             .iter()
             .enumerate()
     {
-        same(name, bits(ms), bits(&worker.ms[k][..counts[k]]));
+        same(name, bits(ms), bits(&worker.ms[k][..told.times[k]]));
     }
     in_turns(rounds, [&mut || ran(run()), &mut || ran(worker.analyse(slab, rows, bins))])
 }
@@ -276,9 +293,36 @@ impl Patched {
     }
 }
 
+/// Feature rows whose middle is replaced by others and then by its own again, in turns.
+pub struct PatchedRows {
+    given: Vec<f64>,
+    rows: usize,
+    start: usize,
+    other: [Vec<f64>; 2],
+    alike: Vec<f64>,
+    novel: Vec<f64>,
+}
+
+impl PatchedRows {
+    pub fn of(given: Vec<f64>, rows: usize, count: usize) -> PatchedRows {
+        let start = (rows - count) / 2;
+        let own = given[16 * start..16 * (start + count)].to_vec();
+        let (mut alike, mut novel) = (vec![0.0; 17 * rows], vec![0.0; rows]);
+        port::similarity(&given, rows, &mut alike).unwrap();
+        port::novelty(&alike, rows, &mut novel).unwrap();
+        PatchedRows { given, rows, start, other: [features(count, 4), own], alike, novel }
+    }
+
+    pub fn turn(&mut self) {
+        let PatchedRows { given, rows, start, other, alike, novel } = self;
+        port::patch_features(given, *rows, *start, &other[0], alike, novel).unwrap();
+        other.swap(0, 1);
+    }
+}
+
 /// The stages of so many feature rows.
 pub fn sections(rows: usize, rounds: usize, tell: &mut dyn FnMut(Line)) {
-    let mut given = features(rows, 3);
+    let given = features(rows, 3);
     let size = counted(rows);
     let of_rust = |given: &[f64]| -> Vec<[f64; 16]> { given.chunks(16).map(|row| row.try_into().unwrap()).collect() };
     let rust_rows = of_rust(&given);
@@ -325,29 +369,19 @@ pub fn sections(rows: usize, rounds: usize, tell: &mut dyn FnMut(Line)) {
     );
 
     // a row is a second long
-    let start = (rows - 20) / 2;
-    let mut other = [features(20, 4), given[16 * start..16 * (start + 20)].to_vec()];
-    port::patch_features(&mut given, rows, start, &other[0], &mut alike, &mut novel).unwrap();
-    other.swap(0, 1);
-    let edited = given.clone();
+    let mut patched = PatchedRows::of(given, rows, 20);
+    patched.turn();
+    let edited = patched.given.clone();
     let rust_rows = of_rust(&edited);
     let band = structure::open::Similarity::compute(&rust_rows);
-    same("patched similarity", bits(band.values()), bits(&alike));
-    same("patched novelty", bits(&band.novelty()), bits(&novel));
-    let (mut alike2, mut novel2) = (alike.clone(), novel.clone());
+    same("patched similarity", bits(band.values()), bits(&patched.alike));
+    same("patched novelty", bits(&band.novelty()), bits(&patched.novel));
     let [rust, port, full] = in_turns(
         rounds,
-        [
-            &mut || ran(structure::open::Similarity::compute(&rust_rows).novelty()),
-            &mut || {
-                port::patch_features(&mut given, rows, start, &other[0], &mut alike, &mut novel).unwrap();
-                other.swap(0, 1);
-            },
-            &mut || {
-                port::similarity(&edited, rows, &mut alike2).unwrap();
-                port::novelty(&alike2, rows, &mut novel2).unwrap();
-            },
-        ],
+        [&mut || ran(structure::open::Similarity::compute(&rust_rows).novelty()), &mut || patched.turn(), &mut || {
+            port::similarity(&edited, rows, &mut alike).unwrap();
+            port::novelty(&alike, rows, &mut novel).unwrap();
+        }],
     );
     line("twenty feature rows", [rust, port], Some(full));
 }

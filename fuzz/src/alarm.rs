@@ -139,7 +139,7 @@ extern "C" fn fault(signal: c_int, info: *const Info, _: *mut c_void) {
                 };
             }
         }
-        let _ = writeln!(text, "\n  again: fuzz case {} {}", now.call, now.case);
+        let _ = writeln!(text, "\n  again: tools/fuzz case {} {}", now.call, now.case);
         write_all(&text.bytes[..text.count]);
         _exit(FAULT)
     }

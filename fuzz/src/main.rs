@@ -79,7 +79,7 @@ fn all_of(call: &Call, seed: u64, count: u64, pool: &mut Pool) -> Tally {
             Err(what) => {
                 tally.faults += 1;
                 if tally.faults <= 3 {
-                    println!("ph_{}: {what}\n  again: fuzz case {} {case}", call.name, call.name);
+                    println!("ph_{}: {what}\n  again: tools/fuzz case {} {case}", call.name, call.name);
                 }
             }
         }

@@ -1,7 +1,7 @@
 //! Resident memory of a worker that tags track after track, in two ways: with buffers of the formula's size, made once and lent to every
 //! call; and as the old worker did, with vectors pooled by track length, none of which is ever let go. tools/flat runs both and draws.
 //!
-//!     flat lent TRACKS       a reading now and then: tracks tagged so far, and bytes resident
+//!     flat lent TRACKS       readings taken on the way, told at the end: tracks tagged so far, and bytes resident
 //!     flat pooled TRACKS     the same, the old way
 //!     flat draw LENT POOLED OUT.svg      draws two lists of readings; fails if the first rises after its warm-up
 use prohunsev::{boundaries, limits, novelty, rooms, similarity, Buffers, Refusal, TempoOpts};
@@ -21,10 +21,10 @@ const ROW_LENGTH: u64 = 24_000;
 const FRAMES_A_ROW: usize = 94;
 // as many readings as the year had Mondays
 const READINGS: usize = 52;
-// a rise of ours by more than this after the first reading is a leak: sixteen pages of 4,096 bytes
-const TOLERANCE: u64 = 16 * 4_096;
-// what the host of the old worker lets it have
-const HOST: u64 = 1 << 30;
+// a rise of ours by more than so many pages after the first reading is a leak
+const TOLERANCE: u64 = 4;
+// where the old worker is stopped
+const ENOUGH: u64 = 1 << 30;
 
 /// A plain generator of numbers, so that both workers get the same tracks.
 struct Numbers(u64);
@@ -52,27 +52,28 @@ fn resident() -> u64 {
     pages * page()
 }
 
-/// Tags tracks and tells a reading after each so many; the first is taken once the longest track has been tagged. A worker that has
-/// more memory than its host gives it is killed.
+/// Tags tracks and takes a reading after each so many; the first is taken once the longest track has been tagged and a reading has been
+/// tried. A worker above 1 GiB is stopped. All are told at the end, so that telling them isn't counted.
 fn readings(tracks: usize, mut tag: impl FnMut(usize, &mut Numbers)) {
     let mut r = Numbers(52);
+    let mut taken = Vec::with_capacity(READINGS + 2);
     tag(*FRAMES.end(), &mut r);
-    let mut told = 0;
+    resident();
     for done in 0..=tracks {
         let now = resident();
-        if now > HOST {
-            println!("{done} {now}");
-            return;
+        if now > ENOUGH {
+            taken.push((done, now));
+            break;
         }
-        while told * tracks <= done * READINGS && told <= READINGS {
-            println!("{done} {now}");
-            told += 1;
+        while taken.len() * tracks <= done * READINGS && taken.len() <= READINGS {
+            taken.push((done, now));
         }
         if done < tracks {
             let frames = r.length();
             tag(frames, &mut r);
         }
     }
+    taken.iter().for_each(|(done, bytes)| println!("{done} {bytes}"));
 }
 
 // magnitudes of a track: decaying hits at some tempo over a floor
@@ -250,7 +251,7 @@ fn picture(lent: &[(u64, u64)], pooled: &[(u64, u64)]) -> String {
     let ((_, p), (a, b)) = (ends(pooled), ends(lent));
     let end = pooled[pooled.len() - 1].0;
     let (beside, high) = (x(end as f64) + 12.0, y(p as f64) + 46.0);
-    let fate = if p > HOST { "; its host has 1 GiB and kills it" } else { "" };
+    let fate = if p > ENOUGH { "; stopped here, at 1 GiB" } else { "" };
     put(format!("<g fill=\"#c0392b\"><text x=\"{beside:.1}\" y=\"{high:.1}\">one work vector a track, pooled by track length:</text>"));
     put(format!(
         "<text x=\"{beside:.1}\" y=\"{:.1}\">{} after {} tracks{fate}</text></g>",
@@ -273,10 +274,11 @@ fn draw(lent: &str, pooled: &str, out: &str) -> bool {
     fs::write(out, picture(&lent, &pooled)).unwrap_or_else(|e| stop(&format!("{out}: {e}")));
     let (first, most) = (lent[0].1, lent.iter().map(|p| p.1).max().unwrap_or(0));
     let rise = most.saturating_sub(first);
-    println!("lent: {first} bytes resident at first, {most} at most, a rise of {rise}; {TOLERANCE} are tolerated");
+    let tolerated = TOLERANCE * page();
+    println!("lent: {first} bytes resident at first, {most} at most, a rise of {rise}; {tolerated} are tolerated");
     let (tracks, bytes) = pooled[pooled.len() - 1];
     println!("pooled: {} bytes resident at first, {bytes} after {tracks} tracks", pooled[0].1);
-    let flat = rise <= TOLERANCE;
+    let flat = rise <= tolerated;
     println!(
         "{} tracks, {} readings: {}",
         lent[lent.len() - 1].0,

@@ -4,6 +4,9 @@
 //! answers come back by value, and outputs are slices of the caller's, whose size is a formula ([`rooms`]). Nothing is allocated, nothing
 //! is kept from call to call, and any number of threads may call at once.
 //!
+//! A call takes up to 40 KB of its thread's stack on x86-64 (measured: 34,279 bytes in a whole track, on a stack filled with a pattern). A
+//! thread of 40 KB ran a whole track in a release build; without optimisation what stands around the call needs more, and 48 KB were enough.
+//!
 //! - A call answers, or refuses with a [`Refusal`], and then nothing that was lent has changed.
 //! - "No tempo" and "no stability" are answers: `Ok` of a `None`.
 //! - A call that lists answers how many entries it listed; they stand first in the slice, and the slots behind them are unchanged.

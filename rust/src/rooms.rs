@@ -95,8 +95,9 @@ impl Track {
         Ok(room)
     }
 
-    /// All of it in bytes: 40 a row, 32 a lag and 8 a slot of sorting.
+    /// All of it in bytes: 40 a row, 32 a lag and 8 a slot of sorting; `usize::MAX` for numbers of your own that come to more.
     pub const fn bytes(self) -> usize {
-        40 * self.rows + 32 * self.lags + 8 * self.sorting
+        let sorted = self.lags.saturating_mul(32).saturating_add(self.sorting.saturating_mul(8));
+        self.rows.saturating_mul(40).saturating_add(sorted)
     }
 }

@@ -62,9 +62,10 @@ pub struct LagRange {
 }
 
 impl LagRange {
-    /// How many lags there are, both ends counted: the room of each lag curve.
+    /// How many lags there are, both ends counted: the room of each lag curve. Ends of your own that are in the wrong order count as 1,
+    /// and nothing counts as more than `usize::MAX`.
     pub const fn lags(self) -> usize {
-        self.max_lag - self.min_lag + 1
+        self.max_lag.saturating_sub(self.min_lag).saturating_add(1)
     }
 }
 

@@ -152,3 +152,14 @@ fn buffers_used_again() {
         assert!(again.is_ok());
     }
 }
+
+#[test]
+fn numbers_of_ones_own() {
+    let most = usize::MAX;
+    assert_eq!(rooms::Track { rows: most, lags: 0, sorting: 0 }.bytes(), most);
+    assert_eq!(rooms::Track { rows: most / 40, lags: most, sorting: most }.bytes(), most);
+    assert_eq!(rooms::Track { rows: 1, lags: 1, sorting: 1 }.bytes(), 80);
+    assert_eq!(LagRange { min_lag: 0, max_lag: most }.lags(), most);
+    assert_eq!(LagRange { min_lag: 5, max_lag: 2 }.lags(), 1);
+    assert_eq!(rooms::similarity(most), most);
+}
