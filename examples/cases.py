@@ -122,5 +122,17 @@ for pieces in (1, 3, 7, 64):
         if run(bytes_, pieces) != expected:
             wrong += 1
             print("WRONG:", name, "in pieces of", pieces)
-print("%d cases, %d wrong" % (len(cases) + 8, wrong))
+# a refusal is told once the whole input is read: nobody who writes it meets a closed pipe
+for start, expected in [(header(8001, 1), refused(1)), (paper, refused(2)), (header("04", 1), refused(5)), (b"x" * 10, refused(5))]:
+    child = subprocess.Popen([REPORT], stdin=subprocess.PIPE, stdout=subprocess.PIPE)
+    try:
+        child.stdin.write(start + bytes(1 << 21))
+        child.stdin.flush()
+        broken = False
+    except BrokenPipeError:
+        broken = True
+    if broken or child.communicate()[0].decode() != expected:
+        wrong += 1
+        print("WRONG: two million bytes behind", start[:10])
+print("%d cases, %d wrong" % (len(cases) + 12, wrong))
 sys.exit(1 if wrong else 0)

@@ -5,9 +5,9 @@
  *
  * Numbers of refusal. Every function returns one of these, the lowest that applies:
  *   0  answered ("no tempo" and "no stability" are answers)
- *   1  a number is out of bounds: a rate outside 1 to 192,000, more than 1,048,576 rows or slots, bins outside 1 to 4,096, more than
- *      50,000 feature rows, a feature length outside 1 to 2^31, a period or whole lag above 45,000, a bpm that isn't finite, a patch
- *      that starts past the last row, a frame above 1,048,575, a peak list that doesn't ascend strictly or points past its curve, or
+ *   1  a number is out of bounds: a rate outside 1 to 192,000, more than 1,048,576 magnitude rows or slots of a curve, bins outside 1 to
+ *      4,096, more than 50,000 feature rows, a feature length outside 1 to 2^31, a period or whole lag above 45,000, a bpm that isn't
+ *      finite, a patch whose start is above its row count, a frame above 1,048,575, a peak list that doesn't ascend strictly or points past its curve, or
  *      the median of nothing
  *   2  the length of an input isn't rows times width, or a patch isn't whole rows or runs past the end
  *   3  too little room: an output or a work slice is shorter than its formula
@@ -15,8 +15,8 @@
  *      features, and outside -1 to 1 for a similarity
  * A refusal changes nothing that was lent: no slot of a slice, and none of the numbers that an answer would go into.
  *
- * Slices. A slice is a pointer and a length in slots, one behind the other: `const double *flux, size_t flux_len`. A slice that is
- * written may be longer than its formula; slots behind it are neither read nor written. A pointer to a single number, and an array of
+ * Slices. A slice is a pointer and a length in slots, one behind the other: `const double *flux, size_t flux_len`. An output
+ * or work slice may be longer than its formula; slots behind it are neither read nor written. A pointer to a single number, and an array of
  * three, has no length. What a pointer must be: not null, also where the length is 0; aligned for its type; good for its length; and
  * what a function writes must overlap nothing else that is lent to the same call. C cannot check this and neither does the library:
  * the proofs hold of callers that keep it.
@@ -139,7 +139,7 @@ uint32_t ph_bar_beat_at(double time, const double *downbeats, size_t downbeats_l
 
 /* ---- sections */
 
-/* How alike each feature row is to itself and to the sixteen rows after it, from -1 to 1, and 0 past the last row.
+/* How alike each feature row is to itself and to the sixteen rows after it, from -1 to 1; 0 past the last row and beside a row of zeros.
  * Room: 17 rows slots of similarity.
  * Refuses 1 for rows above 50,000, 2 where there aren't 16 rows feature values, 3, and 4 for a value. */
 uint32_t ph_similarity(const double *features, size_t features_len, size_t rows, double *similarity, size_t similarity_len);
@@ -162,7 +162,7 @@ uint32_t ph_boundary_times(const uint32_t *rows, size_t rows_len, uint64_t lengt
 
 /* ---- repairs */
 
-/* Replaces the rows from start on by the new ones, mends flux and threshold as a full run on the edited rows gives them, and names the slots written.
+/* Replaces the rows from start on by the new ones, mends flux and threshold, those of the old rows, to what a full run on the edited rows gives, and names the slots written.
  * Room: rows slots each of flux and threshold, and min(21, rows) of work, which then hold anything. No new rows: nothing changes, and all four are 0.
  * Refuses 1 for rows, bins or a start above rows, 2 for a length, 3, and 4 for a magnitude, old or new, or one of the first rows values of a curve. */
 uint32_t ph_patch_magnitudes(float *magnitudes, size_t magnitudes_len, size_t rows, size_t bins, size_t start,
@@ -170,7 +170,7 @@ uint32_t ph_patch_magnitudes(float *magnitudes, size_t magnitudes_len, size_t ro
                              double *work, size_t work_len,
                              size_t *flux_first, size_t *flux_past, size_t *threshold_first, size_t *threshold_past);
 
-/* Replaces the feature rows from start on by the new ones, mends similarity and novelty as a full run on the edited rows gives them, and names the slots.
+/* Replaces the feature rows from start on by the new ones, mends similarity and novelty, those of the old rows, to what a full run on the edited rows gives, and names the slots.
  * Room: 17 rows slots of similarity and rows of novelty. No new rows: nothing changes, and all four are 0.
  * Refuses 1 for rows or a start above rows, 2 for a length, 3, and 4 for a feature, old or new, or a value of a curve up to its formula. */
 uint32_t ph_patch_features(double *features, size_t features_len, size_t rows, size_t start, const double *new_rows, size_t new_rows_len,
@@ -179,8 +179,8 @@ uint32_t ph_patch_features(double *features, size_t features_len, size_t rows, s
 
 /* ---- a whole track */
 
-/* The room of a whole analysis: *row_slots for each slice with a slot a row, *lag_slots for each of the four lag curves, *work_slots for work.
- * With exactly this room neither analysis below refuses with 3, and with one slot fewer anywhere both do.
+/* The room of a whole analysis: *row_slots each for flux, threshold, onsets, score, back, beats and downbeats, *lag_slots for each of the four lag curves, *work_slots for work.
+ * With exactly this room neither analysis below refuses with 3; with one slot fewer in a slice that it is lent it does, unless a lower number applies.
  * Refuses 1 for rows above 1,048,576, the rate or a bound that isn't finite. */
 uint32_t ph_room_of(size_t rows, uint32_t rate, double min_bpm, double max_bpm, size_t *row_slots, size_t *lag_slots, size_t *work_slots);
 

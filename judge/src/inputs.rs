@@ -296,7 +296,7 @@ pub fn stability_of(r: &mut Numbers) -> Fields {
         _ => r.whole(min as u64, max as u64),
     };
     let [a, b, c] = lag_rooms(r, rate, bpm);
-    vec![Reals(envelope), Whole(rate), Real(bpm.0), Real(bpm.1), Whole(whole_lag.min(u64::MAX)), size(a), size(b), size(c)]
+    vec![Reals(envelope), Whole(rate), Real(bpm.0), Real(bpm.1), Whole(whole_lag), size(a), size(b), size(c)]
 }
 
 // ---- beats and bars
@@ -311,7 +311,11 @@ pub fn all_grids(each: &mut dyn FnMut(Fields)) {
 
 pub fn beat_grid(r: &mut Numbers) -> Fields {
     let n = if r.once_in(20) { r.size(200, 1_200) } else { r.size(0, 120) };
+    // a period above 2,048 has no table, and half of it has to fit for a frame to have earlier ones to choose from
+    let untabled = r.once_in(60);
+    let n = if untabled { r.size(1_100, 1_200) } else { n };
     let period = match r.whole(0, 30) {
+        _ if untabled => r.of(&[2_047, 2_048, 2_049, 2_100]),
         0 => r.of(&[0, 45_000, 45_001, u64::MAX, 44_999]),
         1..=3 => r.whole(n as u64 / 3, 2 * n as u64 + 2),
         4..=6 => r.whole(60, 110),
@@ -394,6 +398,8 @@ fn feature_rows(r: &mut Numbers) -> usize {
     match r.whole(0, 5) {
         0 => r.size(0, 3),
         1..=3 => r.size(4, 22),
+        // some span more than one block of 112 rows
+        _ if r.once_in(8) => r.size(105, 240),
         _ => r.size(23, 60),
     }
 }
@@ -620,7 +626,7 @@ pub fn all_patches_of_features(each: &mut dyn FnMut(Fields)) {
 }
 
 pub fn patch_features(r: &mut Numbers) -> Fields {
-    let rows = r.size(0, 44);
+    let rows = if r.once_in(40) { r.size(113, 260) } else { r.size(0, 44) };
     let lent = features(r, rows);
     let similarity: Vec<f64> = (0..rows * BAND).map(|_| r.real(-1.0, 1.0)).collect();
     let novelty = curve(r, rows);
@@ -768,8 +774,8 @@ pub fn at_the_bounds(call: &str, each: &mut dyn FnMut(Fields)) {
             "patch_features" => each(vec![
                 Reals(wave(rows * WIDTH)),
                 size(rows),
-                size(rows - 3),
-                Reals(wave(3 * WIDTH)),
+                size(rows - 300),
+                Reals(wave(300 * WIDTH)),
                 Reals(wave(rows * BAND)),
                 Reals(wave(rows)),
             ]),
@@ -787,7 +793,7 @@ pub fn at_the_bounds(call: &str, each: &mut dyn FnMut(Fields)) {
             }
         }
         "beat_grid" => {
-            for (n, period) in [(30_000, 45_000u64), (30_000, 20_000), (25_000, 45_001)] {
+            for (n, period) in [(30_000, 45_000u64), (30_000, 20_000), (25_000, 45_001), (9_000, 2_047), (9_000, 2_048), (9_000, 2_049)] {
                 each(vec![Reals(saw(n)), Whole(period), size(n), size(n), size(n)]);
             }
         }

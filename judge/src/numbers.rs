@@ -41,7 +41,7 @@ impl Numbers {
 }
 
 /// How many shapes `curve` knows.
-const SHAPES: u64 = 18;
+const SHAPES: u64 = 19;
 
 /// A curve of n slots in one of the shapes.
 pub fn curve(r: &mut Numbers, n: usize) -> Vec<f64> {
@@ -94,6 +94,8 @@ pub fn curve(r: &mut Numbers, n: usize) -> Vec<f64> {
             let from = r.size(0, n);
             (0..n).map(|t| if t < from { 0.0 } else { (t % 3) as f64 * scale }).collect()
         }
+        // peaks of both zeros, which only the total order tells apart
+        18 => (0..n).map(|_| r.of(&[-1.0, -1.0, 0.0, -0.0])).collect(),
         // two periods at once, an accent on every fourth
         16 => {
             let p = period as usize;

@@ -1,7 +1,7 @@
 // One whole analysis: from an envelope of onset strength, or from magnitudes, to onsets, tempo, candidates, stability, beats and downbeats.
 //
-// Document 01, Onsets, Tempo and candidates, Beats and bars, and its room. The Rust: onsets.rs `analyze_stft` and tempo.rs `estimate`.
-// The parts are called in turn over slices that are lent; each refusal is judged once, before any part is called.
+// Document 01, Onsets, Tempo and candidates, Beats and bars, and its room. The Rust: onsets.rs `analyze_stft` and tempo.rs `estimate_from_parts`.
+// The parts are called in turn over slices that are lent; every refusal of an analysis is decided before any part is called.
 use flux::fill_flux;
 use lags::TempoOpts;
 use rooms::envelope_refusal;

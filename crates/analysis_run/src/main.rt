@@ -1,4 +1,4 @@
-// Runs the calls of `analysis` on a track of clicks, on both sides of each boundary, and prints what they answer and leave; the file stdout holds
+// Runs the calls of `rooms` and `analysis` on a track of clicks, on both sides of each boundary, and prints what they answer and leave; the file stdout holds
 // what must come out.
 //
 // The clicks are four frames apart, from frame 1 on, at rate 2,048: eight frames a second, so 120 beats a minute. The lags are 2 to 16.

@@ -25,7 +25,7 @@ use Rattle.capi.specs.Grids.{BeatsTold, Placed}
 use Rattle.capi.specs.Forms.{SectionsLent, BoundariesTold}
 use Rattle.capi.specs.Repairs.{Ranges, RowsPromise, FeaturesPromise}
 
--- the number and what is lent; `ph_lag_range` by itself
+-- the number and what is lent; `ph_lag_range` and `ph_room_of` by itself
 pub handed-unique : {A : Type 0} {number : ℕ} {parts lent₀ : A} {a b : ℕ} {x y : A}
     → Handed number parts lent₀ a x → Handed number parts lent₀ b y → (a ≡ b) × (x ≡ y)
 handed-unique p q = (p .number-is ∙ sym (q .number-is), p .parts-are ∙ sym (q .parts-are))

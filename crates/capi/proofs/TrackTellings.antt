@@ -4,7 +4,9 @@ use mathlib.Core.Path.{_≡_, refl, sym, _∙_}
 use mathlib.Core.List.{List}
 use lib.ListN.{length, drop}
 use lib.Ieee.{Float}
+use Rattle.numbers.specs.Lists.{curve}
 use Rattle.numbers.specs.Refusals.{unlessRefused}
+use Rattle.flux.specs.Flux.{fluxAt}
 use Rattle.lags.specs.declared.TempoOpts.{TempoOpts}
 use Rattle.track.specs.declared.Analysis.{Analysis}
 use Rattle.rooms.specs.Rooms.{Results, Spare}
@@ -13,7 +15,7 @@ use Rattle.analysis.specs.Analyses.{AnalysedMagnitudes}
 use Rattle.analysis.proofs.Promises.{open-coincide}
 use Rattle.capi.specs.Handed.{Handed}
 use Rattle.capi.specs.Tempos.{TempoLent, tempoLent, ShareLent}
-use Rattle.capi.specs.Tracks.{TrackLent, trackParts, TrackTold, MagnitudesPromise}
+use Rattle.capi.specs.Tracks.{TrackLent, trackParts, TrackTold, FluxTold, MagnitudesPromise}
 use Rattle.capi.proofs.Hands.{handed-on}
 use Rattle.capi.proofs.Outcomes.{handed-unique}
 
@@ -62,14 +64,19 @@ pub magnitudes-told : {magnitudes : List Float} {rows bins rate : ℕ} {o : Temp
     → MagnitudesPromise magnitudes rows bins rate o flux was spare lent₀ answer flux′ after left lent
 magnitudes-told p h = record { fluxes = p .fluxes; track = track-told (p .analysed) h }
 
--- any two outcomes coincide: what is lent to work in too, past the slots that are left open
-pub track-unique : {number : ℕ} {env : List Float} {rate : ℕ} {o : TempoOpts} {was : Results} {spare : Spare} {lent₀ : TrackLent}
-    {a b : ℕ} {x y : Results} {u v : Spare} {s t : TrackLent}
-    → TrackTold number env rate o was spare lent₀ a x u s → TrackTold number env rate o was spare lent₀ b y v t
-    → ((a ≡ b) × (s ≡ t)) × (x ≡ y)
+-- Two outcomes of an analysis of `env` with this number are one: what is lent to work in too, past the slots that are left open.
+abbrev pub SameTrack : (number : ℕ) (env : List Float) (rate : ℕ) (o : TempoOpts) (a b : ℕ) (s t : TrackLent) (x y : Results) (u v : Spare) → Type 0
+SameTrack number env rate o a b s t x y u v =
+    ((a ≡ b) × (s ≡ t)) × (x ≡ y)
     × (((length (u .windowClarity) ≡ length (v .windowClarity)) × (drop (openLags number env rate o) (u .windowClarity) ≡ drop (openLags number env rate o) (v .windowClarity)))
     × ((length (u .windowWeight) ≡ length (v .windowWeight)) × (drop (openLags number env rate o) (u .windowWeight) ≡ drop (openLags number env rate o) (v .windowWeight)))
     × ((length (u .work) ≡ length (v .work)) × (drop (openWork number env rate o) (u .work) ≡ drop (openWork number env rate o) (v .work))))
+
+-- any two outcomes coincide
+pub track-unique : {number : ℕ} {env : List Float} {rate : ℕ} {o : TempoOpts} {was : Results} {spare : Spare} {lent₀ : TrackLent}
+    {a b : ℕ} {x y : Results} {u v : Spare} {s t : TrackLent}
+    → TrackTold number env rate o was spare lent₀ a x u s → TrackTold number env rate o was spare lent₀ b y v t
+    → SameTrack number env rate o a b s t x y u v
 track-unique p q = (
   handed-unique (p .handed) (q .handed),
   p .slices .written ∙ sym (q .slices .written),
@@ -79,3 +86,10 @@ track-unique p q = (
     open-coincide (p .slices .works) (q .slices .works),
   ),
 )
+
+-- `ph_analyse_magnitudes`: the flux too
+pub magnitudes-unique : {number : ℕ} {magnitudes : List Float} {rows bins rate : ℕ} {o : TempoOpts} {flux : List Float} {was : Results} {spare : Spare} {lent₀ : TrackLent}
+    {a b : ℕ} {f g : List Float} {x y : Results} {u v : Spare} {s t : TrackLent}
+    → FluxTold number magnitudes rows bins rate o flux was spare lent₀ a f x u s → FluxTold number magnitudes rows bins rate o flux was spare lent₀ b g y v t
+    → (f ≡ g) × SameTrack number (curve (fluxAt magnitudes bins) rows) rate o a b s t x y u v
+magnitudes-unique p q = (p .fluxes ∙ sym (q .fluxes), track-unique (p .track) (q .track))

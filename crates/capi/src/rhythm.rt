@@ -1,4 +1,4 @@
-// The calls of crate onsets, for C.
+// The calls of crates flux, threshold and onsets, for C.
 use crate::counts::counted;
 ghost use mathlib.Core.List.{map};
 ghost use lib.ListN.{length};

@@ -116,7 +116,7 @@ fn ends(text: &[u8], at: usize) -> bool
     false
 }
 
-// Reads the text of a header: its shape where it is exactly the text that document 01 gives, else malformed.
+// Inner: reads the text of a header: its shape where it is exactly the text that document 01 gives, else malformed.
 // Digits may be of any number: a number above 4,294,967,295 is told as that.
 pub fn read_header(text: &[u8]) -> Header
     ensures { λ r. ⌜ r ≡ headerOf (now (text .entry)) ⌝ }
@@ -149,7 +149,7 @@ pub fn read_header(text: &[u8]) -> Header
     Header::Shape(number_at(text, 51), number_at(text, columns))
 }
 
-// Reads the ten bytes before a header: the length of its text, or that they are not those of a NumPy 1.0 file.
+// Inner: reads the ten bytes before a header: the length of its text, or that they are not those of a NumPy 1.0 file.
 // Fewer than ten bytes are malformed; bytes behind the tenth are not read.
 pub fn read_preamble(bytes: &[u8]) -> Preamble
     ensures { λ r. ⌜ r ≡ preambleOf (now (bytes .entry)) ⌝ }
@@ -170,7 +170,7 @@ fn word_of(a: u8, b: u8, c: u8, d: u8) -> u32
     (a as u32) + (b as u32) * 256 + (c as u32) * 65536 + (d as u32) * 16777216
 }
 
-// The float that four bytes stand for, the low byte first. Every pattern has one: a NaN's gives a NaN.
+// Inner: the float that four bytes stand for, the low byte first. Every pattern has one: a NaN's gives a NaN.
 pub fn value_of(a: u8, b: u8, c: u8, d: u8) -> f32
     ensures { λ r. ⌜ r ≡ valueOf a b c d ⌝ }
 {
@@ -182,7 +182,7 @@ pub fn value_of(a: u8, b: u8, c: u8, d: u8) -> f32
     }
 }
 
-// Reads values into the first slots of a row, as many as the bytes hold whole and the row has slots for; later slots
+// Inner: reads values into the first slots of a row, as many as the bytes hold whole and the row has slots for; later slots
 // stay. Bytes behind the last whole value are not read.
 pub fn read_values(bytes: &[u8], row: &mut [f32])
     ensures { λ _. ⌜ now (row .exit) ≡ rowRead (now (bytes .entry)) (now (row .entry)) ⌝ }

@@ -1,4 +1,4 @@
-// Runs each call of the crate onsets on both sides of each boundary of document 01, but for a curve of 1,048,577 slots, which no stack
+// Runs each call of the crates flux, threshold and onsets on both sides of each boundary of document 01, but for a curve of 1,048,577 slots, which no stack
 // holds: that is proved only. Small inputs too. Prints the number, the count and each slot that is promised, those that were not lent
 // too. The file stdout holds what must come out: numbers by document 01, values by the Rust.
 ghost use Prim.Native.Nat.{_≤_};

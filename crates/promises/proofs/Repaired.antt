@@ -57,7 +57,7 @@ named rows bins start x xs zero f g t u e =
     let s : u ≡ thresholdPast rows bins patch = cc in
     (p, q, r, s)
 
--- The slots that it names are demand 3's: flux a to b, threshold a-10 to b+10, cut at the ends; 0 to 0 where the patch is empty.
+-- The slots that it names are demand 3's: flux a to b, threshold a-10 to b+10, cut at the ends.
 pub names-its-slots : (rows bins : ℕ) (was : Track) (start : ℕ) (x : Float) (xs work : List Float) (f g t u : ℕ) (now : Track) (work′ : List Float)
     → Patches rows bins was (patchOf start (x ∷ xs)) work (Wrote f g t u) now work′
     → let past = pastRow bins (patchOf start (x ∷ xs)) in (f ≡ start) × (g ≡ min (past + 1) rows) × (t ≡ start - 10) × (u ≡ min (past + 10 + 1) rows)

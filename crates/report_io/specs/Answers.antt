@@ -24,8 +24,8 @@ pub record Putable (reading : Reading) (flux : List Float) : Type 0 where
   pub rows-fit : reading .rows ≤ mostReported
   pub fine : every valueFine (take (reading .rows) flux) ≡ true
 
--- There is an input of which the first bytes are the whole text. No contract can say which bytes come; that the input which is read has this
--- number and this flux is what `read_input` promises.
+-- There is an input of which the first bytes are the whole text. No contract can say which bytes come, so which input it is, is not proved:
+-- runs show it.
 pub record Answered (bytes : List ℕ) (end : ℕ) (bytes′ : List ℕ) : Type 0 where
   pub input : List ℕ
   pub text-is : Put bytes 0 (answerOf input) textRoom end bytes′

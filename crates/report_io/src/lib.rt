@@ -1,7 +1,7 @@
 // The reporting program: reads an array from standard input and writes what its rows hold, or the number that refuses it.
 //
-// Document 01, The reporting program. What is written is proved to be the text of an input; that the input is the one that was read, and that the
-// text is then written, is the kit's word.
+// Document 01, The reporting program. What is put is proved to be the text of an input; that this input is the one on standard input, and that the
+// text is then written, is not proved: runs show it.
 use libc::STDOUT_FILENO;
 use report::MOST_REPORTED;
 use report_answer::curve_room;

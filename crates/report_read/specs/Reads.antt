@@ -1,5 +1,5 @@
 -- Document 01, "The reporting program": what is read from standard input. No contract can say which bytes come: that they are those of standard
--- input, all of them and in their order, is the kit's word and not proved. Each record says that there are bytes of which all that follows is right:
+-- input, all of them and in their order, is not proved; runs show it. Each record says that there are bytes of which all that follows is right:
 -- the number is that of the whole input, and the flux is demand 2's curve of its rows.
 use Prim.Native.Nat.{ℕ, _*_, _≤_}
 use mathlib.Core.Path.{_≡_}

@@ -1,3 +1,3 @@
--- The laws that the proofs of this crate share.
+-- The laws that other crates cite, and those that the proofs of this one share.
 pub mod Decimals
 pub mod Puts

@@ -65,7 +65,7 @@ lagSlots r s = length (r .clarity) ∷ length (r .weight) ∷ length (s .windowC
 abbrev pub lagsOf : (rate : ℕ) → TempoOpts → ℕ
 lagsOf rate o = lagRoom (minLag rate o) (maxLag rate o)
 
--- the slots to sort in: the thresholds' windows, the tempo and the windows of stability are sorted one after the other
+-- the slots of work, which the thresholds' windows, the tempo and stability's windows ask for one after the other
 abbrev pub sortingOf : (rows lags : ℕ) → ℕ
 sortingOf rows lags = max lags (windowRoom rows)
 

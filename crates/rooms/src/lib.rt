@@ -1,6 +1,6 @@
 // The room of one whole analysis, and the number that one is refused with.
 //
-// Document 01, its room and its numbers. Each refusal is judged here, once, before any part of an analysis is called.
+// Document 01, its room and its numbers. Every refusal of an analysis is decided here, before any part of it is called.
 use lags::TempoOpts;
 use lags::bounds_fine;
 use lags::lag_range;

@@ -1,5 +1,5 @@
 -- "The first greatest weight wins", and `estimate` finds no tempo in a lag curve exactly where "no weight is above 0": for every accepted call that
--- writes its lag curves. Both hold of a list without a NaN (Winners), so what is proved here is that no weight is one. A clarity lies within 0..1.
+-- writes its lag curves. Both hold of a list without a NaN (Winners of candidates and of lag_search), so what is proved here is that no weight is one. A clarity lies within 0..1.
 -- The tempo of a lag is positive and at most 45,000, so the prior's logarithm is of a positive number and its size at most 4,096, and exp of a
 -- negative square is at most 2. So each weight is of size at most 2. Assumes nothing.
 use mathlib.Core.Path.{_≡_, sym, subst}

@@ -1,4 +1,4 @@
-// The parts of one whole analysis that follow each other with nothing to decide between them.
+// The parts of one whole analysis: onsets by their threshold, and what follows from the lag of a tempo.
 //
 // Document 01, Onsets and Beats and bars. Inner: the calls of crate analysis have looked at what is lent.
 use beats::beat_grid;
