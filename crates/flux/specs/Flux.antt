@@ -4,8 +4,8 @@ use Prim.Native.Nat.{ℕ, zero, suc, _*_}
 use mathlib.Core.Bool.{_&&_}
 use mathlib.Core.List.{List, [], _∷_}
 use lib.Dec.{leb, eqb}
-use lib.ListN.{length}
-use lib.Ieee.{Float}
+use lib.ListN.{length, getD}
+use lib.Ieee.{Float, nan}
 use Rattle.numbers.specs.Rounded.{_⊖_, nought, sumOf, positivePart}
 use Rattle.numbers.specs.Limits.{mostRows, mostBins, between, magnitudeFine}
 use Rattle.numbers.specs.Refusals.{lowest}
@@ -16,6 +16,13 @@ unfoldable pub rises : (before now : List Float) → List Float
 rises (p ∷ ps) (x ∷ xs) = positivePart (x ⊖ p) ∷ rises ps xs
 rises [] xs = []
 rises (p ∷ ps) [] = []
+
+-- one of them, for the code that takes a part of a row at a time, and how many bins that is
+unfoldable pub riseAt : (before now : List Float) → ℕ → Float
+riseAt before now i = positivePart (getD now i nan ⊖ getD before i nan)
+
+abbrev pub partBins : ℕ
+partBins = 32
 
 -- flux[t], of rows that lie one behind the other with `bins` magnitudes each
 unfoldable pub fluxAt : List Float → (bins : ℕ) → ℕ → Float

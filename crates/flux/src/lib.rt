@@ -1,17 +1,18 @@
 // Onset strength: how much each frame rises over the one before it.
 //
-// Document 01, Onsets. The Rust: onsets.rs `spectral_flux`. Four rows go side by side, which takes less time; each row's sum
-// still runs in its own ascending order, so the bits are those of one row after the other.
+// Document 01, Onsets. The Rust: onsets.rs `spectral_flux`. Four rows go side by side, thirty-two bins of each at a time: first their positive parts,
+// where no bin waits for another, then the sums. That takes less time; each row's sum still runs in its own ascending order, so the bits are those
+// of one row after the other.
 ghost use mathlib.Core.Path.{_≡_};
 ghost use mathlib.Core.Bool.{true};
 ghost use Prim.Native.Nat.{_+_, _*_, _≤_, _<_};
-ghost use lib.ListN.{length, getD, set};
+ghost use lib.ListN.{length, getD, set, drop};
 ghost use lib.Ieee.{nan};
-ghost use Rattle.numbers.specs.Rounded.{_⊕_, _⊖_, positivePart, sumOf};
+ghost use Rattle.numbers.specs.Rounded.{_⊕_, _⊖_, positivePart, sumFrom, sumOf};
 ghost use Rattle.numbers.specs.Limits.{magnitudeFine};
-ghost use Rattle.numbers.specs.Lists.{filled, row, every};
+ghost use Rattle.numbers.specs.Lists.{tab, filled, row, every};
 ghost use Rattle.numbers.specs.Outcomes.{Written};
-ghost use Rattle.flux.specs.Flux.{rises, fluxAt, fluxRefusal};
+ghost use Rattle.flux.specs.Flux.{rises, riseAt, partBins, fluxAt, fluxRefusal};
 
 // Writes flux[0..rows], the onset strength of each row of magnitudes; slots past them stay. Room: rows slots.
 // Refuses: 1 rows above 1,048,576 or bins outside 1 to 4,096; 2 magnitudes that aren't rows times bins; 3 flux shorter than rows;
@@ -146,6 +147,15 @@ fn wide(s: &[f32], i: usize) -> f64
     s[i] as f64
 }
 
+// as many bins of a row as are taken at a time
+const PART: usize = 32;
+
+fn part_room() -> [f64; PART]
+    ensures { λ r. ⌜ length r ≡ partBins ⌝ }
+{
+    [0.0; PART]
+}
+
 // The sums of four rows.
 struct Four {
     a: f64,
@@ -168,11 +178,75 @@ fn flux_four(slab: &[f32], rows: usize, bins: usize, t: usize) -> Four
     rise_four(p, q, r, s, u)
 }
 
+// The positive parts of a row over the row before it, for as many bins as there are slots, from bin `from` on. No bin waits for another here.
+fn lift(prev: &[f32], cur: &[f32], from: usize, part: &mut [f64])
+    requires { ⌜ length (now cur) ≡ length (now prev) ⌝ }
+    requires { ⌜ (every magnitudeFine (now prev) ≡ true) × (every magnitudeFine (now cur) ≡ true) ⌝ }
+    requires { ⌜ from + length (now part) ≤ length (now prev) ⌝ }
+    ensures { λ _. ⌜ now (part .exit) ≡ tab (riseAt (now (prev .entry)) (now (cur .entry))) from (length (now (part .entry))) ⌝ }
+{
+    let mut k = 0;
+    while k < part.len() {
+        part[k] = positive_part(wide(cur, from + k) - wide(prev, from + k));
+        k += 1;
+    }
+}
+
+// Four sums that run on, each over its own slots.
+fn add_parts(f: Four, a: &[f64], b: &[f64], c: &[f64], d: &[f64]) -> Four
+    requires { ⌜ (length (now b) ≡ length (now a)) × (length (now c) ≡ length (now a)) × (length (now d) ≡ length (now a)) ⌝ }
+    ensures { λ z. ⌜ (z .a ≡ sumFrom (f .a) (now (a .entry))) × (z .b ≡ sumFrom (f .b) (now (b .entry))) × (z .c ≡ sumFrom (f .c) (now (c .entry))) × (z .d ≡ sumFrom (f .d) (now (d .entry))) ⌝ }
+{
+    let mut sums = f;
+    let mut k = 0;
+    while k < a.len() {
+        sums = Four {
+            a: sums.a + a[k],
+            b: sums.b + b[k],
+            c: sums.c + c[k],
+            d: sums.d + d[k],
+        };
+        k += 1;
+    }
+    sums
+}
+
+// Four sums that run on over a part of their rows, from bin `from` on.
+fn rise_part(
+    f: Four,
+    from: usize,
+    p: &[f32],
+    q: &[f32],
+    r: &[f32],
+    s: &[f32],
+    u: &[f32],
+    a: &mut [f64],
+    b: &mut [f64],
+    c: &mut [f64],
+    d: &mut [f64],
+) -> Four
+    requires { ⌜ (length (now q) ≡ length (now p)) × (length (now r) ≡ length (now p)) × (length (now s) ≡ length (now p)) × (length (now u) ≡ length (now p)) ⌝ }
+    requires { ⌜ (every magnitudeFine (now p) ≡ true) × (every magnitudeFine (now q) ≡ true) × (every magnitudeFine (now r) ≡ true) × (every magnitudeFine (now s) ≡ true) × (every magnitudeFine (now u) ≡ true) ⌝ }
+    requires { ⌜ (length (now a) ≡ partBins) × (length (now b) ≡ partBins) × (length (now c) ≡ partBins) × (length (now d) ≡ partBins) × (from + partBins ≤ length (now p)) ⌝ }
+    ensures { λ z. ⌜ (z .a ≡ sumFrom (f .a) (tab (riseAt (now (p .entry)) (now (q .entry))) from partBins)) × (z .b ≡ sumFrom (f .b) (tab (riseAt (now (q .entry)) (now (r .entry))) from partBins)) × (z .c ≡ sumFrom (f .c) (tab (riseAt (now (r .entry)) (now (s .entry))) from partBins)) × (z .d ≡ sumFrom (f .d) (tab (riseAt (now (s .entry)) (now (u .entry))) from partBins)) ⌝ }
+{
+    lift(p, q, from, a);
+    lift(q, r, from, b);
+    lift(r, s, from, c);
+    lift(s, u, from, d);
+    add_parts(f, a, b, c, d)
+}
+
+// Four rows, each over the row before it.
 fn rise_four(p: &[f32], q: &[f32], r: &[f32], s: &[f32], u: &[f32]) -> Four
     requires { ⌜ (length (now q) ≡ length (now p)) × (length (now r) ≡ length (now p)) × (length (now s) ≡ length (now p)) × (length (now u) ≡ length (now p)) ⌝ }
     requires { ⌜ (every magnitudeFine (now p) ≡ true) × (every magnitudeFine (now q) ≡ true) × (every magnitudeFine (now r) ≡ true) × (every magnitudeFine (now s) ≡ true) × (every magnitudeFine (now u) ≡ true) ⌝ }
     ensures { λ z. ⌜ (z .a ≡ sumOf (rises (now (p .entry)) (now (q .entry)))) × (z .b ≡ sumOf (rises (now (q .entry)) (now (r .entry)))) × (z .c ≡ sumOf (rises (now (r .entry)) (now (s .entry)))) × (z .d ≡ sumOf (rises (now (s .entry)) (now (u .entry)))) ⌝ }
 {
+    let mut a = part_room();
+    let mut b = part_room();
+    let mut c = part_room();
+    let mut d = part_room();
     let mut f = Four {
         a: 0.0,
         b: 0.0,
@@ -180,9 +254,25 @@ fn rise_four(p: &[f32], q: &[f32], r: &[f32], s: &[f32], u: &[f32]) -> Four
         d: 0.0,
     };
     let mut i = 0;
+    while PART <= p.len() - i {
+        f = rise_part(f, i, p, q, r, s, u, &mut a, &mut b, &mut c, &mut d);
+        i += PART;
+    }
+    rise_on(f, i, p, q, r, s, u)
+}
+
+// Four sums that run on, from bin `from` to the end.
+fn rise_on(f: Four, from: usize, p: &[f32], q: &[f32], r: &[f32], s: &[f32], u: &[f32]) -> Four
+    requires { ⌜ (length (now q) ≡ length (now p)) × (length (now r) ≡ length (now p)) × (length (now s) ≡ length (now p)) × (length (now u) ≡ length (now p)) ⌝ }
+    requires { ⌜ (every magnitudeFine (now p) ≡ true) × (every magnitudeFine (now q) ≡ true) × (every magnitudeFine (now r) ≡ true) × (every magnitudeFine (now s) ≡ true) × (every magnitudeFine (now u) ≡ true) ⌝ }
+    requires { ⌜ from ≤ length (now p) ⌝ }
+    ensures { λ z. ⌜ (z .a ≡ sumFrom (f .a) (rises (drop from (now (p .entry))) (drop from (now (q .entry))))) × (z .b ≡ sumFrom (f .b) (rises (drop from (now (q .entry))) (drop from (now (r .entry))))) × (z .c ≡ sumFrom (f .c) (rises (drop from (now (r .entry))) (drop from (now (s .entry))))) × (z .d ≡ sumFrom (f .d) (rises (drop from (now (s .entry))) (drop from (now (u .entry))))) ⌝ }
+{
+    let mut sums = f;
+    let mut i = from;
     while i < p.len() {
-        f = step_four(
-            f,
+        sums = step_four(
+            sums,
             wide(p, i),
             wide(q, i),
             wide(r, i),
@@ -191,7 +281,7 @@ fn rise_four(p: &[f32], q: &[f32], r: &[f32], s: &[f32], u: &[f32]) -> Four
         );
         i += 1;
     }
-    f
+    sums
 }
 
 // One bin of five rows.
