@@ -1,7 +1,7 @@
 -- Tests, and the refusals that are chosen by them.
 use mathlib.Core.Path.{_≡_, refl, sym, ap, _∙_}
 use mathlib.Core.Logic.{_⊎_, inl, inr}
-use mathlib.Core.Bool.{Bool, true, false, _&&_}
+use mathlib.Core.Bool.{Bool, true, false, _&&_, _||_}
 use Prim.Native.Nat.{ℕ, zero, suc, _≤_, _<_}
 use native.Mathlib.Omega.{arith}
 use lib.Dec.{ltb}
@@ -37,6 +37,20 @@ and-right false b e = true-not-false false e refl
 pub and-both : (a b : Bool) → a ≡ true → b ≡ true → a && b ≡ true
 and-both true b e h = h
 and-both false b e h = e
+
+-- ---- neither
+
+pub or-left : (a b : Bool) → (a || b) ≡ false → a ≡ false
+or-left true b e = e
+or-left false b e = refl
+
+pub or-right : (a b : Bool) → (a || b) ≡ false → b ≡ false
+or-right true b e = true-not-false true refl e
+or-right false b e = e
+
+pub or-none : (a b : Bool) → a ≡ false → b ≡ false → (a || b) ≡ false
+or-none true b e h = e
+or-none false b e h = h
 
 -- what `a && b` answers where a was found to hold, and where not
 pub and-held : (a b : Bool) → a ≡ true → b ≡ (a && b)

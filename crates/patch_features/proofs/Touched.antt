@@ -8,7 +8,7 @@ use native.Mathlib.Omega.{arith}
 use borrow.Author.Tests.{le-leb, lt-leb, lt-ltb, le-ltb}
 use lib.Dec.{leb, ltb}
 use lib.Ieee.{Float}
-use Rattle.numbers.proofs.Tests.{lt-or-le, true-not-false, and-both}
+use Rattle.numbers.proofs.Tests.{lt-or-le, true-not-false, and-both, or-left, or-right, or-none}
 use Rattle.row_pairs.specs.Pairs.{slotAt, similarityAt}
 use Rattle.patch_features.specs.Features.{replaced, touched, firstPair}
 
@@ -32,18 +32,6 @@ replaced-or-not a b i e =
     ⊎-elim (λ (h : i < a). inl h)
     (λ (h : a ≤ i). ⊎-elim (λ (k : i < b). true-not-false (replaced a b i) (is-replaced a b i h k) e) (λ (k : b ≤ i). inr k) (lt-or-le i b))
     (lt-or-le i a)
-
-or-left : (x y : Bool) → (x || y) ≡ false → x ≡ false
-or-left true y e = e
-or-left false y e = refl
-
-or-right : (x y : Bool) → (x || y) ≡ false → y ≡ false
-or-right true y e = true-not-false true refl e
-or-right false y e = e
-
-or-none : (x y : Bool) → x ≡ false → y ≡ false → (x || y) ≡ false
-or-none true y e h = e
-or-none false y e h = h
 
 pub or-held : (x y : Bool) → x ≡ true → (x || y) ≡ true
 or-held true y e = refl

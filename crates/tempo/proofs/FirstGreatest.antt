@@ -15,7 +15,7 @@ use lib.Ieee.Fits.{div-fits}
 use Rattle.numbers.specs.Rounded.{_⊘_, real, nought}
 use Rattle.numbers.specs.Limits.{rateFine, mostRate, mostPeriod, mostRows, valueFine}
 use Rattle.numbers.specs.Lists.{every}
-use Rattle.numbers.proofs.Tests.{and-left}
+use Rattle.numbers.proofs.Tests.{and-left, or-left, or-right}
 use Rattle.numbers.proofs.Tabs.{getD-curve, length-tab}
 use Rattle.sizes.specs.Sizes.{AtMost, AtLeast, Within, isPlus, Plus}
 use Rattle.sizes.proofs.Numbers.{held-short, held-part}
@@ -35,7 +35,6 @@ use Rattle.lag_curves.proofs.CurveSizes.{mean-within, energy-within, clarity-lo
 use Rattle.candidates.specs.Candidates.{winnerOf}
 use Rattle.lag_search.specs.Search.{weightRule, weightCurve, ac0Of, flat, winnerAbove}
 use Rattle.tempo.specs.Answers.{searchRefusal, tooLittle, unwritten}
-use Rattle.candidates.proofs.Choices.{or-left, or-right}
 use Rattle.tempo.proofs.Refusals.{accepted}
 use Rattle.tempo.proofs.Tells.{long-enough}
 use Rattle.candidates.proofs.Winners.{FirstGreatest, winner-is-first-greatest}

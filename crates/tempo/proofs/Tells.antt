@@ -12,7 +12,7 @@ use lib.Ieee.{Float}
 use Rattle.numbers.specs.Rounded.{pick}
 use Rattle.numbers.specs.Limits.{mostPeriod}
 use Rattle.numbers.specs.Lists.{filled}
-use Rattle.numbers.proofs.Tests.{which, pick-true, pick-false, refused-keeps, passed-does}
+use Rattle.numbers.proofs.Tests.{which, or-right, pick-true, pick-false, refused-keeps, passed-does}
 use Rattle.numbers.proofs.Tabs.{length-tab}
 use Rattle.lags.specs.declared.TempoOpts.{TempoOpts}
 use Rattle.lags.specs.declared.LagRange.{LagRange}
@@ -21,7 +21,6 @@ use Rattle.tempo.specs.declared.TempoEstimate.{TempoEstimate}
 use Rattle.candidates.specs.Candidates.{winnerOf}
 use Rattle.lag_search.specs.Search.{flat, clarityRule, weightRule, clarityCurve, weightCurve, winnerAbove, winnerLag, winningLag, Searched}
 use Rattle.tempo.specs.Answers.{withoutTempo, foundOf, tooLittle, unwritten, tempoOf, curveOf, Told, searchRefusal, estimateOf, Estimated}
-use Rattle.candidates.proofs.Choices.{or-right}
 use Rattle.candidates.proofs.Winners.{winner-below}
 use Rattle.tempo.proofs.Refusals.{Ranged}
 use Rattle.lag_search.proofs.Searches.{curve-part}
