@@ -19,10 +19,13 @@ pub fn best_computed(score: &[f64], period: usize, t: usize, lo: usize, end: usi
     let mut at = NO_LINK;
     let mut u = lo;
     while u < end {
-        let extension = score[u] + penalty_of(period, t - u);
-        if value < extension {
-            value = extension;
-            at = u as u32;
+        let prev = score[u];
+        if value < prev {
+            let extension = prev + penalty_of(period, t - u);
+            if value < extension {
+                value = extension;
+                at = u as u32;
+            }
         }
         u += 1;
     }
