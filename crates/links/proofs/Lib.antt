@@ -2,4 +2,4 @@
 pub mod Greatest
 pub mod Eights
 pub mod Extensions
-pub mod NotAbove
+pub mod PassedOver
