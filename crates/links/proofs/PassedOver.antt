@@ -67,11 +67,12 @@ right-minus f (inf false) m e h = cond-under (eqb m 0)
 right-minus f (fin true n d) m e h = absurd h
 right-minus f (fin false n d) m e h = round-under f (n * up d * (m * up e)) (down d * down e)
 
--- -400 times x has the sign that x has not, so that times x again it has a minus sign
+-- -400
 minus-is : neg fourHundred ≡ fin true 25 (pos 4)
 unfolding ofBits neg
 minus-is = refl
 
+-- times x it has the sign that x has not, so times x again it has a minus sign
 twice-under : (x : Float) → Under (fin true 25 (pos 4) ⊗ x ⊗ x)
 unfolding mul lt
 twice-under nan = refl
@@ -138,17 +139,19 @@ sum-under (fin s m e) p t h k =
 
 -- ---- the score alone
 
+-- the format holds the score, as it does every entry of a slice
 module _ (period : ℕ) (ss : List Float) (t u : ℕ) (v : Float) (holds : T (fits binary64 (getD ss u nan))) where
   no-more : T (not (isNan (extended period ss t u))) → le (extended period ss t u) (getD ss u nan) ≡ true
   unfolding extended
   no-more = sum-under (getD ss u nan) (penalty period (t - u)) holds (penalty-under period (t - u))
 
-  -- what the score is not above, or does not reach, the extension neither is nor does
+  -- where the score is not above v the extension is not
   pub not-above : lt v (getD ss u nan) ≡ false → lt v (extended period ss t u) ≡ false
   not-above h =
       no-lt v (extended period ss t u)
       (λ k. true-not-false (lt v (getD ss u nan)) (lt-then-le v (extended period ss t u) (getD ss u nan) k (no-more (lt-right v (extended period ss t u) k))) h)
 
+  -- and where it does not reach v the extension does not
   pub not-reached : le v (getD ss u nan) ≡ false → le v (extended period ss t u) ≡ false
   not-reached h =
       no-le v (extended period ss t u)
