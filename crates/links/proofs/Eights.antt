@@ -26,7 +26,7 @@ pub record Top (f : ℕ → Float) (S : ℕ → Type 0) (r : Float) : Type 0 whe
   pub has : (r ≡ nought) ⊎ Hit f S r
 
 -- the larger, by the way that the comparison comes out
-larger-by : (v c : Float) (b : Bool) → lt v c ≡ b → larger v c ≡ pick b c v
+pub larger-by : (v c : Float) (b : Bool) → lt v c ≡ b → larger v c ≡ pick b c v
 unfolding larger
 larger-by v c b e = rw e
 

@@ -2,3 +2,4 @@
 pub mod Greatest
 pub mod Eights
 pub mod Extensions
+pub mod PassedOver

@@ -1,8 +1,9 @@
-// The best extension of a beat among a run of earlier frames, in three forms that answer the same: with the penalties computed one by one,
-// which is slow and asks for no table; with a table; and with a table, eight frames at a time.
+// The best extension of a beat among a run of earlier frames, in three forms that answer the same: with the penalties computed where they
+// are needed, which is slower and asks for no table; with a table; and with a table, eight frames at a time.
 use crate::Best;
 use crate::NO_LINK;
 use crate::penalties::penalty_of;
+use numbers::less;
 ghost use mathlib.Core.Path.{_≡_};
 ghost use Prim.Native.Nat.{_+_, _-_, _<_, _≤_};
 ghost use lib.ListN.{length};
@@ -10,19 +11,34 @@ ghost use Rattle.numbers.specs.Limits.{mostRows};
 ghost use Rattle.links.specs.Extensions.{greatest, unlinked, extended};
 ghost use Rattle.links.specs.Inner.{tabled, larger, lane, topOfEight, Reached};
 
-// The best extension of a beat at frame t from the frames lo up to, not including, end, with each penalty computed anew.
+// One extension, with its penalty computed.
+fn extended_at(score: &[f64], period: usize, t: usize, u: usize) -> f64
+    requires { ⌜ (u ≤ t) × (u < length (now score)) ⌝ }
+    ensures { λ r. ⌜ r ≡ extended period (now (score .entry)) t u ⌝ }
+{
+    score[u] + penalty_of(period, t - u)
+}
+
+// The best extension of a beat at frame t from the frames lo up to, not including, end, with the penalties computed. No penalty is above 0,
+// so none is computed where the earlier score alone is not above the best so far, or does not reach the extension over a whole period.
 pub fn best_computed(score: &[f64], period: usize, t: usize, lo: usize, end: usize) -> Best
-    requires { ⌜ (end ≤ t) × (end ≤ length (now score)) × (t ≤ mostRows) ⌝ }
+    requires { ⌜ (end ≤ t) × (end ≤ length (now score)) × (t ≤ mostRows) × (lo ≤ t - period) × (t - period < end) ⌝ }
     ensures { λ r. ⌜ r ≡ greatest (extended period (now (score .entry)) t) lo (end - lo) unlinked ⌝ }
 {
+    let reached = up(0.0, extended_at(score, period, t, less(t, period)));
     let mut value = 0.0;
     let mut at = NO_LINK;
     let mut u = lo;
     while u < end {
-        let extension = score[u] + penalty_of(period, t - u);
-        if value < extension {
-            value = extension;
-            at = u as u32;
+        let prev = score[u];
+        if reached <= prev {
+            if value < prev {
+                let extension = extended_at(score, period, t, u);
+                if value < extension {
+                    value = extension;
+                    at = u as u32;
+                }
+            }
         }
         u += 1;
     }

@@ -1,41 +1,62 @@
 -- `links::bests::best_computed` meets its contract. The invariant: what is left to search, searched from the best so far, is the whole
--- answer. The measure is how many frames are left. Assumes nothing.
-use mathlib.Core.Path.{_≡_, refl, ap, _∙_}
+-- answer, and `reached` is no more than its value. A frame whose score alone is not above the best so far, or does not reach that, is passed
+-- over (`not-above`, `greatest-skip`). The measure is how many frames are left. Assumes nothing.
+use mathlib.Core.Path.{_≡_, refl, sym, ap, _∙_, subst}
 use mathlib.Core.Bool.{true, false}
 use mathlib.Core.Logic.{⊎-elim}
-use Prim.Native.Nat.{_≤_, _<_, _-_}
+use Prim.Native.Nat.{ℕ, _+_, _-_, _≤_, _<_}
 use native.Mathlib.Omega.{arith}
 use denote.Ref.{now}
-use lib.ListN.{getD}
-use lib.Ieee.{Float, nan}
-use Rattle.numbers.specs.Rounded.{_⊕_}
+use lib.Ieee.{Float, le}
+use Rattle.numbers.specs.Rounded.{nought}
+use Rattle.links.specs.declared.Best.{Best}
 use Rattle.links.specs.Extensions.{greatest, unlinked, extended}
+use Rattle.links.specs.Inner.{larger}
 use Rattle.links.proofs.Greatest.{best, greatest-step, greatest-end}
+use Rattle.links.proofs.PassedOver.{not-above, not-reached, greatest-reaches, greatest-skip}
 use borrow.Author.Needs.{needs}
 use Rattle.links.proofs.bests.best_computed.Statement.{statement}
 use Rattle.links.proofs.bests.best_computed.Tie as tie
 
 abbrev Inv-loop : tie.InvT-loop
-Inv-loop score period t lo end value₀ at₀ u₀ value at u =
-    (lo ≤ u) × (greatest (extended period score t) u (end - u) (best value at) ≡ greatest (extended period score t) lo (end - lo) unlinked)
+Inv-loop score period t lo end reached value₀ at₀ u₀ value at u =
+    let f = extended period score t in
+    let answer = greatest f lo (end - lo) unlinked in
+    (lo ≤ u) × (le reached (answer .value) ≡ true) × (greatest f u (end - u) (best value at) ≡ answer)
 
 abbrev μ-loop : tie.MeasureT-loop
-μ-loop score period t lo end value₀ at₀ u₀ value at u = end - u
+μ-loop score period t lo end reached value₀ at₀ u₀ value at u = end - u
+
+less-requires : tie.Need-less-requires Inv-loop μ-loop
+less-requires c κs = search needs
+
+extended-at-requires : tie.Need-extended-at-requires Inv-loop μ-loop
+extended-at-requires c κs = search needs
+
+up-requires : tie.Need-up-requires Inv-loop μ-loop
+up-requires c κs = search needs
 
 loop-holds : tie.Need-loop-holds Inv-loop μ-loop
-loop-holds c = (omega arith, refl)
+loop-holds c =
+    let e = c .before in
+    let l = e .before in
+    let s = l .before .before in
+    let a = s .args in
+    let f = extended (a .period) (now (a .score)) (a .t) in
+    let is = c .up .ensures ∙ ap (larger nought) (e .extended-at .ensures ∙ ap f (l .less .ensures)) in (
+      omega arith,
+      subst (λ (w : Float). le w (greatest f (a .lo) (a .end - a .lo) unlinked .value) ≡ true) (sym is) (greatest-reaches f (a .lo) (a .end - a .lo) (a .t - a .period) (omega arith) (omega arith)),
+      refl,
+    )
 
-mul-extension : tie.Need-mul-extension Inv-loop μ-loop
-mul-extension c = search needs
+mul-prev : tie.Need-mul-prev Inv-loop μ-loop
+mul-prev c = search needs
 
-shared-slice-read-extension : tie.Need-shared-slice-read-extension Inv-loop μ-loop
-shared-slice-read-extension c = search needs
+shared-slice-read-prev : tie.Need-shared-slice-read-prev Inv-loop μ-loop
+shared-slice-read-prev c = search needs
 
-sub-penalty-of : tie.Need-sub-penalty-of Inv-loop μ-loop
-sub-penalty-of c = search needs
-
-penalty-of-requires : tie.Need-penalty-of-requires Inv-loop μ-loop
-penalty-of-requires c κs = search needs
+extended-at-requires-2 : tie.Need-extended-at-requires-2 Inv-loop μ-loop
+extended-at-requires-2 c κs = search needs
 
 cast-at : tie.Need-cast-at Inv-loop μ-loop
 cast-at c = search needs
@@ -47,24 +68,35 @@ loop-less : tie.Need-loop-less Inv-loop μ-loop
 loop-less c = search needs
 
 loop-again : tie.Need-loop-again Inv-loop μ-loop
-unfolding extended
 loop-again c =
-    let l = c .before .before .before .before in
-    let a = l .before .before .args in
-    let p = c .before .penalty-of in
+    let l = c .before .before .before in
+    let a = l .before .before .before .before .before .args in
     let u = l .loop .u in
-    let e = ap (λ (x : Float). getD (now (a .score)) u nan ⊕ x) (p .ensures) in
+    let v = l .loop .value in
+    let b = l .loop .at in
+    let f = extended (a .period) (now (a .score)) (a .t) in
+    let holds = c .before .shared-slice-known2 .given u in
     let h : u < a .end = omega arith in
-    let step = greatest-step (extended (a .period) (now (a .score)) (a .t)) u (a .end) (l .loop .value) (c .if1 .value) (getD (now (a .score)) u nan ⊕ p .result) (l .loop .at) (c .if1 .at) in (
+    let step = greatest-step f u (a .end) v (c .if1 .value) in
+    let reaches = subst (λ (y : Best). le (l .before .up .result) (y .value) ≡ true) (sym (l .loop .inv .2)) (l .loop .inv .1) in (
       omega arith,
-      ⊎-elim (λ w. step true h e (w .0 .taken) (w .1) (w .2)) (λ w. step false h e (w .0 .left) (w .1) (w .2)) (c .if1 .came) ∙ l .loop .inv .1,
+      l .loop .inv .1,
+      ⊎-elim (λ w. step (w .2 .result) b (c .if1 .at) true h (w .2 .ensures) (w .3 .taken) (w .4) (w .5))
+          (⊎-elim (λ w. step (w .2 .result) b (c .if1 .at) false h (w .2 .ensures) (w .3 .left) (w .4) (w .5))
+          (⊎-elim (λ w. step (f u) b (c .if1 .at) false h refl (not-above (a .period) (now (a .score)) (a .t) u v holds (w .1 .left)) (w .2) (w .3))
+          (λ w.
+          ap (λ (y : Float). greatest f (u + 1) (a .end - (u + 1)) (best y (c .if1 .at))) (w .1)
+          ∙ ap (λ (k : ℕ). greatest f (u + 1) (a .end - (u + 1)) (best v k)) (w .2)
+          ∙ greatest-skip f u (a .end) v (l .before .up .result) b h reaches (not-reached (a .period) (now (a .score)) (a .t) u (l .before .up .result) holds (w .0 .left)))))
+          (c .if1 .came)
+          ∙ l .loop .inv .2,
     )
 
 returns : tie.Need-returns Inv-loop μ-loop
 returns c =
     let l = c .before in
-    let a = l .before .before .args in
-    greatest-end (extended (a .period) (now (a .score)) (a .t)) (l .loop .u) (a .end) (best (l .loop .value) (l .loop .at)) (c .loop-test .left) ∙ l .loop .inv .1
+    let a = l .before .before .before .before .before .args in
+    greatest-end (extended (a .period) (now (a .score)) (a .t)) (l .loop .u) (a .end) (best (l .loop .value) (l .loop .at)) (c .loop-test .left) ∙ l .loop .inv .2
 
 pub best-computed-spec : {M : Type 1} → statement M
 best-computed-spec =
@@ -72,11 +104,13 @@ best-computed-spec =
     (tie.spec
     Inv-loop
     μ-loop
+    less-requires
+    extended-at-requires
+    up-requires
     loop-holds
-    mul-extension
-    shared-slice-read-extension
-    sub-penalty-of
-    penalty-of-requires
+    mul-prev
+    shared-slice-read-prev
+    extended-at-requires-2
     cast-at
     add-u
     loop-less
