@@ -1,0 +1,63 @@
+-- An input that comes in parts: what is told of it is what is told of the whole, however it is cut. Assumes nothing.
+use mathlib.Core.Path.{_≡_, sym, ap, _∙_}
+use mathlib.Core.Bool.{true}
+use mathlib.Core.List.{List, [], _++_, append-nil, append-assoc}
+use Prim.Native.Nat.{ℕ, _*_, _≤_}
+use lib.Ieee.{Float}
+use lib.ListN.{length, take}
+use Rattle.numbers.specs.Limits.{mostBins, magnitudeFine}
+use Rattle.numbers.specs.Lists.{every}
+use Rattle.report.specs.Input.{mostReported, reportNumber, reportFlux}
+use Rattle.report.specs.Stream.{joined}
+use Rattle.report_feed.specs.declared.Feed.{Feed}
+use Rattle.report_feed.specs.declared.Reading.{Reading}
+use Rattle.report_feed.specs.Feeds.{Fed, Begins, Closes, Told, Run, none, more}
+use Rattle.report_feed.proofs.Inputs.{accepted}
+
+run-fed : {feed feed′ : Feed} {held held′ : List ℕ} {kept kept′ was flux flux′ : List Float} {parts : List (List ℕ)} (input : List ℕ)
+    → Run feed held kept flux parts feed′ held′ kept′ flux′ → Fed input feed held kept was flux → Fed (input ++ joined parts) feed′ held′ kept′ was flux′
+unfolding joined
+run-fed {feed} {feed′} {held} {held′} {kept} {kept′} {was} {flux} {flux′} input none x = rw (append-nil input) x
+run-fed {feed} {feed′} {held} {held′} {kept} {kept′} {was} {flux} {flux′} input (more {bytes = bytes} {parts = rest} s rs) x =
+    rw (← append-assoc input bytes (joined rest)) (run-fed (input ++ bytes) rs (s .fed input was x))
+
+-- One run: an input that comes in parts, from nothing to its end, into any room that is there, with rows kept that are fine.
+pub record Fedthrough (parts : List (List ℕ)) (answer : Reading) (flux : List Float) : Type 0 where
+  pub begun : Feed
+  pub ended : Feed
+  pub held : List ℕ
+  pub held′ : List ℕ
+  pub kept : List Float
+  pub kept′ : List Float
+  pub was : List Float
+  pub held-room : 65536 ≤ length held
+  pub kept-room : 2 * mostBins ≤ length kept
+  pub flux-room : mostReported ≤ length was
+  pub kept-fine : every magnitudeFine kept ≡ true
+  pub begins : Begins begun
+  pub run : Run begun held kept was parts ended held′ kept′ flux
+  pub closes : Closes ended answer
+
+-- However an input is cut, its number is that of the whole input, and where that is 0, the first slots of the flux are the flux of the whole input.
+pub record Whole (input : List ℕ) (answer : Reading) (flux : List Float) : Type 0 where
+  pub number-is : answer .number ≡ reportNumber input
+  pub flux-is : answer .number ≡ 0 → take (answer .rows) flux ≡ reportFlux input
+
+pub however-cut : {parts : List (List ℕ)} {answer : Reading} {flux : List Float} → Fedthrough parts answer flux → Whole (joined parts) answer flux
+however-cut {parts} {answer} {flux} r =
+    let told : Told (joined parts) answer (r .was) flux
+    = r .closes .tells (joined parts) (r .held′) (r .kept′) (r .was) flux
+    (run-fed [] (r .run) (r .begins .fed (r .held) (r .kept) (r .was) (r .held-room) (r .kept-room) (r .flux-room) (r .kept-fine))) in
+    record { number-is = told .number-is; flux-is = λ z. accepted told z .flux-is }
+
+-- two ways to cut one input give one answer
+pub record Agree (a b : Reading) (f g : List Float) : Type 0 where
+  pub number-is : a .number ≡ b .number
+  pub flux-is : a .number ≡ 0 → take (a .rows) f ≡ take (b .rows) g
+
+pub cuts-agree : {parts others : List (List ℕ)} {a b : Reading} {f g : List Float} → joined parts ≡ joined others → Fedthrough parts a f → Fedthrough others b g → Agree a b f g
+cuts-agree {parts} {others} {a} {b} {f} {g} e p q =
+    let x = however-cut p in
+    let y = however-cut q in
+    let n : a .number ≡ b .number = x .number-is ∙ ap reportNumber e ∙ sym (y .number-is) in
+    record { number-is = n; flux-is = λ z. x .flux-is z ∙ ap reportFlux e ∙ sym (y .flux-is (sym n ∙ z)) }
