@@ -22,7 +22,7 @@ run-fed {feed} {feed′} {held} {held′} {kept} {kept′} {was} {flux} {flux′
     rw (← append-assoc input bytes (joined rest)) (run-fed (input ++ bytes) rs (s .fed input was x))
 
 -- One run: an input that comes in parts, from nothing to its end, into any room that is there, with rows kept that are fine.
-pub record Fedthrough (parts : List (List ℕ)) (answer : Reading) (flux : List Float) : Type 0 where
+pub record Cut (parts : List (List ℕ)) (answer : Reading) (flux : List Float) : Type 0 where
   pub begun : Feed
   pub ended : Feed
   pub held : List ℕ
@@ -43,7 +43,7 @@ pub record Whole (input : List ℕ) (answer : Reading) (flux : List Float) : Typ
   pub number-is : answer .number ≡ reportNumber input
   pub flux-is : answer .number ≡ 0 → take (answer .rows) flux ≡ reportFlux input
 
-pub however-cut : {parts : List (List ℕ)} {answer : Reading} {flux : List Float} → Fedthrough parts answer flux → Whole (joined parts) answer flux
+pub however-cut : {parts : List (List ℕ)} {answer : Reading} {flux : List Float} → Cut parts answer flux → Whole (joined parts) answer flux
 however-cut {parts} {answer} {flux} r =
     let told : Told (joined parts) answer (r .was) flux
     = r .closes .tells (joined parts) (r .held′) (r .kept′) (r .was) flux
@@ -55,7 +55,7 @@ pub record Agree (a b : Reading) (f g : List Float) : Type 0 where
   pub number-is : a .number ≡ b .number
   pub flux-is : a .number ≡ 0 → take (a .rows) f ≡ take (b .rows) g
 
-pub cuts-agree : {parts others : List (List ℕ)} {a b : Reading} {f g : List Float} → joined parts ≡ joined others → Fedthrough parts a f → Fedthrough others b g → Agree a b f g
+pub cuts-agree : {parts others : List (List ℕ)} {a b : Reading} {f g : List Float} → joined parts ≡ joined others → Cut parts a f → Cut others b g → Agree a b f g
 cuts-agree {parts} {others} {a} {b} {f} {g} e p q =
     let x = however-cut p in
     let y = however-cut q in

@@ -11,7 +11,7 @@ use Rattle.report_feed.proofs.take_data.Statement.{statement}
 use Rattle.report_feed.proofs.take_data.Tie as tie
 
 returns : tie.Need-returns
-returns c = step-behind (c .before .before .before .before .pre) (c .if1 .taken)
+returns c = let start = c .before .before .before .before in step-behind (start .pre) (omega (arith, rows-within (start .pre) .row-is, c .if1 .taken))
 
 slice-write-held : tie.Need-slice-write-held
 slice-write-held c = have-fits (c .before .before .before .before .pre)
