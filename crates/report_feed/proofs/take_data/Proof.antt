@@ -26,10 +26,12 @@ same-length : tie.Need-same-length
 same-length c = search needs
 
 returns-2 : tie.Need-returns-2
-returns-2 c = step-part (c .before .before .before .before .before .pre) (omega (arith, rows-within (c .before .before .before .before .before .pre) .row-is, c .before .if1 .left)) (c .if2 .taken)
+returns-2 c =
+    let start = c .before .before .before .before .before in
+    step-part (start .pre) (omega (arith, rows-within (start .pre) .row-is, c .before .if1 .left)) (omega (arith, c .if2 .taken))
 
 mul-two : tie.Need-mul-two
-mul-two c = search needs
+mul-two c = omega (arith, pair-fits (c .before .before .before .before .before .pre))
 
 sub-take-row : tie.Need-sub-take-row
 sub-take-row c = search needs
