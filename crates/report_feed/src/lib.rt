@@ -158,10 +158,11 @@ fn take_data(
     }
     let two = 2 * bins;
     let still = report::stream::take_row(&held[0..width], bins, t, fine, &mut kept[0..two], flux);
+    let next = t + 1;
     Feed::Rows {
         rows,
         bins,
-        t: t + 1,
+        t: next,
         have: 0,
         fine: still,
     }

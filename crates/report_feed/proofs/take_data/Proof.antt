@@ -64,8 +64,8 @@ take-row-requires c κs =
       λ f. rw part-is (rows-within (start .pre) .kept-fine f),
     )
 
-add-t17 : tie.Need-add-t17
-add-t17 c = omega (arith, rows-within (c .before .before .before .before .before .before .before .before .before .before .before .before .before .before .pre) .row-is, c .before .before .before .before .before .before .before .before .before .before .if1 .left)
+add-next : tie.Need-add-next
+add-next c = omega (arith, rows-within (c .before .before .before .before .before .before .before .before .before .before .before .before .before .before .pre) .row-is, c .before .before .before .before .before .before .before .before .before .before .if1 .left)
 
 same-length-2 : tie.Need-same-length-2
 same-length-2 c = search needs
@@ -103,7 +103,7 @@ take-data-spec =
     part-take-row-start-2
     part-take-row-end-2
     take-row-requires
-    add-t17
+    add-next
     same-length-2
     same-length-3
     same-length-4
