@@ -4,14 +4,16 @@ use mathlib.Core.Bool.{true}
 use mathlib.Core.List.{List, [], _++_, append-nil, append-assoc}
 use Prim.Native.Nat.{ℕ, _*_, _≤_}
 use lib.Ieee.{Float}
+use native.Mathlib.Omega.{arith}
 use lib.ListN.{length, take}
+use lib.Seq.{length-take-le}
 use Rattle.numbers.specs.Limits.{mostBins, magnitudeFine}
 use Rattle.numbers.specs.Lists.{every}
 use Rattle.report.specs.Input.{mostReported, reportNumber, reportFlux}
 use Rattle.report.specs.Stream.{joined}
 use Rattle.report_feed.specs.declared.Feed.{Feed}
 use Rattle.report_feed.specs.declared.Reading.{Reading}
-use Rattle.report_feed.specs.Feeds.{Fed, Begins, Closes, Told, Run, none, more}
+use Rattle.report_feed.specs.Feeds.{heldRoom, Fed, Begins, Closes, Told, Run, none, more}
 use Rattle.report_feed.proofs.Inputs.{accepted}
 
 run-fed : {feed feed′ : Feed} {held held′ : List ℕ} {kept kept′ was flux flux′ : List Float} {parts : List (List ℕ)} (input : List ℕ)
@@ -30,7 +32,7 @@ pub record Cut (parts : List (List ℕ)) (answer : Reading) (flux : List Float) 
   pub kept : List Float
   pub kept′ : List Float
   pub was : List Float
-  pub held-room : 65536 ≤ length held
+  pub held-room : heldRoom ≤ length held
   pub kept-room : 2 * mostBins ≤ length kept
   pub flux-room : mostReported ≤ length was
   pub kept-fine : every magnitudeFine kept ≡ true
@@ -38,21 +40,30 @@ pub record Cut (parts : List (List ℕ)) (answer : Reading) (flux : List Float) 
   pub run : Run begun held kept was parts ended held′ kept′ flux
   pub closes : Closes ended answer
 
--- However an input is cut, its number is that of the whole input, and where that is 0, the first slots of the flux are the flux of the whole input.
+-- However an input is cut, its number is that of the whole input, and where that is 0, it has as many rows as the flux of the whole input has slots,
+-- and the first slots of the flux are these.
 pub record Whole (input : List ℕ) (answer : Reading) (flux : List Float) : Type 0 where
   pub number-is : answer .number ≡ reportNumber input
+  pub rows-is : answer .number ≡ 0 → answer .rows ≡ length (reportFlux input)
   pub flux-is : answer .number ≡ 0 → take (answer .rows) flux ≡ reportFlux input
 
 pub however-cut : {parts : List (List ℕ)} {answer : Reading} {flux : List Float} → Cut parts answer flux → Whole (joined parts) answer flux
 however-cut {parts} {answer} {flux} r =
-    let told : Told (joined parts) answer (r .was) flux
-    = r .closes .tells (joined parts) (r .held′) (r .kept′) (r .was) flux
-    (run-fed [] (r .run) (r .begins .fed (r .held) (r .kept) (r .was) (r .held-room) (r .kept-room) (r .flux-room) (r .kept-fine))) in
-    record { number-is = told .number-is; flux-is = λ z. accepted told z .flux-is }
+    let come : Fed (joined parts) (r .ended) (r .held′) (r .kept′) (r .was) flux
+    = run-fed [] (r .run) (r .begins .fed (r .held) (r .kept) (r .was) (r .held-room) (r .kept-room) (r .flux-room) (r .kept-fine)) in
+    let told : Told (joined parts) answer (r .was) flux = r .closes .tells (joined parts) (r .held′) (r .kept′) (r .was) flux come in
+    record {
+      number-is = told .number-is;
+      rows-is = λ z.
+          let a = accepted told z in
+          sym (length-take-le (answer .rows) flux (omega (arith, a .rows-fit, come .ready .flux-room))) ∙ ap length (a .flux-is);
+      flux-is = λ z. accepted told z .flux-is;
+    }
 
 -- two ways to cut one input give one answer
 pub record Agree (a b : Reading) (f g : List Float) : Type 0 where
   pub number-is : a .number ≡ b .number
+  pub rows-is : a .number ≡ 0 → a .rows ≡ b .rows
   pub flux-is : a .number ≡ 0 → take (a .rows) f ≡ take (b .rows) g
 
 pub cuts-agree : {parts others : List (List ℕ)} {a b : Reading} {f g : List Float} → joined parts ≡ joined others → Cut parts a f → Cut others b g → Agree a b f g
@@ -60,4 +71,8 @@ cuts-agree {parts} {others} {a} {b} {f} {g} e p q =
     let x = however-cut p in
     let y = however-cut q in
     let n : a .number ≡ b .number = x .number-is ∙ ap reportNumber e ∙ sym (y .number-is) in
-    record { number-is = n; flux-is = λ z. x .flux-is z ∙ ap reportFlux e ∙ sym (y .flux-is (sym n ∙ z)) }
+    record {
+      number-is = n;
+      rows-is = λ z. x .rows-is z ∙ ap (λ (s : List ℕ). length (reportFlux s)) e ∙ sym (y .rows-is (sym n ∙ z));
+      flux-is = λ z. x .flux-is z ∙ ap reportFlux e ∙ sym (y .flux-is (sym n ∙ z));
+    }

@@ -24,6 +24,14 @@ use Rattle.report_feed.specs.declared.Feed.{Feed}
 use Rattle.report_feed.specs.declared.Feed.the-variants as come
 use Rattle.report_feed.specs.declared.Reading.{Reading}
 
+-- the longest text that two bytes can state
+abbrev pub mostText : ℕ
+mostText = 65535
+
+-- room for what is held: the ten bytes, a text, or a row, of which a text may be the longest
+abbrev pub heldRoom : ℕ
+heldRoom = 65536
+
 -- ---- what comes next
 
 -- behind the ten bytes: a header's text, as long as they say, and one of no bytes is malformed
@@ -40,15 +48,16 @@ behindText (header.Shape rows bins) = pick (shapeFine rows bins) (come.Rows rows
 pub record FirstTaken (byte have : ℕ) (held : List ℕ) (feed′ : Feed) (held′ : List ℕ) : Type 0 where
   pub held-is : held′ ≡ set held have byte
   pub feed-is : feed′ ≡ pick (ltb (have + 1) preambleLength) (come.First (have + 1)) (behindFirst (preambleOf (take preambleLength held′)))
-  pub size-fits : preambleLength ≤ have + 1 → (size : ℕ) → preambleOf (take preambleLength held′) ≡ preamble.Length size → size ≤ 65535
+  pub size-fits : preambleLength ≤ have + 1 → (size : ℕ) → preambleOf (take preambleLength held′) ≡ preamble.Length size → size ≤ mostText
 
 -- one byte more of a header's text: it is held, and with the last the text says what comes next
 pub record TextTaken (byte size have : ℕ) (held : List ℕ) (feed′ : Feed) (held′ : List ℕ) : Type 0 where
   pub held-is : held′ ≡ set held have byte
   pub feed-is : feed′ ≡ pick (ltb (have + 1) size) (come.Text size (have + 1)) (behindText (headerOf (take size held′)))
 
--- ---- what has to be there for a byte to be taken: the room, and what comes is not yet whole
+-- ---- what has to be there for a byte to be taken
 
+-- a shape within the bounds, and a row that is not yet whole; behind the last row nothing is held
 pub record RowsWithin (rows bins t have : ℕ) (fine : Bool) (kept : List Float) : Type 0 where
   pub shape-is : shapeFine rows bins ≡ true
   pub row-is : t ≤ rows
@@ -56,14 +65,16 @@ pub record RowsWithin (rows bins t have : ℕ) (fine : Bool) (kept : List Float)
   pub none-behind : t ≡ rows → have ≡ 0
   pub kept-fine : fine ≡ true → every magnitudeFine (take (2 * bins) kept) ≡ true
 
+-- what is coming is not yet whole, and the rows kept are fine while all that came are
 unfoldable pub Within : Feed → (kept : List Float) → Type 0
 Within (come.First have) kept = (have < preambleLength) × (every magnitudeFine kept ≡ true)
-Within (come.Text size have) kept = (have < size) × (size ≤ 65535) × (every magnitudeFine kept ≡ true)
+Within (come.Text size have) kept = (have < size) × (size ≤ mostText) × (every magnitudeFine kept ≡ true)
 Within (come.Rows rows bins t have fine) kept = RowsWithin rows bins t have fine kept
 Within (come.Refused number) kept = Unit {0}
 
+-- there is room, and what is coming is not yet whole
 pub record Ready (feed : Feed) (held : List ℕ) (kept flux : List Float) : Type 0 where
-  pub held-room : 65536 ≤ length held
+  pub held-room : heldRoom ≤ length held
   pub kept-room : 2 * mostBins ≤ length kept
   pub flux-room : mostReported ≤ length flux
   pub within : Within feed kept
@@ -99,6 +110,7 @@ pub record InRefused (input : List ℕ) (number : ℕ) : Type 0 where
   pub some : number ≡ 0 → ⊥
   pub whatever : (more : List ℕ) → reportNumber (input ++ more) ≡ number
 
+-- what has come, by how far it is
 unfoldable pub Parts : (input : List ℕ) → Feed → (held : List ℕ) → (kept was flux : List Float) → Type 0
 Parts input (come.First have) held kept was flux = InFirst input have held was flux
 Parts input (come.Text size have) held kept was flux = InText input size have held was flux
@@ -114,7 +126,7 @@ pub record Fed (input : List ℕ) (feed : Feed) (held : List ℕ) (kept was flux
 
 -- nothing has come, where there is room and the rows kept are fine
 pub record Begins (feed : Feed) : Type 0 where
-  pub fed : (held : List ℕ) (kept was : List Float) → 65536 ≤ length held → 2 * mostBins ≤ length kept → mostReported ≤ length was
+  pub fed : (held : List ℕ) (kept was : List Float) → heldRoom ≤ length held → 2 * mostBins ≤ length kept → mostReported ≤ length was
       → every magnitudeFine kept ≡ true → Fed [] feed held kept was was
 
 -- These bytes are taken: whatever input had come so far, it has come with them behind it.

@@ -13,7 +13,7 @@ ghost use Prim.Native.Nat.{ℕ, _≤_, _<_};
 ghost use lib.ListN.{length};
 ghost use Rattle.npy.specs.Header.{preambleOf};
 ghost use Rattle.report.specs.Input.{preambleLength};
-ghost use Rattle.report_feed.specs.Feeds.{behindFirst, behindText, FirstTaken, TextTaken, Ready, Step, Begins, Closes};
+ghost use Rattle.report_feed.specs.Feeds.{mostText, behindFirst, behindText, FirstTaken, TextTaken, Ready, Step, Begins, Closes};
 
 // the bytes before a header's text
 const FIRST: usize = 10;
@@ -55,7 +55,7 @@ pub fn begun() -> Feed
 
 // What the ten bytes say: a length of two bytes is at most 65,535.
 fn stated(bytes: &[u8]) -> Preamble
-    ensures { λ r. ⌜ (r ≡ preambleOf (now (bytes .entry))) × ((size : ℕ) → r ≡ Preamble.Length size → size ≤ 65535) ⌝ }
+    ensures { λ r. ⌜ (r ≡ preambleOf (now (bytes .entry))) × ((size : ℕ) → r ≡ Preamble.Length size → size ≤ mostText) ⌝ }
 {
     npy::read_preamble(bytes)
 }

@@ -11,7 +11,7 @@ use Rattle.numbers.specs.Lists.{every}
 use Rattle.report.specs.Input.{mostReported}
 use Rattle.report_feed.specs.declared.Feed.{Feed}
 use Rattle.report_feed.specs.declared.Reading.{Reading}
-use Rattle.report_feed.specs.Feeds.{Begins, Step, Closes}
+use Rattle.report_feed.specs.Feeds.{heldRoom, Begins, Step, Closes}
 use Rattle.report_read.specs.Reads.{Coming, InputRead}
 
 zero-fine : magnitudeFine (ofBits binary32 0) ≡ true
@@ -26,7 +26,7 @@ zeros-fine (suc n) = and-both (magnitudeFine (ofBits binary32 0)) _ zero-fine (z
 -- ---- what has come
 
 pub coming-none : {feed : Feed} {held : List ℕ} {kept was : List Float} → Begins feed
-    → (65536 ≤ length held) × (2 * mostBins ≤ length kept) × (mostReported ≤ length was) × (every magnitudeFine kept ≡ true) → Coming feed held kept was was
+    → (heldRoom ≤ length held) × (2 * mostBins ≤ length kept) × (mostReported ≤ length was) × (every magnitudeFine kept ≡ true) → Coming feed held kept was was
 coming-none {feed} {held} {kept} {was} b h = record { input = []; fed = b .fed held kept was (h .0) (h .1) (h .2) (h .3) }
 
 pub coming-more : {bytes : List ℕ} {feed feed′ : Feed} {held held′ : List ℕ} {kept kept′ was flux flux′ : List Float} → Step bytes feed held kept flux feed′ held′ kept′ flux′

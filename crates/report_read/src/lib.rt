@@ -13,6 +13,7 @@ ghost use lib.ListN.{length};
 ghost use Rattle.numbers.specs.Limits.{magnitudeFine, mostBins};
 ghost use Rattle.numbers.specs.Lists.{every};
 ghost use Rattle.report.specs.Input.{mostReported};
+ghost use Rattle.report_feed.specs.Feeds.{heldRoom};
 ghost use Rattle.report_read.specs.Reads.{InputRead};
 
 // room for two rows of as many bins as there may be
@@ -27,7 +28,7 @@ fn two_rows() -> [f32; TWO_ROWS]
 // Reads to the end of the input. A proved loop has to end, and nothing says that the input does: the loop counts down from a number that no run
 // uses up.
 fn read_all(bytes: &mut [u8], held: &mut [u8], kept: &mut [f32], flux: &mut [f64]) -> Reading
-    requires { ⌜ (65536 ≤ length (now held)) × (2 * mostBins ≤ length (now kept)) × (mostReported ≤ length (now flux)) × (every magnitudeFine (now kept) ≡ true) ⌝ }
+    requires { ⌜ (heldRoom ≤ length (now held)) × (2 * mostBins ≤ length (now kept)) × (mostReported ≤ length (now flux)) × (every magnitudeFine (now kept) ≡ true) ⌝ }
     ensures { λ r. ⌜ InputRead (now (flux .entry)) r (now (flux .exit)) ⌝ }
 {
     let mut feed = report_feed::begun();

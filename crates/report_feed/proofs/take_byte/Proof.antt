@@ -29,13 +29,17 @@ same-length : tie.Need-same-length
 same-length c = search needs
 
 returns : tie.Need-returns
-returns c = let told = c .before .before .before .before .before .feed .given .1 in step-at told (step-first (ready-at told (c .before .before .before .before .before .before .before .before .before .before .pre)) (c .before .before .take-first .ensures))
+returns c =
+    let told = c .before .before .before .before .before .feed .given .1 in
+    step-at told (step-first (ready-at told (c .before .before .before .before .before .before .before .before .before .before .pre)) (c .before .before .take-first .ensures))
 
 same-length-2 : tie.Need-same-length-2
 same-length-2 c = search needs
 
 returns-2 : tie.Need-returns-2
-returns-2 c = let told = c .before .before .before .before .before .feed2 .given .1 in step-at told (step-text (ready-at told (c .before .before .before .before .before .before .before .before .before .before .pre)) (c .before .before .take-text .ensures))
+returns-2 c =
+    let told = c .before .before .before .before .before .feed2 .given .1 in
+    step-at told (step-text (ready-at told (c .before .before .before .before .before .before .before .before .before .before .pre)) (c .before .before .take-text .ensures))
 
 same-length-3 : tie.Need-same-length-3
 same-length-3 c = search needs
@@ -50,7 +54,9 @@ returns-3 : tie.Need-returns-3
 returns-3 c = step-at (c .before .before .before .before .before .before .before .before .before .before .before .feed3 .given .1) (c .before .before .before .before .before .before .take-data .ensures)
 
 returns-4 : tie.Need-returns-4
-returns-4 c = let told = c .before .feed4 .given .1 in step-at told (step-refused (ready-at told (c .before .before .before .before .before .before .pre)))
+returns-4 c =
+    let told = c .before .feed4 .given .1 in
+    step-at told (step-refused (ready-at told (c .before .before .before .before .before .before .pre)))
 
 pub take-byte-spec : {M : Type 1} → statement M
 take-byte-spec =

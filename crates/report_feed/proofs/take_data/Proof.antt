@@ -65,7 +65,7 @@ take-row-requires c κs =
     )
 
 add-next : tie.Need-add-next
-add-next c = omega (arith, rows-within (c .before .before .before .before .before .before .before .before .before .before .before .before .before .before .pre) .row-is, c .before .before .before .before .before .before .before .before .before .before .if1 .left)
+add-next c = let start = c .before .before .before .before .before .before .before .before .before .before .before .before .before .before in omega (arith, rows-within (start .pre) .row-is, c .before .before .before .before .before .before .before .before .before .before .if1 .left)
 
 same-length-2 : tie.Need-same-length-2
 same-length-2 c = search needs

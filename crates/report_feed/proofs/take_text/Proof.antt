@@ -47,7 +47,9 @@ returns-2 c =
     let told = c .before .read-header .ensures in
     record {
       held-is = refl;
-      feed-is = c .behind-text .ensures ∙ ap behindText (told ∙ ap headerOf (part-is (start .args .size) (set (now (start .args .held)) (start .args .have) (start .args .byte)))) ∙ sym (pick-false _ _ _ (le-ltb _ _ (c .before .before .before .before .if1 .left)));
+      feed-is = c .behind-text .ensures
+          ∙ ap behindText (told ∙ ap headerOf (part-is (start .args .size) (set (now (start .args .held)) (start .args .have) (start .args .byte))))
+          ∙ sym (pick-false _ _ _ (le-ltb _ _ (c .before .before .before .before .if1 .left)));
     }
 
 pub take-text-spec : {M : Type 1} → statement M
