@@ -1,5 +1,5 @@
 -- An input that comes in parts: what is told of it is what is told of the whole, however it is cut. Assumes nothing.
-use mathlib.Core.Path.{_≡_, sym, ap, _∙_}
+use mathlib.Core.Path.{_≡_, refl, sym, ap, _∙_}
 use mathlib.Core.Bool.{true}
 use mathlib.Core.List.{List, [], _++_, append-nil, append-assoc}
 use Prim.Native.Nat.{ℕ, _*_, _≤_}
@@ -13,8 +13,9 @@ use Rattle.report.specs.Input.{mostReported, reportNumber, reportFlux}
 use Rattle.report.specs.Stream.{joined}
 use Rattle.report_feed.specs.declared.Feed.{Feed}
 use Rattle.report_feed.specs.declared.Reading.{Reading}
-use Rattle.report_feed.specs.Feeds.{heldRoom, Fed, Begins, Closes, Told, Run, none, more}
+use Rattle.report_feed.specs.Feeds.{heldRoom, state, bytesTaken, Fed, Begins, Closes, Told, Run, none, more}
 use Rattle.report_feed.proofs.Inputs.{accepted}
+use Rattle.report_feed.proofs.Feeds.{taken-append}
 
 run-fed : {feed feed′ : Feed} {held held′ : List ℕ} {kept kept′ was flux flux′ : List Float} {parts : List (List ℕ)} (input : List ℕ)
     → Run feed held kept flux parts feed′ held′ kept′ flux′ → Fed input feed held kept was flux → Fed (input ++ joined parts) feed′ held′ kept′ was flux′
@@ -22,6 +23,20 @@ unfolding joined
 run-fed {feed} {feed′} {held} {held′} {kept} {kept′} {was} {flux} {flux′} input none x = rw (append-nil input) x
 run-fed {feed} {feed′} {held} {held′} {kept} {kept′} {was} {flux} {flux′} input (more {bytes = bytes} {parts = rest} s rs) x =
     rw (← append-assoc input bytes (joined rest)) (run-fed (input ++ bytes) rs (s .fed input was x))
+
+-- ---- however it is cut, every slot is the same
+
+run-state : {feed feed′ : Feed} {held held′ : List ℕ} {kept kept′ flux flux′ : List Float} {parts : List (List ℕ)}
+    → Run feed held kept flux parts feed′ held′ kept′ flux′ → state feed′ held′ kept′ flux′ ≡ bytesTaken (joined parts) (state feed held kept flux)
+unfolding joined bytesTaken
+run-state none = refl
+run-state (more {bytes = bytes} {parts = rest} s rs) = run-state rs ∙ ap (bytesTaken (joined rest)) (s .state-is) ∙ sym (taken-append bytes (joined rest) _)
+
+pub cuts-same : {feed a b : Feed} {held ha hb : List ℕ} {kept ka kb flux fa fb : List Float} {parts others : List (List ℕ)} → joined parts ≡ joined others
+    → Run feed held kept flux parts a ha ka fa → Run feed held kept flux others b hb kb fb → state a ha ka fa ≡ state b hb kb fb
+cuts-same {feed} {held = held} {kept = kept} {flux = flux} e p q = run-state p ∙ ap (λ (x : List ℕ). bytesTaken x (state feed held kept flux)) e ∙ sym (run-state q)
+
+-- ---- what is told is true of the whole input
 
 -- One run: an input that comes in parts, from nothing to its end, into any room that is there, with rows kept that are fine.
 pub record Cut (parts : List (List ℕ)) (answer : Reading) (flux : List Float) : Type 0 where

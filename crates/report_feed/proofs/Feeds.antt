@@ -2,17 +2,17 @@
 use mathlib.Core.Path.{_≡_, refl, sym, ap, _∙_}
 use mathlib.Core.Bool.{Bool, true, false}
 use mathlib.Core.List.{List, [], _∷_, _++_, append-nil, append-assoc}
-use Prim.Native.Nat.{ℕ, _+_, _-_, _*_, _≤_, _<_}
+use Prim.Native.Nat.{ℕ, _+_, _-_, _*_, _≤_, _<_, min}
 use native.Mathlib.Nat.{sub-zero, mul-le-mul-right, add-mul}
 use native.Mathlib.Numerals.{add-one}
 use native.Mathlib.Omega.{arith}
 use lib.Dec.{ltb, eqb}
 use lib.Ieee.{Float}
 use lib.ListN.{length, getD, take, drop, set, length-append, length-set}
-use lib.Seq.{take-suc, take-suc-set, length-take-le}
-use borrow.Author.Tests.{ltb-true, ltb-false, eqb-true, eqb-false, eq-eqb}
+use lib.Seq.{take-at, take-suc, take-suc-set, length-take-le}
+use borrow.Author.Tests.{ltb-true, ltb-false, eqb-true, eqb-false, eq-eqb, ne-eqb, lt-ltb, le-ltb}
 use Rattle.numbers.proofs.Everys.{every-take, every-drop, every-append}
-use Rattle.numbers.proofs.Tests.{and-left, and-right, lowest-zero, lowest-2}
+use Rattle.numbers.proofs.Tests.{and-left, and-right, pick-true, pick-false, lowest-zero, lowest-2}
 use Rattle.numbers.specs.Limits.{magnitudeFine}
 use Rattle.numbers.specs.Lists.{every, filled}
 use Rattle.numbers.specs.Refusals.{lowest}
@@ -28,7 +28,7 @@ use Rattle.report.specs.Stream.{RowTaken}
 use Rattle.report.proofs.Streams.{streamed-none, streamed-more}
 use Rattle.report_feed.specs.declared.Feed.{Feed}
 use Rattle.report_feed.specs.declared.Feed.the-variants as come
-use Rattle.report_feed.specs.Feeds.{behindFirst, behindText, FirstTaken, TextTaken, RowsWithin, Within, Ready, InRows, Parts, Begins, Step, Found, Told, Closes}
+use Rattle.report_feed.specs.Feeds.{Fed, State, state, behindFirst, behindText, rowTaken, byteTaken, bytesTaken, readingOf, FirstTaken, TextTaken, RowsWithin, Within, Ready, InRows, Parts, Begins, Step, Found, Told, Closes}
 use Rattle.report_feed.proofs.Inputs.{rows-fit, bins-some, bins-fit, number-short, number-malformed, number-text-short, number-text-malformed, number-data, number-shape, number-length}
 
 -- ---- nothing has come
@@ -37,6 +37,7 @@ pub begins : Begins (come.First 0)
 unfolding Within Parts
 begins =
     record {
+      feed-is = refl;
       fed = λ held kept was h k w f.
           record {
             ready = record { held-room = h; kept-room = k; flux-room = w; within = (omega arith, f) };
@@ -53,10 +54,20 @@ part-is {A} k xs = ap (λ (n : ℕ). take n xs) (sub-zero k)
 pub part-length : {A : Type 0} (k : ℕ) (xs : List A) → k ≤ length xs → length (take (k - 0) xs) ≡ k
 part-length k xs h = length-take-le (k - 0) xs (omega arith) ∙ omega arith
 
-step-of : {bytes : List ℕ} {feed feed′ : Feed} {held held′ : List ℕ} {kept kept′ flux flux′ : List Float} → Ready feed′ held′ kept′ flux′
-    → ((input : List ℕ) (was : List Float) → Parts input feed held kept was flux → Parts (input ++ bytes) feed′ held′ kept′ was flux′)
-    → Step bytes feed held kept flux feed′ held′ kept′ flux′
-step-of r f = record { ready = r; fed = λ input was x. record { ready = r; parts = f input was (x .parts) } }
+-- one byte more, apart from what the state is
+record Moved (byte : ℕ) (feed : Feed) (held : List ℕ) (kept flux : List Float) (feed′ : Feed) (held′ : List ℕ) (kept′ flux′ : List Float) : Type 0 where
+  ready : Ready feed′ held′ kept′ flux′
+  fed : (input : List ℕ) (was : List Float) → Fed input feed held kept was flux → Fed (input ++ (byte ∷ [])) feed′ held′ kept′ was flux′
+
+moved-of : {byte : ℕ} {feed feed′ : Feed} {held held′ : List ℕ} {kept kept′ flux flux′ : List Float} → Ready feed′ held′ kept′ flux′
+    → ((input : List ℕ) (was : List Float) → Parts input feed held kept was flux → Parts (input ++ (byte ∷ [])) feed′ held′ kept′ was flux′)
+    → Moved byte feed held kept flux feed′ held′ kept′ flux′
+moved-of r f = record { ready = r; fed = λ input was x. record { ready = r; parts = f input was (x .parts) } }
+
+step-of : {byte : ℕ} {feed feed′ : Feed} {held held′ : List ℕ} {kept kept′ flux flux′ : List Float} → state feed′ held′ kept′ flux′ ≡ byteTaken byte (state feed held kept flux)
+    → Moved byte feed held kept flux feed′ held′ kept′ flux′ → Step (byte ∷ []) feed held kept flux feed′ held′ kept′ flux′
+unfolding bytesTaken
+step-of e m = record { state-is = e; ready = m .ready; fed = m .fed }
 
 ready-as : {feed feed′ : Feed} {held held′ : List ℕ} {kept flux : List Float} → Ready feed held kept flux → length held′ ≡ length held → Within feed′ kept
     → Ready feed′ held′ kept flux
@@ -75,11 +86,12 @@ pub step-at : {bytes : List ℕ} {feed told feed′ : Feed} {held held′ : List
 step-at e s = rw e s
 
 -- nothing is taken, since the input is refused
-pub step-refused : {number : ℕ} {bytes held : List ℕ} {kept flux : List Float} → Ready (come.Refused number) held kept flux
-    → Step bytes (come.Refused number) held kept flux (come.Refused number) held kept flux
-unfolding Parts
-step-refused {number} {bytes} r =
-    step-of r (λ input was p. record { some = p .some; whatever = λ more. ap reportNumber (append-assoc input bytes more) ∙ p .whatever (bytes ++ more) })
+pub step-refused : {number byte : ℕ} {held : List ℕ} {kept flux : List Float} → Ready (come.Refused number) held kept flux
+    → Step (byte ∷ []) (come.Refused number) held kept flux (come.Refused number) held kept flux
+unfolding Parts byteTaken
+step-refused {number} {byte} r =
+    step-of refl (moved-of r (λ input was p.
+    record { some = p .some; whatever = λ more. ap reportNumber (append-assoc input (byte ∷ []) more) ∙ p .whatever ((byte ∷ []) ++ more) }))
 
 -- ---- the ten bytes
 
@@ -89,11 +101,17 @@ first-fits r = (r .within .0, omega (arith, r .held-room))
 
 pub step-first : {byte have : ℕ} {feed′ : Feed} {held held′ : List ℕ} {kept flux : List Float} → Ready (come.First have) held kept flux
     → FirstTaken byte have held feed′ held′ → Step (byte ∷ []) (come.First have) held kept flux feed′ held′ kept flux
-unfolding Within Parts behindFirst headerOf starts
-step-first {byte} {have} {feed′} {held} {held′} {kept} {flux} r t = rw (t .feed-is) (by (ltb (have + 1) preambleLength) refl)
+unfolding Within Parts behindFirst byteTaken headerOf starts
+step-first {byte} {have} {feed′} {held} {held′} {kept} {flux} r t =
+    step-of
+    (ap (λ (f : Feed). state f held′ kept flux) (t .feed-is)
+    ∙ ap
+    (λ (h : List ℕ). state (pick (ltb (have + 1) preambleLength) (come.First (have + 1)) (behindFirst (preambleOf (take preambleLength h)))) h kept flux)
+    (t .held-is))
+    (rw (t .feed-is) (by (ltb (have + 1) preambleLength) refl))
   where
     To : Feed → Type 0
-    To f = Step (byte ∷ []) (come.First have) held kept flux f held′ kept flux
+    To f = Moved byte (come.First have) held kept flux f held′ kept flux
 
     same : length held′ ≡ length held
     same = ap length (t .held-is) ∙ simp length-set
@@ -113,19 +131,19 @@ step-first {byte} {have} {feed′} {held} {held′} {kept} {flux} r t = rw (t .f
     empty : have + 1 ≡ 10 → (size : ℕ) → preambleOf first ≡ preamble.Length size → (b : Bool) → eqb size 0 ≡ b → To (pick b (come.Refused 5) (come.Text size 0))
     empty full size s true e =
         let none : preambleOf first ≡ preamble.Length 0 = s ∙ ap preamble.Length (eqb-true size 0 e) in
-        step-of (ready-as r same tt) (λ input was p.
+        moved-of (ready-as r same tt) (λ input was p.
         record {
           some = λ z. absurd (omega arith);
           whatever = λ rest. ap (λ (x : List ℕ). reportNumber (x ++ rest)) (whole full input (p .input-is)) ∙ number-text-malformed first ten [] none refl rest;
         })
     empty full size s false e =
         let some : 0 < size = let n : size ≡ 0 → ⊥ = eqb-false size 0 e in omega arith in
-        step-of (ready-as r same (some, t .size-fits (omega arith) size s, r .within .1)) (λ input was p.
+        moved-of (ready-as r same (some, t .size-fits (omega arith) size s, r .within .1)) (λ input was p.
         record { first = first; first-is = ten; stated-is = s; input-is = whole full input (p .input-is) ∙ sym (append-nil first); flux-is = p .flux-is })
 
     told : have + 1 ≡ 10 → (x : Preamble) → preambleOf first ≡ x → To (behindFirst x)
     told full preamble.Malformed s =
-        step-of (ready-as r same tt) (λ input was p.
+        moved-of (ready-as r same tt) (λ input was p.
         record {
           some = λ z. absurd (omega arith);
           whatever = λ rest. ap (λ (x : List ℕ). reportNumber (x ++ rest)) (whole full input (p .input-is)) ∙ number-malformed first ten s rest;
@@ -134,7 +152,7 @@ step-first {byte} {have} {feed′} {held} {held′} {kept} {flux} r t = rw (t .f
 
     by : (b : Bool) → ltb (have + 1) preambleLength ≡ b → To (pick b (come.First (have + 1)) (behindFirst (preambleOf first)))
     by true e =
-        step-of (ready-as r same (ltb-true _ _ e, r .within .1)) (λ input was p.
+        moved-of (ready-as r same (ltb-true _ _ e, r .within .1)) (λ input was p.
         record { input-is = ap (λ (x : List ℕ). x ++ (byte ∷ [])) (p .input-is) ∙ sym more; flux-is = p .flux-is })
     by false e = let h : preambleLength ≤ have + 1 = ltb-false _ _ e in told (omega (arith, r .within .0)) (preambleOf first) refl
 
@@ -146,11 +164,15 @@ text-fits r = (r .within .0, omega (arith, r .within .1, r .held-room))
 
 pub step-text : {byte size have : ℕ} {feed′ : Feed} {held held′ : List ℕ} {kept flux : List Float} → Ready (come.Text size have) held kept flux
     → TextTaken byte size have held feed′ held′ → Step (byte ∷ []) (come.Text size have) held kept flux feed′ held′ kept flux
-unfolding Within Parts behindText
-step-text {byte} {size} {have} {feed′} {held} {held′} {kept} {flux} r t = rw (t .feed-is) (by (ltb (have + 1) size) refl)
+unfolding Within Parts behindText byteTaken
+step-text {byte} {size} {have} {feed′} {held} {held′} {kept} {flux} r t =
+    step-of
+    (ap (λ (f : Feed). state f held′ kept flux) (t .feed-is)
+    ∙ ap (λ (h : List ℕ). state (pick (ltb (have + 1) size) (come.Text size (have + 1)) (behindText (headerOf (take size h)))) h kept flux) (t .held-is))
+    (rw (t .feed-is) (by (ltb (have + 1) size) refl))
   where
     To : Feed → Type 0
-    To f = Step (byte ∷ []) (come.Text size have) held kept flux f held′ kept flux
+    To f = Moved byte (come.Text size have) held kept flux f held′ kept flux
 
     same : length held′ ≡ length held
     same = ap length (t .held-is) ∙ simp length-set
@@ -180,7 +202,7 @@ step-text {byte} {size} {have} {feed′} {held} {held′} {kept} {flux} r t = rw
     shaped full rows bins s true e =
         let room : 2 * bins ≤ length kept = omega (arith, r .kept-room, bins-fit rows bins e) in
         let fine : every magnitudeFine (take (2 * bins) kept) ≡ true = every-take magnitudeFine kept (2 * bins) (r .within .2) in
-        step-of
+        moved-of
         (ready-as r same (record { shape-is = e; row-is = omega arith; have-is = omega (arith, bins-some rows bins e); none-behind = λ z. refl; kept-fine = λ z. fine }))
         (λ input was p.
         record {
@@ -194,7 +216,7 @@ step-text {byte} {size} {have} {feed′} {held} {held′} {kept} {flux} r t = rw
           input-is = whole full (p .first) input (p .input-is) ∙ ap (λ (x : List ℕ). p .first ++ x) (sym (append-nil text));
         })
     shaped full rows bins s false e =
-        step-of (ready-as r same tt) (λ input was p.
+        moved-of (ready-as r same tt) (λ input was p.
         record {
           some = λ z. absurd (omega arith);
           whatever = λ rest. on full (p .first) input rest (p .input-is) ∙ number-shape (p .first) (p .first-is) text (stated (p .first) (p .stated-is)) rows bins s e rest;
@@ -202,7 +224,7 @@ step-text {byte} {size} {have} {feed′} {held} {held′} {kept} {flux} r t = rw
 
     told : have + 1 ≡ size → (x : Header) → headerOf text ≡ x → To (behindText x)
     told full header.Malformed s =
-        step-of (ready-as r same tt) (λ input was p.
+        moved-of (ready-as r same tt) (λ input was p.
         record {
           some = λ z. absurd (omega arith);
           whatever = λ rest. on full (p .first) input rest (p .input-is) ∙ number-text-malformed (p .first) (p .first-is) text (stated (p .first) (p .stated-is)) s rest;
@@ -211,7 +233,7 @@ step-text {byte} {size} {have} {feed′} {held} {held′} {kept} {flux} r t = rw
 
     by : (b : Bool) → ltb (have + 1) size ≡ b → To (pick b (come.Text size (have + 1)) (behindText (headerOf text)))
     by true e =
-        step-of (ready-as r same (ltb-true _ _ e, r .within .1, r .within .2)) (λ input was p.
+        moved-of (ready-as r same (ltb-true _ _ e, r .within .1, r .within .2)) (λ input was p.
         record { first = p .first; first-is = p .first-is; stated-is = p .stated-is; input-is = behind (p .first) input (p .input-is); flux-is = p .flux-is })
     by false e = let h : size ≤ have + 1 = ltb-false _ _ e in told (omega (arith, r .within .0)) (headerOf text) refl
 
@@ -248,9 +270,9 @@ module _ {rows bins t have : ℕ} {fine : Bool} {held : List ℕ} {kept flux : L
 
   -- a byte behind the last row
   pub step-behind : {byte : ℕ} → t ≡ rows → Step (byte ∷ []) (come.Rows rows bins t have fine) held kept flux (come.Refused 2) held kept flux
-  unfolding Within Parts
+  unfolding Within Parts byteTaken
   step-behind {byte} e =
-      step-of (ready-as r refl tt) (λ input was p.
+      step-of (sym (pick-true _ _ _ (eq-eqb t rows e))) (moved-of (ready-as r refl tt) (λ input was p.
       record {
         some = λ z. absurd (omega arith);
         whatever = λ rest.
@@ -260,16 +282,16 @@ module _ {rows bins t have : ℕ} {fine : Bool} {held : List ℕ} {kept flux : L
             ap reportNumber parts
             ∙ number-length (p .first) (p .first-is) (p .text) (p .stated-is) rows bins (p .header-is) (rows-within .shape-is) (p .body ++ tail) (λ z.
             omega (arith, z, length-append (p .body) tail, length-append (take have held) ((byte ∷ []) ++ rest), p .streamed .rows-are ∙ ap (λ (k : ℕ). k * bins * 4) e));
-      })
+      }))
 
   -- a byte within a row
   pub step-part : {byte : ℕ} → t < rows → have + 1 < bins * 4
       → Step (byte ∷ []) (come.Rows rows bins t have fine) held kept flux (come.Rows rows bins t (have + 1) fine) (set held have byte) kept flux
-  unfolding Within Parts
+  unfolding Within Parts byteTaken
   step-part {byte} h k =
       let w = rows-within in
       let more = grown held (set held have byte) have byte refl have-fits in
-      step-of
+      step-of (sym (pick-false _ _ _ (ne-eqb t rows (λ e. omega arith)) ∙ pick-true _ _ _ (lt-ltb _ _ k))) (moved-of
       (ready-as r (length-set held have byte) (record { shape-is = w .shape-is; row-is = w .row-is; have-is = k; none-behind = λ z. absurd (omega arith); kept-fine = w .kept-fine }))
       (λ input was p.
       record {
@@ -281,15 +303,25 @@ module _ {rows bins t have : ℕ} {fine : Bool} {held : List ℕ} {kept flux : L
         header-is = p .header-is;
         streamed = p .streamed;
         input-is = ap (λ (x : List ℕ). x ++ (byte ∷ [])) (p .input-is) ∙ simp (append-assoc, more);
-      })
+      }))
 
   -- the last byte of a row
   pub step-row : {byte : ℕ} {still : Bool} {bytes : List ℕ} {pair pair′ kept′ flux′ : List Float} → t < rows → have + 1 ≡ bins * 4 → bytes ≡ take (bins * 4) (set held have byte)
-      → pair ≡ take (2 * bins) kept → RowTaken bytes bins t fine pair flux still pair′ flux′ → take (2 * bins) kept′ ≡ pair′ → length kept′ ≡ length kept → length flux′ ≡ length flux
+      → pair ≡ take (2 * bins) kept → RowTaken bytes bins t fine pair flux still pair′ flux′ → kept′ ≡ pair′ ++ drop (2 * bins) kept → length pair′ ≡ 2 * bins → length kept′ ≡ length kept → length flux′ ≡ length flux
       → Step (byte ∷ []) (come.Rows rows bins t have fine) held kept flux (come.Rows rows bins (t + 1) 0 still) (set held have byte) kept′ flux′
-  unfolding Within Parts
-  step-row {byte} {still} {bytes} {pair} {pair′} {kept′} {flux′} h k b q taken q′ lk lf =
+  unfolding Within Parts byteTaken rowTaken
+  step-row {byte} {still} {bytes} {pair} {pair′} {kept′} {flux′} h k b q taken k′ lp lk lf =
       let w = rows-within in
+      let q′ : take (2 * bins) kept′ ≡ pair′ = ap (take (2 * bins)) k′ ∙ take-at pair′ (drop (2 * bins) kept) (2 * bins) lp in
+      let now : RowTaken (take (bins * 4) (set held have byte)) bins t fine (take (2 * bins) kept) flux still pair′ flux′ = rw (← b, ← q) taken in
+      let new = valuesOf (take (bins * 4) (set held have byte)) in
+      let pair″ = drop bins (take (2 * bins) kept) ++ new in
+      let is : state (come.Rows rows bins (t + 1) 0 still) (set held have byte) kept′ flux′ ≡ rowTaken rows bins t fine (set held have byte) kept flux
+      = ap (λ (x : List Float). state (come.Rows rows bins (t + 1) 0 still) (set held have byte) x flux′) (k′ ∙ ap (λ (x : List Float). x ++ drop (2 * bins) kept) (now .kept-is))
+      ∙ ap (λ (x : List Float). state (come.Rows rows bins (t + 1) 0 still) (set held have byte) (pair″ ++ drop (2 * bins) kept) x) (now .flux-is)
+      ∙ ap
+      (λ (y : Bool). state (come.Rows rows bins (t + 1) 0 y) (set held have byte) (pair″ ++ drop (2 * bins) kept) (pick y (set flux t (fluxAt pair″ bins (min t 1))) flux))
+      (now .fine-is) in
       let lb : length bytes ≡ bins * 4 = ap length b ∙ length-take-le (bins * 4) (set held have byte) (omega (arith, length-set held have byte, have-fits)) in
       let room : t < length flux = omega (arith, r .flux-room, rows-fit rows bins (w .shape-is)) in
       let more : bytes ≡ take have held ++ (byte ∷ []) = b ∙ ap (λ (n : ℕ). take n (set held have byte)) (sym k) ∙ grown held (set held have byte) have byte refl have-fits in
@@ -306,7 +338,7 @@ module _ {rows bins t have : ℕ} {fine : Bool} {held : List ℕ} {kept flux : L
           kept-fine = λ z. ap (every magnitudeFine) q′ ∙ pair-fine taken (λ f. ap (every magnitudeFine) q ∙ w .kept-fine f) z;
         };
       } in
-      step-of ready (λ input was p.
+      step-of (sym (pick-false _ _ _ (ne-eqb t rows (λ e. omega arith)) ∙ pick-false _ _ _ (le-ltb (have + 1) (bins * 4) (omega arith)) ∙ sym is)) (moved-of ready (λ input was p.
       record {
         first = p .first;
         text = p .text;
@@ -316,17 +348,28 @@ module _ {rows bins t have : ℕ} {fine : Bool} {held : List ℕ} {kept flux : L
         header-is = p .header-is;
         streamed = rw q′ (streamed-more {body = p .body} lb room taken (rw q (p .streamed)));
         input-is = ap (λ (x : List ℕ). x ++ (byte ∷ [])) (p .input-is) ∙ simp (append-assoc, more, append-nil);
-      })
+      }))
 
 -- ---- several bytes
 
+pub taken-append : (a b : List ℕ) (s : State) → bytesTaken (a ++ b) s ≡ bytesTaken b (bytesTaken a s)
+unfolding bytesTaken
+taken-append [] b s = refl
+taken-append (x ∷ a) b s = taken-append a b (byteTaken x s)
+
 pub step-none : {feed : Feed} {held : List ℕ} {kept flux : List Float} → Ready feed held kept flux → Step [] feed held kept flux feed held kept flux
-step-none {feed} {held} {kept} {flux} r = record { ready = r; fed = λ input was x. rw (append-nil input) x }
+unfolding bytesTaken
+step-none {feed} {held} {kept} {flux} r = record { state-is = refl; ready = r; fed = λ input was x. rw (append-nil input) x }
 
 pub step-on : {a b : List ℕ} {feed feed′ feed″ : Feed} {held held′ held″ : List ℕ} {kept kept′ kept″ flux flux′ flux″ : List Float}
     → Step a feed held kept flux feed′ held′ kept′ flux′ → Step b feed′ held′ kept′ flux′ feed″ held″ kept″ flux″
     → Step (a ++ b) feed held kept flux feed″ held″ kept″ flux″
-step-on {a} {b} s u = record { ready = u .ready; fed = λ input was x. rw (← append-assoc input a b) (u .fed (input ++ a) was (s .fed input was x)) }
+step-on {a} {b} s u =
+    record {
+      state-is = u .state-is ∙ ap (bytesTaken b) (s .state-is) ∙ sym (taken-append a b _);
+      ready = u .ready;
+      fed = λ input was x. rw (← append-assoc input a b) (u .fed (input ++ a) was (s .fed input was x));
+    }
 
 -- one byte more of those that are lent
 pub step-next : (bytes : List ℕ) (i : ℕ) {feed feed′ feed″ : Feed} {held held′ held″ : List ℕ} {kept kept′ kept″ flux flux′ flux″ : List Float} → i < length bytes
@@ -340,18 +383,20 @@ refused-found : {input : List ℕ} {rows number : ℕ} {was flux : List Float} �
 refused-found n z = absurd (n z)
 
 pub closes-first : {have : ℕ} → Closes (come.First have) (record { number = 5; rows = 0 })
-unfolding Within Parts
+unfolding Within Parts readingOf
 closes-first {have} =
     record {
+      answer-is = refl;
       tells = λ input held kept was flux x.
           let l : length input ≡ have = ap length (x .parts .input-is) ∙ length-take-le have held (omega (arith, x .ready .held-room, x .ready .within .0)) in
           record { number-is = sym (number-short input (omega (arith, x .ready .within .0))); found = refused-found (λ z. absurd (omega arith)) };
     }
 
 pub closes-text : {size have : ℕ} → Closes (come.Text size have) (record { number = 5; rows = 0 })
-unfolding Within Parts
+unfolding Within Parts readingOf
 closes-text {size} {have} =
     record {
+      answer-is = refl;
       tells = λ input held kept was flux x.
           let p = x .parts in
           let l : length (take have held) ≡ have = length-take-le have held (omega (arith, x .ready .held-room, x .ready .within .0, x .ready .within .1)) in
@@ -362,17 +407,22 @@ closes-text {size} {have} =
     }
 
 pub closes-refused : {number : ℕ} → Closes (come.Refused number) (record { number = number; rows = 0 })
-unfolding Parts
+unfolding Parts readingOf
 closes-refused {number} =
     record {
+      answer-is = refl;
       tells = λ input held kept was flux x.
           record { number-is = sym (ap reportNumber (sym (append-nil input)) ∙ x .parts .whatever []); found = refused-found (x .parts .some) };
     }
 
 pub closes-rows : {rows bins t have number : ℕ} {fine : Bool} → number ≡ lowest true (eqb t rows) true fine
     → Closes (come.Rows rows bins t have fine) (record { number = number; rows = rows })
-unfolding Within Parts dataNumber
-closes-rows {rows} {bins} {t} {have} {number} {fine} n = record { tells = λ input held kept was flux x. by input held kept was flux (x .ready .within) (x .parts) (x .ready) (eqb t rows) refl }
+unfolding Within Parts readingOf dataNumber
+closes-rows {rows} {bins} {t} {have} {number} {fine} n =
+    record {
+      answer-is = ap (λ (k : ℕ). record { number = k; rows = rows }) n;
+      tells = λ input held kept was flux x. by input held kept was flux (x .ready .within) (x .parts) (x .ready) (eqb t rows) refl;
+    }
   where
     by : (input held : List ℕ) (kept was flux : List Float) → RowsWithin rows bins t have fine kept → InRows input rows bins t have fine held kept was flux
         → Ready (come.Rows rows bins t have fine) held kept flux → (b : Bool) → eqb t rows ≡ b → Told input (record { number = number; rows = rows }) was flux

@@ -1,16 +1,16 @@
 -- Document 01, "The reporting program": an input that comes byte by byte, "keeping two rows at a time". `Fed` says what has come of an input.
 -- The promises are made for every input and every way it is cut: whatever has come, it has come with the next bytes behind it, and where it ends,
 -- its number is that of the whole input, and the flux is demand 2's curve of its rows.
-use Prim.Native.Nat.{ℕ, _+_, _*_, _≤_, _<_}
+use Prim.Native.Nat.{ℕ, _+_, _*_, _≤_, _<_, min}
 use mathlib.Core.Path.{_≡_}
-use mathlib.Core.Bool.{Bool, true}
+use mathlib.Core.Bool.{Bool, true, _&&_}
 use mathlib.Core.List.{List, [], _∷_, _++_}
 use lib.Dec.{ltb, eqb}
 use lib.Ieee.{Float}
-use lib.ListN.{length, take, set}
+use lib.ListN.{length, take, drop, set}
 use Rattle.numbers.specs.Limits.{mostBins, magnitudeFine}
 use Rattle.numbers.specs.Lists.{every, filled}
-use Rattle.numbers.specs.Refusals.{malformed}
+use Rattle.numbers.specs.Refusals.{lowest, malformed}
 use Rattle.numbers.specs.Rounded.{pick}
 use Rattle.flux.specs.Flux.{fluxAt}
 use Rattle.npy.specs.declared.Header.{Header}
@@ -43,6 +43,48 @@ behindFirst (preamble.Length size) = pick (eqb size 0) (come.Refused malformed) 
 unfoldable pub behindText : Header → Feed
 behindText header.Malformed = come.Refused malformed
 behindText (header.Shape rows bins) = pick (shapeFine rows bins) (come.Rows rows bins 0 0 true) (come.Refused 1)
+
+-- how far an input has come, and what is lent: what is held of the next part, the rows kept, and the flux
+pub data State : Type 0 where
+  state : Feed → (held : List ℕ) → (kept flux : List Float) → State
+
+-- Row t, whose bytes are held whole: the row before it is kept and the new row behind it, and while every value is fine slot t of the flux is that of
+-- these two rows: the first of their slots for the first row, else the second.
+unfoldable pub rowTaken : (rows bins t : ℕ) → (fine : Bool) → (held : List ℕ) → (kept flux : List Float) → State
+rowTaken rows bins t fine held kept flux =
+    let new = valuesOf (take (bins * 4) held) in
+    let pair = drop bins (take (2 * bins) kept) ++ new in
+    let still = fine && every magnitudeFine new in
+    state (come.Rows rows bins (t + 1) 0 still) held (pair ++ drop (2 * bins) kept) (pick still (set flux t (fluxAt pair bins (min t 1))) flux)
+
+-- One byte more: it is held, and with the last byte of a part that part says what comes next. A byte behind the last row is one too many. An input that
+-- is refused stays so.
+unfoldable pub byteTaken : ℕ → State → State
+unfolding behindFirst behindText rowTaken
+byteTaken byte (state (come.First have) held kept flux) =
+    let held′ = set held have byte in
+    state (pick (ltb (have + 1) preambleLength) (come.First (have + 1)) (behindFirst (preambleOf (take preambleLength held′)))) held′ kept flux
+byteTaken byte (state (come.Text size have) held kept flux) =
+    let held′ = set held have byte in
+    state (pick (ltb (have + 1) size) (come.Text size (have + 1)) (behindText (headerOf (take size held′)))) held′ kept flux
+byteTaken byte (state (come.Rows rows bins t have fine) held kept flux) =
+    let held′ = set held have byte in
+    pick (eqb t rows) (state (come.Refused 2) held kept flux)
+    (pick (ltb (have + 1) (bins * 4)) (state (come.Rows rows bins t (have + 1) fine) held′ kept flux) (rowTaken rows bins t fine held′ kept flux))
+byteTaken byte (state (come.Refused number) held kept flux) = state (come.Refused number) held kept flux
+
+-- bytes one after the other
+unfoldable pub bytesTaken : List ℕ → State → State
+unfolding byteTaken
+bytesTaken [] s = s
+bytesTaken (byte ∷ bytes) s = bytesTaken bytes (byteTaken byte s)
+
+-- where the input ends: its number, and how many rows it has where that is 0
+unfoldable pub readingOf : Feed → Reading
+readingOf (come.First have) = record { number = malformed; rows = 0 }
+readingOf (come.Text size have) = record { number = malformed; rows = 0 }
+readingOf (come.Rows rows bins t have fine) = record { number = lowest true (eqb t rows) true fine; rows = rows }
+readingOf (come.Refused number) = record { number = number; rows = 0 }
 
 -- One of the ten bytes more: it is held, and with the tenth they say what comes next. A length of two bytes is at most 65,535.
 pub record FirstTaken (byte have : ℕ) (held : List ℕ) (feed′ : Feed) (held′ : List ℕ) : Type 0 where
@@ -122,15 +164,17 @@ pub record Fed (input : List ℕ) (feed : Feed) (held : List ℕ) (kept was flux
   pub ready : Ready feed held kept flux
   pub parts : Parts input feed held kept was flux
 
--- ---- what is promised, for every input
+-- ---- what is promised: the answer and every slot, and for every input, what they are of it
 
 -- nothing has come, where there is room and the rows kept are fine
 pub record Begins (feed : Feed) : Type 0 where
+  pub feed-is : feed ≡ come.First 0
   pub fed : (held : List ℕ) (kept was : List Float) → heldRoom ≤ length held → 2 * mostBins ≤ length kept → mostReported ≤ length was
       → every magnitudeFine kept ≡ true → Fed [] feed held kept was was
 
--- These bytes are taken: whatever input had come so far, it has come with them behind it.
+-- These bytes are taken, one after the other. Whatever input had come so far, it has come with them behind it.
 pub record Step (bytes : List ℕ) (feed : Feed) (held : List ℕ) (kept flux : List Float) (feed′ : Feed) (held′ : List ℕ) (kept′ flux′ : List Float) : Type 0 where
+  pub state-is : state feed′ held′ kept′ flux′ ≡ bytesTaken bytes (state feed held kept flux)
   pub ready : Ready feed′ held′ kept′ flux′
   pub fed : (input : List ℕ) (was : List Float) → Fed input feed held kept was flux → Fed (input ++ bytes) feed′ held′ kept′ was flux′
 
@@ -156,8 +200,9 @@ pub record Told (input : List ℕ) (answer : Reading) (was flux : List Float) : 
   pub number-is : answer .number ≡ reportNumber input
   pub found : answer .number ≡ 0 → Found input (answer .rows) was flux
 
--- whatever input came, the answer is right of it
+-- the answer, and whatever input came, it is right of it
 pub record Closes (feed : Feed) (answer : Reading) : Type 0 where
+  pub answer-is : answer ≡ readingOf feed
   pub tells : (input held : List ℕ) (kept was flux : List Float) → Fed input feed held kept was flux → Told input answer was flux
 
 -- ---- an input that comes in parts

@@ -1,10 +1,12 @@
 -- `report_feed::take_data` meets its contract: a byte behind the last row, a byte within a row, or the last of a row, which is then taken.
 -- Assumes nothing.
-use mathlib.Core.Path.{_∙_}
+use mathlib.Core.Path.{ap, _∙_}
+use mathlib.Core.List.{_++_}
+use native.Mathlib.Nat.{sub-zero}
 use native.Mathlib.Omega.{arith}
-use Prim.Native.Nat.{_*_, _-_, _<_}
-use lib.ListN.{length-set}
-use lib.Seq.{take-at}
+use Prim.Native.Nat.{ℕ, _*_, _-_, _<_}
+use denote.Ref.{now}
+use lib.ListN.{drop, length-set}
 use Rattle.report_feed.proofs.Feeds.{part-is, part-length, rows-within, have-fits, row-fits, width-fits, pair-fits, step-behind, step-part, step-row}
 use borrow.Author.Needs.{needs}
 use Rattle.report_feed.proofs.take_data.Statement.{statement}
@@ -83,7 +85,8 @@ returns-3 c =
     let bins = start .args .bins in
     let taken = c .before .before .before .before .take-row in
     step-row (start .pre) fewer (omega (arith, rows-within (start .pre) .have-is, c .before .before .before .before .before .before .before .before .before .if2 .left)) (part-is (bins * 4) _) (part-is (2 * bins) _) (taken .ensures)
-    (take-at (taken .last .1 .1 .1 .1 .0) _ (2 * bins) (taken .kept .1 .1 .1 .1 .0 ∙ part-length (2 * bins) _ (pair-fits (start .pre)))) (same-length-3 c) (same-length-4 c)
+    (ap (λ (k : ℕ). taken .last .1 .1 .1 .1 .0 ++ drop k (now (start .args .kept))) (sub-zero (2 * bins)))
+    (taken .kept .1 .1 .1 .1 .0 ∙ part-length (2 * bins) _ (pair-fits (start .pre))) (same-length-3 c) (same-length-4 c)
 
 pub take-data-spec : {M : Type 1} → statement M
 take-data-spec =
