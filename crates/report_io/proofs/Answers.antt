@@ -1,7 +1,7 @@
 -- What is read, as what is written. Assumes nothing.
 use mathlib.Core.Path.{_≡_, refl, sym, ap, _∙_}
 use mathlib.Core.Bool.{true}
-use mathlib.Core.List.{List, _++_}
+use mathlib.Core.List.{List}
 use Prim.Native.Nat.{ℕ, zero, suc, _-_, _≤_}
 use native.Mathlib.Nat.{sub-zero}
 use native.Mathlib.Omega.{arith}
@@ -12,9 +12,9 @@ use Rattle.numbers.specs.Lists.{every}
 use Rattle.numbers.specs.Refusals.{unlessRefused}
 use Rattle.numbers.proofs.Tests.{refused-keeps, passed-does}
 use Rattle.report.specs.Input.{mostReported, reportFlux}
-use Rattle.report_read.specs.declared.Reading.{Reading}
+use Rattle.report_feed.specs.declared.Reading.{Reading}
+use Rattle.report_feed.proofs.Inputs.{accepted}
 use Rattle.report_read.specs.Reads.{InputRead}
-use Rattle.report_read.proofs.Inputs.{accepted}
 use Rattle.report_text.specs.Text.{refusalText, Put}
 use Rattle.report_text.proofs.Puts.{put-as}
 use Rattle.report_answer.specs.Reports.{reportOf, textRoom, answerOf}
@@ -42,18 +42,15 @@ put-reported reading flux z p =
 
 module _ {was flux : List Float} {reading : Reading} (r : InputRead was reading flux) where
   pub putable : mostReported ≤ length flux → reading .number ≡ 0 → Putable reading flux
-  putable h z = let a = accepted r z in record { rows-there = omega (arith, a .rows-fit); rows-fit = a .rows-fit; fine = a .fine-is }
+  putable h z = let a = accepted (r .told) z in record { rows-there = omega (arith, a .rows-fit); rows-fit = a .rows-fit; fine = a .fine-is }
 
-  read-text : textOf reading flux ≡ answerOf (r .first ++ (r .text ++ r .body))
+  read-text : textOf reading flux ≡ answerOf (r .input)
   unfolding textOf answerOf
-  read-text = by (reading .number) refl ∙ ap (λ (n : ℕ). unlessRefused n (reportOf (reportFlux input)) (refusalText n)) (r .number-is)
+  read-text = by (reading .number) refl ∙ ap (λ (n : ℕ). unlessRefused n (reportOf (reportFlux (r .input))) (refusalText n)) (r .told .number-is)
     where
-      input : List ℕ
-      input = r .first ++ (r .text ++ r .body)
-
-      by : (n : ℕ) → reading .number ≡ n → unlessRefused n (reportOf (take (reading .rows) flux)) (refusalText n) ≡ unlessRefused n (reportOf (reportFlux input)) (refusalText n)
-      by zero e = ap reportOf (accepted r e .flux-is)
+      by : (n : ℕ) → reading .number ≡ n → unlessRefused n (reportOf (take (reading .rows) flux)) (refusalText n) ≡ unlessRefused n (reportOf (reportFlux (r .input))) (refusalText n)
+      by zero e = ap reportOf (accepted (r .told) e .flux-is)
       by (suc k) e = refl
 
   pub answered : {bytes bytes′ : List ℕ} {end : ℕ} → Put bytes 0 (textOf reading flux) textRoom end bytes′ → Answered bytes end bytes′
-  answered p = record { input = r .first ++ (r .text ++ r .body); text-is = put-as read-text (omega arith) p }
+  answered p = record { input = r .input; text-is = put-as read-text (omega arith) p }

@@ -10,7 +10,7 @@ use Rattle.numbers.specs.Limits.{valueFine}
 use Rattle.numbers.specs.Lists.{every}
 use Rattle.numbers.specs.Refusals.{unlessRefused}
 use Rattle.report.specs.Input.{mostReported}
-use Rattle.report_read.specs.declared.Reading.{Reading}
+use Rattle.report_feed.specs.declared.Reading.{Reading}
 use Rattle.report_text.specs.Text.{refusalText, Put}
 use Rattle.report_answer.specs.Reports.{reportOf, textRoom, answerOf}
 

@@ -5,7 +5,7 @@
 use libc::STDOUT_FILENO;
 use report::MOST_REPORTED;
 use report_answer::curve_room;
-use report_read::Reading;
+use report_feed::Reading;
 ghost use mathlib.Core.Path.{_≡_};
 ghost use Prim.Native.Nat.{_≤_};
 ghost use lib.ListN.{length};

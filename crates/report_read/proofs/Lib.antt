@@ -1,2 +1,2 @@
--- The laws that other crates cite, and those that the proofs of this one share.
-pub mod Inputs
+-- The laws that the proofs of this crate share.
+pub mod Comings

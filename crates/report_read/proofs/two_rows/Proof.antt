@@ -1,6 +1,6 @@
 -- `report_read::two_rows` meets its contract: zeros are fine. Assumes nothing.
 use mathlib.Core.Path.{refl}
-use Rattle.report_read.proofs.Inputs.{zeros-fine}
+use Rattle.report_read.proofs.Comings.{zeros-fine}
 use Rattle.report_read.proofs.two_rows.Statement.{statement}
 use Rattle.report_read.proofs.two_rows.Tie as tie
 
