@@ -1,4 +1,4 @@
--- For the code alone: how the sums of eight rows grow side by side, one to a lane of an array. No promise of a call is written in these words.
+-- For the code alone: how the sums of sixteen rows grow side by side, one to a lane of an array. No promise of a call is written in these words.
 use Prim.Native.Nat.{ℕ, _+_, _-_, _*_}
 use mathlib.Core.List.{List}
 use lib.ListN.{getD}
@@ -7,7 +7,7 @@ use Rattle.numbers.specs.Rounded.{_⊕_, _⊗_}
 use Rattle.row_pairs.specs.Pairs.{bandWidth}
 use Rattle.novelties.specs.Novelty.{addRow}
 
--- eight rows of the novelty curve, each with its sum so far: one term more in lane j, whose similarity stands seventeen slots after the lane before
+-- sixteen rows of the novelty curve, each with its sum so far: one term more in lane j, whose similarity stands seventeen slots after the lane before
 unfoldable pub laneTerm : (sums : List Float) (weight : Float) (similarity : List Float) (k j : ℕ) → Float
 laneTerm sums weight similarity k j = getD sums j nan ⊕ weight ⊗ getD similarity (k + bandWidth * j) nan
 

@@ -13,7 +13,7 @@ use numbers::less;
 use numbers::similarities_fine;
 use similarities::BAND_WIDTH;
 ghost use mathlib.Core.Path.{_≡_};
-ghost use Prim.Native.Nat.{ℕ, _+_, _-_, _*_, _^_, _≤_, _<_, min};
+ghost use Prim.Native.Nat.{ℕ, _+_, _-_, _*_, _^_, _≤_, _<_};
 ghost use lib.ListN.{length, getD};
 ghost use lib.Ieee.{nan};
 ghost use Rattle.numbers.specs.Lists.{filled};
@@ -132,7 +132,7 @@ fn novelty_slot(table: &[[f64; 16]; 16], similarity: &[f64], rows: usize, i: usi
     total
 }
 
-// slot by slot: near the ends, and where fewer than eight are left
+// slot by slot: near the ends, and where fewer than sixteen lie inside
 fn fill_plain(
     table: &[[f64; 16]; 16],
     similarity: &[f64],
@@ -151,14 +151,14 @@ fn fill_plain(
     }
 }
 
-// Eight rows side by side, one to a lane: each lane's sum grows by the weight times its own row's similarity, which stands seventeen slots after
+// Sixteen rows side by side, one to a lane: each lane's sum grows by the weight times its own row's similarity, which stands seventeen slots after
 // that of the lane before.
-fn add_lanes(lanes: &mut [f64; 8], weight: f64, similarity: &[f64], k: usize)
-    requires { ⌜ (length (now lanes) ≡ 8) × (k + 119 < length (now similarity)) ⌝ }
-    ensures { λ _. ⌜ now (lanes .exit) ≡ filled (laneTerm (now (lanes .entry)) weight (now (similarity .entry)) k) (now (lanes .entry)) 0 8 ⌝ }
+fn add_lanes(lanes: &mut [f64; 16], weight: f64, similarity: &[f64], k: usize)
+    requires { ⌜ (length (now lanes) ≡ 16) × (k + 255 < length (now similarity)) ⌝ }
+    ensures { λ _. ⌜ now (lanes .exit) ≡ filled (laneTerm (now (lanes .entry)) weight (now (similarity .entry)) k) (now (lanes .entry)) 0 16 ⌝ }
 {
     let mut j = 0;
-    while j < 8 {
+    while j < 16 {
         lanes[j] = lanes[j] + weight * similarity[k + 17 * j];
         j += 1;
     }
@@ -171,10 +171,10 @@ fn add_row_lanes(
     rows: usize,
     i: usize,
     u: usize,
-    lanes: &mut [f64; 8],
+    lanes: &mut [f64; 16],
 )
-    requires { ⌜ (now table ≡ kernelTable) × (length (now similarity) ≡ rows * 17) × (8 ≤ i) × (i + 15 ≤ rows) × (u < 16) × (length (now lanes) ≡ 8) ⌝ }
-    ensures { λ _. ⌜ now (lanes .exit) ≡ filled (laneRow (now (lanes .entry)) (now (similarity .entry)) rows i u) (now (lanes .entry)) 0 8 ⌝ }
+    requires { ⌜ (now table ≡ kernelTable) × (length (now similarity) ≡ rows * 17) × (8 ≤ i) × (i + 23 ≤ rows) × (u < 16) × (length (now lanes) ≡ 16) ⌝ }
+    ensures { λ _. ⌜ now (lanes .exit) ≡ filled (laneRow (now (lanes .entry)) (now (similarity .entry)) rows i u) (now (lanes .entry)) 0 16 ⌝ }
 {
     let first = (i - 8) * 17;
     let mut v = 0;
@@ -184,12 +184,12 @@ fn add_row_lanes(
     }
 }
 
-// the novelty of rows i to i + 7, whose kernels lie inside
-fn eight_slots(table: &[[f64; 16]; 16], similarity: &[f64], rows: usize, i: usize) -> [f64; 8]
-    requires { ⌜ (now table ≡ kernelTable) × (length (now similarity) ≡ rows * 17) × (8 ≤ i) × (i + 15 ≤ rows) ⌝ }
-    ensures { λ r. ⌜ ((j : ℕ) → j < 8 → getD r j nan ≡ noveltyAt (now (similarity .entry)) rows (i + j)) ⌝ }
+// the novelty of rows i to i + 15, whose kernels lie inside
+fn sixteen_slots(table: &[[f64; 16]; 16], similarity: &[f64], rows: usize, i: usize) -> [f64; 16]
+    requires { ⌜ (now table ≡ kernelTable) × (length (now similarity) ≡ rows * 17) × (8 ≤ i) × (i + 23 ≤ rows) ⌝ }
+    ensures { λ r. ⌜ ((j : ℕ) → j < 16 → getD r j nan ≡ noveltyAt (now (similarity .entry)) rows (i + j)) ⌝ }
 {
-    let mut lanes = [0.0; 8];
+    let mut lanes = [0.0; 16];
     let mut u = 0;
     while u < 16 {
         add_row_lanes(table, similarity, rows, i, u, &mut lanes);
@@ -198,20 +198,21 @@ fn eight_slots(table: &[[f64; 16]; 16], similarity: &[f64], rows: usize, i: usiz
     lanes
 }
 
-// the lanes to slots i to i + 7
-fn put_eight(values: &[f64; 8], i: usize, novelty: &mut [f64])
-    requires { ⌜ i + 8 ≤ length (now novelty) ⌝ }
-    ensures { λ _. ⌜ now (novelty .exit) ≡ filled (laneFrom (now (values .entry)) i) (now (novelty .entry)) i (i + 8) ⌝ }
+// the lanes to slots i to i + 15
+fn put_sixteen(values: &[f64; 16], i: usize, novelty: &mut [f64])
+    requires { ⌜ i + 16 ≤ length (now novelty) ⌝ }
+    ensures { λ _. ⌜ now (novelty .exit) ≡ filled (laneFrom (now (values .entry)) i) (now (novelty .entry)) i (i + 16) ⌝ }
 {
     let mut j = 0;
-    while j < 8 {
+    while j < 16 {
         novelty[i + j] = values[j];
         j += 1;
     }
 }
 
-// Rows whose kernel lies inside go eight at a time: each sum keeps its own order, and the compiler runs the eight side by side.
-fn fill_eights(
+// Rows whose kernel lies inside go sixteen at a time: each sum keeps its own order, and the compiler runs the sixteen side by side. The last sixteen
+// may overlap those before them.
+fn fill_sixteens(
     table: &[[f64; 16]; 16],
     similarity: &[f64],
     rows: usize,
@@ -219,17 +220,16 @@ fn fill_eights(
     past: usize,
     novelty: &mut [f64],
 )
-    requires { ⌜ (now table ≡ kernelTable) × (length (now similarity) ≡ rows * 17) × (min 8 past ≤ from) × (from ≤ past) × (past ≤ rows) × (past ≤ length (now novelty)) ⌝ }
+    requires { ⌜ (now table ≡ kernelTable) × (length (now similarity) ≡ rows * 17) × (8 ≤ from) × (from + 16 ≤ past) × (past + 7 ≤ rows) × (past ≤ length (now novelty)) ⌝ }
     ensures { λ _. ⌜ now (novelty .exit) ≡ filled (noveltyAt (now (similarity .entry)) rows) (now (novelty .entry)) from past ⌝ }
 {
-    let stop = least(past, less(rows, 7));
     let mut i = from;
-    while i + 8 <= stop {
-        let values = eight_slots(table, similarity, rows, i);
-        put_eight(&values, i, novelty);
-        i += 8;
+    while i < past {
+        let start = least(i, past - 16);
+        let values = sixteen_slots(table, similarity, rows, start);
+        put_sixteen(&values, start, novelty);
+        i += 16;
     }
-    fill_plain(table, similarity, rows, i, past, novelty);
 }
 
 // Inner: writes slots from `from` up to `past` of the novelty curve of a similarity of `rows` rows.
@@ -238,7 +238,13 @@ pub fn fill_novelty(similarity: &[f64], rows: usize, from: usize, past: usize, n
     ensures { λ _. ⌜ now (novelty .exit) ≡ filled (noveltyAt (now (similarity .entry)) rows) (now (novelty .entry)) from past ⌝ }
 {
     let table = kernel();
-    let start = least(greatest(from, 8), past);
+    let start = greatest(from, 8);
+    let stop = least(past, less(rows, 7));
+    if stop < start + 16 {
+        fill_plain(&table, similarity, rows, from, past, novelty);
+        return;
+    }
     fill_plain(&table, similarity, rows, from, start, novelty);
-    fill_eights(&table, similarity, rows, start, past, novelty);
+    fill_sixteens(&table, similarity, rows, start, stop, novelty);
+    fill_plain(&table, similarity, rows, stop, past, novelty);
 }

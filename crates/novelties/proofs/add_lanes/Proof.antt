@@ -1,5 +1,5 @@
 -- `novelties::add_lanes` meets its contract. The invariant: the lanes before j have grown, the others are as they were, so that lane j is read as it
--- came. The measure is what is left of the eight. Assumes nothing.
+-- came. The measure is what is left of the sixteen. Assumes nothing.
 use mathlib.Core.Path.{_≡_, refl, sym, ap, _∙_}
 use Prim.Native.Nat.{_+_, _-_, _*_, _≤_}
 use native.Mathlib.Omega.{arith}
@@ -16,10 +16,10 @@ use Rattle.novelties.proofs.add_lanes.Tie as tie
 
 abbrev Inv-loop : tie.InvT-loop
 Inv-loop lanes₀ weight similarity k j₀ lanes j =
-    (j ≤ 8) × (length lanes ≡ 8) × (lanes ≡ filled (laneTerm lanes₀ weight similarity k) lanes₀ 0 j)
+    (j ≤ 16) × (length lanes ≡ 16) × (lanes ≡ filled (laneTerm lanes₀ weight similarity k) lanes₀ 0 j)
 
 abbrev μ-loop : tie.MeasureT-loop
-μ-loop lanes₀ weight similarity k j₀ lanes j = 8 - j
+μ-loop lanes₀ weight similarity k j₀ lanes j = 16 - j
 
 loop-holds : tie.Need-loop-holds Inv-loop μ-loop
 loop-holds c = (omega arith, c .pre .0, sym (filled-none _ _ _))
@@ -70,7 +70,7 @@ returns : tie.Need-returns Inv-loop μ-loop
 returns c =
     let l = c .before in
     let a = l .before .args in
-    let e : l .loop .j ≡ 8 = omega arith in
+    let e : l .loop .j ≡ 16 = omega arith in
     l .loop .inv .2 ∙ ap (filled (laneTerm (now (a .lanes)) (a .weight) (now (a .similarity)) (a .k)) (now (a .lanes)) 0) e
 
 pub add-lanes-spec : {M : Type 1} → statement M

@@ -23,8 +23,8 @@ use Rattle.novelties.proofs.add_row_lanes.Tie as tie
 abbrev Inv-loop : tie.InvT-loop
 Inv-loop table similarity rows i u lanes₀ first v₀ lanes v =
     (v ≤ 16)
-    × (length lanes ≡ 8)
-    × ((j : ℕ) → j < 8 → turns (addTerm similarity rows (i + j) u) v (16 - v) (getD lanes j nan) ≡ addRow similarity rows (i + j) u (getD lanes₀ j nan))
+    × (length lanes ≡ 16)
+    × ((j : ℕ) → j < 16 → turns (addTerm similarity rows (i + j) u) v (16 - v) (getD lanes j nan) ≡ addRow similarity rows (i + j) u (getD lanes₀ j nan))
 
 abbrev μ-loop : tie.MeasureT-loop
 μ-loop table similarity rows i u lanes₀ first v₀ lanes v = 16 - v
@@ -87,14 +87,14 @@ loop-again c =
     let k : ℕ = (a .i - 8) * 17 + c .before .slot-of .result in
     let w-is : w ≡ kernelAt u v = rw (s .pre .0) (kernel-entry u v (s .pre .4) (omega arith)) in
     let k-is : k ≡ (a .i - 8) * 17 + slotOf u v = ap (λ (n : ℕ). (a .i - 8) * 17 + n) (c .before .slot-of .ensures) in
-    let m : length lanes ≡ 8 = l .loop .inv .1 in
-    let e : c .add-lanes .last .0 ≡ filled (laneTerm lanes w similarity k) lanes 0 8 = c .add-lanes .ensures in (
+    let m : length lanes ≡ 16 = l .loop .inv .1 in
+    let e : c .add-lanes .last .0 ≡ filled (laneTerm lanes w similarity k) lanes 0 16 = c .add-lanes .ensures in (
       omega arith,
-      ap length e ∙ length-filled (laneTerm lanes w similarity k) lanes 0 8 (omega arith) (omega arith) ∙ m,
+      ap length e ∙ length-filled (laneTerm lanes w similarity k) lanes 0 16 (omega arith) (omega arith) ∙ m,
       λ j h.
           let step : getD (c .add-lanes .last .0) j nan ≡ addTerm similarity (a .rows) (a .i + j) u v (getD lanes j nan) =
           ap (λ (d : List Float). getD d j nan) e
-          ∙ getD-filled-in (laneTerm lanes w similarity k) lanes 0 8 (omega arith) (omega arith) j nan (omega arith) h
+          ∙ getD-filled-in (laneTerm lanes w similarity k) lanes 0 16 (omega arith) (omega arith) j nan (omega arith) h
           ∙ rw (w-is, k-is) (sym (lane-term (a .rows) (a .i) j u v (s .pre .2) (s .pre .3) h (s .pre .4) (omega arith) similarity (getD lanes j nan))) in
           rw step (sym (turns-next (addTerm similarity (a .rows) (a .i + j) u) v 16 (getD lanes j nan) (omega arith)) ∙ l .loop .inv .2 j h),
     )
@@ -105,7 +105,7 @@ returns c =
     let l = c .before in
     let s = l .before .before in
     let a = s .args in
-    by-slots (laneRow (now (a .lanes)) (now (a .similarity)) (a .rows) (a .i) (a .u)) (l .loop .lanes) (now (a .lanes)) 8 nan (l .loop .inv .1) (s .pre .5)
+    by-slots (laneRow (now (a .lanes)) (now (a .similarity)) (a .rows) (a .i) (a .u)) (l .loop .lanes) (now (a .lanes)) 16 nan (l .loop .inv .1) (s .pre .5)
     (λ j h. sym (turns-end (addTerm (now (a .similarity)) (a .rows) (a .i + j) (a .u)) (l .loop .v) 16 (getD (l .loop .lanes) j nan) (omega arith)) ∙ l .loop .inv .2 j h)
 
 pub add-row-lanes-spec : {M : Type 1} → statement M

@@ -1,4 +1,4 @@
--- `novelties::eight_slots` meets its contract. The invariant: in each lane the rows of the kernel that are left, taken from the lane's sum, give the
+-- `novelties::sixteen_slots` meets its contract. The invariant: in each lane the rows of the kernel that are left, taken from the lane's sum, give the
 -- novelty of the lane's row. The measure is what is left of the sixteen places. Assumes nothing.
 use mathlib.Core.Path.{_≡_, refl, sym, ap, _∙_}
 use mathlib.Core.List.{List}
@@ -13,14 +13,14 @@ use Rattle.numbers.proofs.Tabs.{length-filled, getD-filled-in}
 use Rattle.novelties.specs.Novelty.{addRow, noveltyAt, turns}
 use Rattle.novelties.specs.Lanes.{laneRow}
 use Rattle.novelties.proofs.Terms.{turns-next, turns-end}
-use Rattle.novelties.proofs.eight_slots.Statement.{statement}
-use Rattle.novelties.proofs.eight_slots.Tie as tie
+use Rattle.novelties.proofs.sixteen_slots.Statement.{statement}
+use Rattle.novelties.proofs.sixteen_slots.Tie as tie
 
 abbrev Inv-loop : tie.InvT-loop
 Inv-loop table similarity rows i lanes₀ u₀ lanes u =
     (u ≤ 16)
-    × (length lanes ≡ 8)
-    × ((j : ℕ) → j < 8 → turns (addRow similarity rows (i + j)) u (16 - u) (getD lanes j nan) ≡ noveltyAt similarity rows (i + j))
+    × (length lanes ≡ 16)
+    × ((j : ℕ) → j < 16 → turns (addRow similarity rows (i + j)) u (16 - u) (getD lanes j nan) ≡ noveltyAt similarity rows (i + j))
 
 abbrev μ-loop : tie.MeasureT-loop
 μ-loop table similarity rows i lanes₀ u₀ lanes u = 16 - u
@@ -29,7 +29,7 @@ loop-holds : tie.Need-loop-holds Inv-loop μ-loop
 unfolding noveltyAt
 loop-holds c =
     let a = c .before .args in
-    (omega arith, refl, λ j h. ap (turns (addRow (now (a .similarity)) (a .rows) (a .i + j)) 0 16) (getD-replicate 8 j nought nan h))
+    (omega arith, refl, λ j h. ap (turns (addRow (now (a .similarity)) (a .rows) (a .i + j)) 0 16) (getD-replicate 16 j nought nan h))
 
 add-row-lanes-requires : tie.Need-add-row-lanes-requires Inv-loop μ-loop
 add-row-lanes-requires c κs =
@@ -53,13 +53,13 @@ loop-again c =
     let u = l .loop .u in
     let f : ℕ → Float = laneRow lanes similarity (a .rows) (a .i) u in
     let next : List Float = c .add-row-lanes .last .1 .1 .1 .1 .1 .0 in
-    let m : length lanes ≡ 8 = l .loop .inv .1 in
-    let e : next ≡ filled f lanes 0 8 = c .add-row-lanes .ensures in (
+    let m : length lanes ≡ 16 = l .loop .inv .1 in
+    let e : next ≡ filled f lanes 0 16 = c .add-row-lanes .ensures in (
       omega arith,
-      ap length e ∙ length-filled f lanes 0 8 (omega arith) (omega arith) ∙ m,
+      ap length e ∙ length-filled f lanes 0 16 (omega arith) (omega arith) ∙ m,
       λ j h.
           let step : getD next j nan ≡ addRow similarity (a .rows) (a .i + j) u (getD lanes j nan) =
-          ap (λ (d : List Float). getD d j nan) e ∙ getD-filled-in f lanes 0 8 (omega arith) (omega arith) j nan (omega arith) h in
+          ap (λ (d : List Float). getD d j nan) e ∙ getD-filled-in f lanes 0 16 (omega arith) (omega arith) j nan (omega arith) h in
           rw step (sym (turns-next (addRow similarity (a .rows) (a .i + j)) u 16 (getD lanes j nan) (omega arith)) ∙ l .loop .inv .2 j h),
     )
 
@@ -69,7 +69,7 @@ returns c =
     let a = l .before .before .args in
     λ j h. sym (turns-end (addRow (now (a .similarity)) (a .rows) (a .i + j)) (l .loop .u) 16 (getD (l .loop .lanes) j nan) (omega arith)) ∙ l .loop .inv .2 j h
 
-pub eight-slots-spec : {M : Type 1} → statement M
-eight-slots-spec =
+pub sixteen-slots-spec : {M : Type 1} → statement M
+sixteen-slots-spec =
     tie.close
     (tie.spec Inv-loop μ-loop loop-holds add-row-lanes-requires add-u loop-less loop-again returns)
