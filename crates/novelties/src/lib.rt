@@ -19,7 +19,7 @@ ghost use lib.Ieee.{nan};
 ghost use Rattle.numbers.specs.Lists.{filled};
 ghost use Rattle.kernels.specs.Kernel.{kernelTable};
 ghost use Rattle.novelties.specs.Novelty.{slotOf, inside, addTerm, addRow, noveltyAt, noveltyNumber, NoveltyDone};
-ghost use Rattle.novelties.specs.Lanes.{laneTerm, laneRow, laneFrom};
+ghost use Rattle.novelties.specs.Lanes.{nearSlot, apart, Gathered, laneTerm, laneRow, laneWhole, laneFrom};
 
 // the number that novelty gives
 fn novelty_number(similarity: &[f64], rows: usize, room: usize) -> u32
@@ -132,7 +132,7 @@ fn novelty_slot(table: &[[f64; 16]; 16], similarity: &[f64], rows: usize, i: usi
     total
 }
 
-// slot by slot: near the ends, and where fewer than sixteen lie inside
+// slot by slot: near the ends, and where fewer than a block lie inside
 fn fill_plain(
     table: &[[f64; 16]; 16],
     similarity: &[f64],
@@ -151,68 +151,97 @@ fn fill_plain(
     }
 }
 
-// Sixteen rows side by side, one to a lane: each lane's sum grows by the weight times its own row's similarity, which stands seventeen slots after
-// that of the lane before.
-fn add_lanes(lanes: &mut [f64; 16], weight: f64, similarity: &[f64], k: usize)
-    requires { ⌜ (length (now lanes) ≡ 16) × (k + 255 < length (now similarity)) ⌝ }
-    ensures { λ _. ⌜ now (lanes .exit) ≡ filled (laneTerm (now (lanes .entry)) weight (now (similarity .entry)) k) (now (lanes .entry)) 0 16 ⌝ }
+// The rows go in blocks of twenty-four. The kernels around a block's rows take in thirty-nine rows; the similarities of those that are d rows apart are
+// laid side by side from slot 40 * d on.
+fn gather_apart(similarity: &[f64], first: usize, d: usize, near: &mut [f64; 640])
+    requires { ⌜ (d < 16) × (first + d + 646 < length (now similarity)) × (length (now near) ≡ 640) ⌝ }
+    ensures { λ _. ⌜ now (near .exit) ≡ filled (apart (now (similarity .entry)) first d) (now (near .entry)) (d * 40) (d * 40 + 39) ⌝ }
+{
+    let mut r = 0;
+    while r < 39 {
+        near[d * 40 + r] = similarity[first + d + 17 * r];
+        r += 1;
+    }
+}
+
+// the similarities of the thirty-nine rows whose first stands at slot `first`
+fn gather(similarity: &[f64], first: usize, near: &mut [f64; 640])
+    requires { ⌜ (first + 661 < length (now similarity)) × (length (now near) ≡ 640) ⌝ }
+    ensures { λ _. ⌜ Gathered (now (similarity .entry)) first 16 (now (near .exit)) ⌝ }
+{
+    let mut d = 0;
+    while d < 16 {
+        gather_apart(similarity, first, d, near);
+        d += 1;
+    }
+}
+
+// the slot of places u and v among those gathered
+fn near_slot(u: usize, v: usize) -> usize
+    requires { ⌜ (u < 16) × (v < 16) ⌝ }
+    ensures { λ r. ⌜ r ≡ nearSlot u v ⌝ }
+{
+    if u <= v {
+        (v - u) * 40 + u
+    } else {
+        (u - v) * 40 + v
+    }
+}
+
+// A block's rows side by side, one to a lane: each lane's sum grows by the weight times its own row's similarity, which stands one slot after that of
+// the lane before.
+fn add_lanes(lanes: &mut [f64; 24], weight: f64, near: &[f64; 640], k: usize)
+    requires { ⌜ (length (now lanes) ≡ 24) × (k + 24 ≤ 640) ⌝ }
+    ensures { λ _. ⌜ now (lanes .exit) ≡ filled (laneTerm (now (lanes .entry)) weight (now (near .entry)) k) (now (lanes .entry)) 0 24 ⌝ }
 {
     let mut j = 0;
-    while j < 16 {
-        lanes[j] = lanes[j] + weight * similarity[k + 17 * j];
+    while j < 24 {
+        lanes[j] = lanes[j] + weight * near[k + j];
         j += 1;
     }
 }
 
 // the terms of place u, v ascending, in each lane
-fn add_row_lanes(
-    table: &[[f64; 16]; 16],
-    similarity: &[f64],
-    rows: usize,
-    i: usize,
-    u: usize,
-    lanes: &mut [f64; 16],
-)
-    requires { ⌜ (now table ≡ kernelTable) × (length (now similarity) ≡ rows * 17) × (8 ≤ i) × (i + 23 ≤ rows) × (u < 16) × (length (now lanes) ≡ 16) ⌝ }
-    ensures { λ _. ⌜ now (lanes .exit) ≡ filled (laneRow (now (lanes .entry)) (now (similarity .entry)) rows i u) (now (lanes .entry)) 0 16 ⌝ }
+fn add_row_lanes(table: &[[f64; 16]; 16], near: &[f64; 640], u: usize, lanes: &mut [f64; 24])
+    requires { ⌜ (now table ≡ kernelTable) × (u < 16) × (length (now lanes) ≡ 24) ⌝ }
+    ensures { λ _. ⌜ now (lanes .exit) ≡ filled (laneRow (now (lanes .entry)) (now (near .entry)) u) (now (lanes .entry)) 0 24 ⌝ }
 {
-    let first = (i - 8) * 17;
     let mut v = 0;
     while v < 16 {
-        add_lanes(lanes, table[u][v], similarity, first + slot_of(u, v));
+        add_lanes(lanes, table[u][v], near, near_slot(u, v));
         v += 1;
     }
 }
 
-// the novelty of rows i to i + 15, whose kernels lie inside
-fn sixteen_slots(table: &[[f64; 16]; 16], similarity: &[f64], rows: usize, i: usize) -> [f64; 16]
-    requires { ⌜ (now table ≡ kernelTable) × (length (now similarity) ≡ rows * 17) × (8 ≤ i) × (i + 23 ≤ rows) ⌝ }
-    ensures { λ r. ⌜ ((j : ℕ) → j < 16 → getD r j nan ≡ noveltyAt (now (similarity .entry)) rows (i + j)) ⌝ }
+// the novelty of a block's rows
+fn block_slots(table: &[[f64; 16]; 16], near: &[f64; 640]) -> [f64; 24]
+    requires { ⌜ now table ≡ kernelTable ⌝ }
+    ensures { λ r. ⌜ ((j : ℕ) → j < 24 → getD r j nan ≡ laneWhole (now (near .entry)) j) ⌝ }
 {
-    let mut lanes = [0.0; 16];
+    let mut lanes = [0.0; 24];
     let mut u = 0;
     while u < 16 {
-        add_row_lanes(table, similarity, rows, i, u, &mut lanes);
+        add_row_lanes(table, near, u, &mut lanes);
         u += 1;
     }
     lanes
 }
 
-// the lanes to slots i to i + 15
-fn put_sixteen(values: &[f64; 16], i: usize, novelty: &mut [f64])
-    requires { ⌜ i + 16 ≤ length (now novelty) ⌝ }
-    ensures { λ _. ⌜ now (novelty .exit) ≡ filled (laneFrom (now (values .entry)) i) (now (novelty .entry)) i (i + 16) ⌝ }
+// the lanes to slots i to i + 23
+fn put_block(values: &[f64; 24], i: usize, novelty: &mut [f64])
+    requires { ⌜ i + 24 ≤ length (now novelty) ⌝ }
+    ensures { λ _. ⌜ now (novelty .exit) ≡ filled (laneFrom (now (values .entry)) i) (now (novelty .entry)) i (i + 24) ⌝ }
 {
     let mut j = 0;
-    while j < 16 {
+    while j < 24 {
         novelty[i + j] = values[j];
         j += 1;
     }
 }
 
-// Rows whose kernel lies inside go sixteen at a time: each sum keeps its own order, and the compiler runs the sixteen side by side. The last sixteen
-// may overlap those before them.
-fn fill_sixteens(
+// Rows whose kernel lies inside go in blocks: each sum keeps its own order, and the compiler runs a block's sums side by side. The last block may
+// overlap the one before it.
+fn fill_blocks(
     table: &[[f64; 16]; 16],
     similarity: &[f64],
     rows: usize,
@@ -220,15 +249,17 @@ fn fill_sixteens(
     past: usize,
     novelty: &mut [f64],
 )
-    requires { ⌜ (now table ≡ kernelTable) × (length (now similarity) ≡ rows * 17) × (8 ≤ from) × (from + 16 ≤ past) × (past + 7 ≤ rows) × (past ≤ length (now novelty)) ⌝ }
+    requires { ⌜ (now table ≡ kernelTable) × (length (now similarity) ≡ rows * 17) × (8 ≤ from) × (from + 24 ≤ past) × (past + 7 ≤ rows) × (past ≤ length (now novelty)) ⌝ }
     ensures { λ _. ⌜ now (novelty .exit) ≡ filled (noveltyAt (now (similarity .entry)) rows) (now (novelty .entry)) from past ⌝ }
 {
+    let mut near = [0.0; 640];
     let mut i = from;
     while i < past {
-        let start = least(i, past - 16);
-        let values = sixteen_slots(table, similarity, rows, start);
-        put_sixteen(&values, start, novelty);
-        i += 16;
+        let start = least(i, past - 24);
+        gather(similarity, (start - 8) * 17, &mut near);
+        let values = block_slots(table, &near);
+        put_block(&values, start, novelty);
+        i += 24;
     }
 }
 
@@ -240,11 +271,11 @@ pub fn fill_novelty(similarity: &[f64], rows: usize, from: usize, past: usize, n
     let table = kernel();
     let start = greatest(from, 8);
     let stop = least(past, less(rows, 7));
-    if stop < start + 16 {
+    if stop < start + 24 {
         fill_plain(&table, similarity, rows, from, past, novelty);
         return;
     }
     fill_plain(&table, similarity, rows, from, start, novelty);
-    fill_sixteens(&table, similarity, rows, start, stop, novelty);
+    fill_blocks(&table, similarity, rows, start, stop, novelty);
     fill_plain(&table, similarity, rows, stop, past, novelty);
 }

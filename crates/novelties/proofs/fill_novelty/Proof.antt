@@ -1,4 +1,4 @@
--- `novelties::fill_novelty` meets its contract: the slots near the start one by one, those inside by sixteens, and the slots near the end one by one
+-- `novelties::fill_novelty` meets its contract: the slots near the start one by one, those inside in blocks, and the slots near the end one by one
 -- are three runs of one range. Assumes nothing.
 use mathlib.Core.Path.{ap, _∙_}
 use mathlib.Core.List.{List}
@@ -40,8 +40,8 @@ returns c = search needs
 fill-plain-requires-2 : tie.Need-fill-plain-requires-2
 fill-plain-requires-2 c κs = search needs
 
-fill-sixteens-requires : tie.Need-fill-sixteens-requires
-fill-sixteens-requires c κs = search needs
+fill-blocks-requires : tie.Need-fill-blocks-requires
+fill-blocks-requires c κs = search needs
 
 fill-plain-requires-3 : tie.Need-fill-plain-requires-3
 fill-plain-requires-3 c κs =
@@ -67,7 +67,7 @@ returns-2 c =
     let w = m .before .before .greatest .ensures in
     c .before .before .fill-plain3 .ensures
     ∙ ap (λ (d : List Float). filled f d stop (a .past))
-    (q .fill-sixteens .ensures
+    (q .fill-blocks .ensures
     ∙ ap (λ (d : List Float). filled f d start stop) (p .fill-plain2 .ensures)
     ∙ filled-join f (now (a .novelty)) (a .from) start stop (omega arith) (omega arith) nan (omega arith))
     ∙ filled-join f (now (a .novelty)) (a .from) stop (a .past) (omega arith) (omega arith) nan (omega arith)
@@ -85,7 +85,7 @@ fill-novelty-spec =
     same-length
     returns
     fill-plain-requires-2
-    fill-sixteens-requires
+    fill-blocks-requires
     fill-plain-requires-3
     same-length-2
     returns-2)

@@ -1,5 +1,5 @@
--- `novelties::put_sixteen` meets its contract. The invariant: the first j of the sixteen slots are written, the others are as they were. The measure is
--- what is left of the sixteen. Assumes nothing.
+-- `novelties::put_block` meets its contract. The invariant: the first j of the block's slots are written, the others are as they were. The measure is
+-- what is left of the block. Assumes nothing.
 use mathlib.Core.Path.{_≡_, refl, sym, ap, _∙_}
 use Prim.Native.Nat.{ℕ, _+_, _-_, _≤_}
 use native.Mathlib.Nat.{add-sub-cancel-left}
@@ -10,15 +10,15 @@ use lib.Ieee.{nan}
 use Rattle.numbers.specs.Lists.{filled}
 use Rattle.numbers.proofs.Tabs.{filled-none, filled-to}
 use Rattle.novelties.specs.Lanes.{laneFrom}
-use Rattle.novelties.proofs.put_sixteen.Statement.{statement}
-use Rattle.novelties.proofs.put_sixteen.Tie as tie
+use Rattle.novelties.proofs.put_block.Statement.{statement}
+use Rattle.novelties.proofs.put_block.Tie as tie
 
 abbrev Inv-loop : tie.InvT-loop
 Inv-loop values i novelty₀ j₀ novelty j =
-    (j ≤ 16) × (length novelty ≡ length novelty₀) × (novelty ≡ filled (laneFrom values i) novelty₀ i (i + j))
+    (j ≤ 24) × (length novelty ≡ length novelty₀) × (novelty ≡ filled (laneFrom values i) novelty₀ i (i + j))
 
 abbrev μ-loop : tie.MeasureT-loop
-μ-loop values i novelty₀ j₀ novelty j = 16 - j
+μ-loop values i novelty₀ j₀ novelty j = 24 - j
 
 loop-holds : tie.Need-loop-holds Inv-loop μ-loop
 loop-holds c =
@@ -70,11 +70,11 @@ returns : tie.Need-returns Inv-loop μ-loop
 returns c =
     let l = c .before in
     let a = l .before .args in
-    let e : a .i + l .loop .j ≡ a .i + 16 = omega arith in
+    let e : a .i + l .loop .j ≡ a .i + 24 = omega arith in
     l .loop .inv .2 ∙ ap (filled (laneFrom (now (a .values)) (a .i)) (now (a .novelty)) (a .i)) e
 
-pub put-sixteen-spec : {M : Type 1} → statement M
-put-sixteen-spec =
+pub put-block-spec : {M : Type 1} → statement M
+put-block-spec =
     tie.close
     (tie.spec
     Inv-loop
