@@ -13,12 +13,12 @@ use numbers::less;
 use numbers::similarities_fine;
 use similarities::BAND_WIDTH;
 ghost use mathlib.Core.Path.{_≡_};
-ghost use Prim.Native.Nat.{ℕ, _+_, _-_, _*_, _^_, _≤_, _<_};
+ghost use Prim.Native.Nat.{ℕ, _+_, _-_, _*_, _^_, _≤_, _<_, min};
 ghost use lib.ListN.{length, getD};
 ghost use lib.Ieee.{nan};
 ghost use Rattle.numbers.specs.Lists.{filled};
 ghost use Rattle.kernels.specs.Kernel.{kernelTable};
-ghost use Rattle.novelties.specs.Novelty.{slotOf, inside, addTerm, addRow, noveltyAt, noveltyNumber, NoveltyDone};
+ghost use Rattle.novelties.specs.Novelty.{slotOf, addTerm, addRow, noveltyAt, noveltyNumber, NoveltyDone};
 ghost use Rattle.novelties.specs.Lanes.{nearSlot, apart, Gathered, laneTerm, laneRow, laneWhole, laneFrom};
 
 // the number that novelty gives
@@ -66,15 +66,7 @@ fn slot_of(a: usize, b: usize) -> usize
     }
 }
 
-// whether the row at place p around row i lies inside
-fn is_inside(rows: usize, i: usize, p: usize) -> bool
-    requires { ⌜ (i < rows) × (rows < 2 ^ 63) × (p < 16) ⌝ }
-    ensures { λ r. ⌜ r ≡ inside rows i p ⌝ }
-{
-    8 <= i + p && i + p < rows + 8
-}
-
-// the term of places u and v around row i, unless a row lies outside
+// the term of places u and v around row i, where both rows lie inside
 fn add_term(
     table: &[[f64; 16]; 16],
     similarity: &[f64],
@@ -84,34 +76,30 @@ fn add_term(
     v: usize,
     sum: f64,
 ) -> f64
-    requires { ⌜ (now table ≡ kernelTable) × (length (now similarity) ≡ rows * 17) × (i < rows) × (u < 16) × (v < 16) ⌝ }
+    requires { ⌜ (now table ≡ kernelTable) × (length (now similarity) ≡ rows * 17) × (u < 16) × (v < 16) × (8 ≤ i + u) × (i + u < rows + 8) × (8 ≤ i + v) × (i + v < rows + 8) ⌝ }
     ensures { λ r. ⌜ r ≡ addTerm (now (similarity .entry)) rows i u v sum ⌝ }
 {
-    if !is_inside(rows, i, u) {
-        return sum;
-    }
-    if !is_inside(rows, i, v) {
-        return sum;
-    }
     let k = slot_of(i + u - 8, i + v - 8);
     sum + table[u][v] * similarity[k]
 }
 
-// the terms of place u, v ascending
+// the terms of place u, v ascending; the rows inside stand at the places from low up to past
 fn add_row(
     table: &[[f64; 16]; 16],
     similarity: &[f64],
     rows: usize,
     i: usize,
+    low: usize,
+    past: usize,
     u: usize,
     sum: f64,
 ) -> f64
-    requires { ⌜ (now table ≡ kernelTable) × (length (now similarity) ≡ rows * 17) × (i < rows) × (u < 16) ⌝ }
+    requires { ⌜ (now table ≡ kernelTable) × (length (now similarity) ≡ rows * 17) × (i < rows) × (low ≡ 8 - i) × (past ≡ min 16 (rows + 8 - i)) × (low ≤ u) × (u < past) ⌝ }
     ensures { λ r. ⌜ r ≡ addRow (now (similarity .entry)) rows i u sum ⌝ }
 {
     let mut total = sum;
-    let mut v = 0;
-    while v < 16 {
+    let mut v = low;
+    while v < past {
         total = add_term(table, similarity, rows, i, u, v, total);
         v += 1;
     }
@@ -123,10 +111,12 @@ fn novelty_slot(table: &[[f64; 16]; 16], similarity: &[f64], rows: usize, i: usi
     requires { ⌜ (now table ≡ kernelTable) × (length (now similarity) ≡ rows * 17) × (i < rows) ⌝ }
     ensures { λ r. ⌜ r ≡ noveltyAt (now (similarity .entry)) rows i ⌝ }
 {
+    let low = less(8, i);
+    let past = least(16, rows + 8 - i);
     let mut total = 0.0;
-    let mut u = 0;
-    while u < 16 {
-        total = add_row(table, similarity, rows, i, u, total);
+    let mut u = low;
+    while u < past {
+        total = add_row(table, similarity, rows, i, low, past, u, total);
         u += 1;
     }
     total
