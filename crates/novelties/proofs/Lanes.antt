@@ -6,46 +6,25 @@ use Prim.Native.Nat.{ℕ, _+_, _-_, _*_, _≤_, _<_}
 use native.Mathlib.Nat.{le-of-lt, min-eq-left, min-eq-right, max-eq-left, max-eq-right}
 use native.Mathlib.Omega.{arith}
 use lib.ListN.{length, getD}
-use lib.Seq.{ext-getD}
 use lib.Ieee.{Float, nan}
 use Rattle.numbers.specs.Rounded.{_⊕_, _⊗_, nought}
 use Rattle.numbers.specs.Lists.{filled}
 use Rattle.numbers.proofs.Tests.{lt-or-le}
-use Rattle.numbers.proofs.Tabs.{length-filled, getD-filled-low, getD-filled-in, getD-filled-high, filled-ext}
+use Rattle.numbers.proofs.Tabs.{length-filled, getD-filled-low, getD-filled-in, filled-ext, filled-join}
 use Rattle.kernels.specs.Kernel.{kernelAt}
 use Rattle.novelties.specs.Novelty.{slotOf, likeness, addTerm, addRow, noveltyAt}
 use Rattle.novelties.specs.Lanes.{apart, Gathered, nearSlot, nearTerm, nearRow, laneWhole, laneFrom}
 use Rattle.novelties.proofs.Terms.{turns-same, slot-rising, slot-falling, is-inside, term-added}
 
--- slots written by the rule, some of them twice
-filled-over : {A : Type 0} (f : ℕ → A) (d : List A) (a s t u : ℕ) (z : A) → a ≤ s → s ≤ t → t ≤ u → u ≤ length d
-    → filled f (filled f d a t) s u ≡ filled f d a u
-filled-over f d a s t u z h k l m =
-    let n : length (filled f d a t) ≡ length d = length-filled f d a t (omega arith) (omega arith) in
-    let o : length (filled f (filled f d a t) s u) ≡ length d = length-filled f (filled f d a t) s u (omega arith) (omega arith) ∙ n in
-    ext-getD z _ _ (o ∙ sym (length-filled f d a u (omega arith) m))
-    (λ i b. ⊎-elim
-    (λ (p : i < s). getD-filled-low f (filled f d a t) s u (omega arith) (omega arith) i z p ∙ ⊎-elim
-    (λ (q : i < a). getD-filled-low f d a t (omega arith) (omega arith) i z q ∙ sym (getD-filled-low f d a u (omega arith) m i z q))
-    (λ (q : a ≤ i). getD-filled-in f d a t (omega arith) (omega arith) i z q (omega arith) ∙ sym (getD-filled-in f d a u (omega arith) m i z q (omega arith)))
-    (lt-or-le i a))
-    (λ (p : s ≤ i). ⊎-elim
-    (λ (q : i < u). getD-filled-in f (filled f d a t) s u (omega arith) (omega arith) i z p q ∙ sym (getD-filled-in f d a u (omega arith) m i z (omega arith) q))
-    (λ (q : u ≤ i).
-    getD-filled-high f (filled f d a t) s u (omega arith) (omega arith) i z q
-    ∙ getD-filled-high f d a t (omega arith) (omega arith) i z (omega arith) ∙ sym (getD-filled-high f d a u (omega arith) m i z q))
-    (lt-or-le i u))
-    (lt-or-le i s))
-
--- a block's slots from slot i on, from lanes that hold them, where those before slot t are written
-pub lanes-join : (f : ℕ → Float) (values d : List Float) (a i t : ℕ) → a ≤ i → i ≤ t → t ≤ i + 24 → i + 24 ≤ length d
-    → ((j : ℕ) → j < 24 → getD values j nan ≡ f (i + j))
-    → filled (laneFrom values i) (filled f d a t) i (i + 24) ≡ filled f d a (i + 24)
+-- slots i up to e more of a curve, from lanes that hold those of a block from slot s on
+pub lanes-join : (f : ℕ → Float) (values d : List Float) (a s i e : ℕ) → a ≤ i → s ≤ i → i ≤ e → e ≤ s + 24 → e ≤ length d
+    → ((j : ℕ) → j < 24 → getD values j nan ≡ f (s + j))
+    → filled (laneFrom values s) (filled f d a i) i e ≡ filled f d a e
 unfolding laneFrom
-lanes-join f values d a i t h k l m e =
-    filled-ext (laneFrom values i) f (filled f d a t) i (i + 24)
-    (λ j p q. let back : i + (j - i) ≡ j = omega arith in e (j - i) (omega arith) ∙ ap f back)
-    ∙ filled-over f d a i t (i + 24) nan h k l m
+lanes-join f values d a s i e h k l m n same =
+    filled-ext (laneFrom values s) f (filled f d a i) i e
+    (λ j p q. let back : s + (j - s) ≡ j = omega arith in same (j - s) (omega arith) ∙ ap f back)
+    ∙ filled-join f d a i e h l nan n
 
 -- ---- similarities gathered by distance
 

@@ -13,7 +13,7 @@ use numbers::less;
 use numbers::similarities_fine;
 use similarities::BAND_WIDTH;
 ghost use mathlib.Core.Path.{_≡_};
-ghost use Prim.Native.Nat.{ℕ, _+_, _-_, _*_, _^_, _≤_, _<_, min};
+ghost use Prim.Native.Nat.{ℕ, _+_, _-_, _*_, _^_, _≤_, _<_, min, max};
 ghost use lib.ListN.{length, getD};
 ghost use lib.Ieee.{nan};
 ghost use Rattle.numbers.specs.Lists.{filled};
@@ -122,7 +122,7 @@ fn novelty_slot(table: &[[f64; 16]; 16], similarity: &[f64], rows: usize, i: usi
     total
 }
 
-// slot by slot: near the ends, and where fewer than a block lie inside
+// slot by slot: near the ends, and all where fewer than a block lie inside
 fn fill_plain(
     table: &[[f64; 16]; 16],
     similarity: &[f64],
@@ -154,11 +154,12 @@ fn gather_apart(similarity: &[f64], first: usize, d: usize, near: &mut [f64; 640
     }
 }
 
-// the similarities of the thirty-nine rows whose first stands at slot `first`
-fn gather(similarity: &[f64], first: usize, near: &mut [f64; 640])
-    requires { ⌜ (first + 661 < length (now similarity)) × (length (now near) ≡ 640) ⌝ }
-    ensures { λ _. ⌜ Gathered (now (similarity .entry)) first 16 (now (near .exit)) ⌝ }
+// the similarities of the thirty-nine rows from `row` on
+fn gather(similarity: &[f64], row: usize, near: &mut [f64; 640])
+    requires { ⌜ (row * 17 + 661 < length (now similarity)) × (length (now near) ≡ 640) ⌝ }
+    ensures { λ _. ⌜ Gathered (now (similarity .entry)) (row * 17) 16 (now (near .exit)) ⌝ }
 {
+    let first = row * 17;
     let mut d = 0;
     while d < 16 {
         gather_apart(similarity, first, d, near);
@@ -217,20 +218,20 @@ fn block_slots(table: &[[f64; 16]; 16], near: &[f64; 640]) -> [f64; 24]
     lanes
 }
 
-// the lanes to slots i to i + 23
-fn put_block(values: &[f64; 24], i: usize, novelty: &mut [f64])
-    requires { ⌜ i + 24 ≤ length (now novelty) ⌝ }
-    ensures { λ _. ⌜ now (novelty .exit) ≡ filled (laneFrom (now (values .entry)) i) (now (novelty .entry)) i (i + 24) ⌝ }
+// the slots from `from` up to `past` of a block whose first row is `first`
+fn put_part(values: &[f64; 24], first: usize, from: usize, past: usize, novelty: &mut [f64])
+    requires { ⌜ (first ≤ from) × (from ≤ past) × (past ≤ first + 24) × (past ≤ length (now novelty)) ⌝ }
+    ensures { λ _. ⌜ now (novelty .exit) ≡ filled (laneFrom (now (values .entry)) first) (now (novelty .entry)) from past ⌝ }
 {
-    let mut j = 0;
-    while j < 24 {
-        novelty[i + j] = values[j];
-        j += 1;
+    let mut k = from;
+    while k < past {
+        novelty[k] = values[k - first];
+        k += 1;
     }
 }
 
-// Rows whose kernel lies inside go in blocks: each sum keeps its own order, and the compiler runs a block's sums side by side. The last block may
-// overlap the one before it.
+// Rows whose kernel lies inside go in blocks: each sum keeps its own order, and the compiler runs a block's sums side by side. A block may begin before
+// the rows that are left and end after them: only theirs are written.
 fn fill_blocks(
     table: &[[f64; 16]; 16],
     similarity: &[f64],
@@ -239,17 +240,18 @@ fn fill_blocks(
     past: usize,
     novelty: &mut [f64],
 )
-    requires { ⌜ (now table ≡ kernelTable) × (length (now similarity) ≡ rows * 17) × (8 ≤ from) × (from + 24 ≤ past) × (past + 7 ≤ rows) × (past ≤ length (now novelty)) ⌝ }
+    requires { ⌜ (now table ≡ kernelTable) × (length (now similarity) ≡ rows * 17) × (39 ≤ rows) × (min 8 past ≤ from) × (from ≤ past) × (past ≤ max from (rows - 7)) × (past ≤ length (now novelty)) ⌝ }
     ensures { λ _. ⌜ now (novelty .exit) ≡ filled (noveltyAt (now (similarity .entry)) rows) (now (novelty .entry)) from past ⌝ }
 {
     let mut near = [0.0; 640];
     let mut i = from;
     while i < past {
-        let start = least(i, past - 24);
-        gather(similarity, (start - 8) * 17, &mut near);
+        let first = least(i, rows - 31);
+        let end = least(first + 24, past);
+        gather(similarity, first - 8, &mut near);
         let values = block_slots(table, &near);
-        put_block(&values, start, novelty);
-        i += 24;
+        put_part(&values, first, i, end, novelty);
+        i = end;
     }
 }
 
@@ -259,12 +261,12 @@ pub fn fill_novelty(similarity: &[f64], rows: usize, from: usize, past: usize, n
     ensures { λ _. ⌜ now (novelty .exit) ≡ filled (noveltyAt (now (similarity .entry)) rows) (now (novelty .entry)) from past ⌝ }
 {
     let table = kernel();
-    let start = greatest(from, 8);
-    let stop = least(past, less(rows, 7));
-    if stop < start + 24 {
+    if rows < 39 {
         fill_plain(&table, similarity, rows, from, past, novelty);
         return;
     }
+    let start = least(greatest(from, 8), past);
+    let stop = greatest(start, least(past, rows - 7));
     fill_plain(&table, similarity, rows, from, start, novelty);
     fill_blocks(&table, similarity, rows, start, stop, novelty);
     fill_plain(&table, similarity, rows, stop, past, novelty);

@@ -1,9 +1,8 @@
--- `novelties::fill_blocks` meets its contract. The invariant: the slots before i, or before `past` where that is less, are written by the rule, the
--- others are as they were. The measure is what is left up to `past`. The last block begins where it ends at `past`, which is not before `from`, and
--- writes some slots again, with the values that they have. Assumes nothing.
+-- `novelties::fill_blocks` meets its contract. The invariant: the slots before i are written by the rule, the others are as they were. The measure is
+-- what is left up to `past`. While a row is left, a block that holds it lies inside, and ends after it. Assumes nothing.
 use mathlib.Core.Path.{_≡_, refl, sym, ap, _∙_}
 use mathlib.Core.List.{List}
-use Prim.Native.Nat.{ℕ, _+_, _-_, _*_, _≤_, min}
+use Prim.Native.Nat.{ℕ, _+_, _-_, _*_, _≤_, _<_}
 use native.Mathlib.Omega.{arith}
 use borrow.Author.Needs.{needs}
 use denote.Ref.{now}
@@ -20,20 +19,13 @@ use Rattle.novelties.proofs.fill_blocks.Tie as tie
 
 abbrev Inv-loop : tie.InvT-loop
 Inv-loop table similarity rows from past novelty₀ near₀ i₀ novelty near i =
-    (from ≤ i) × (length novelty ≡ length novelty₀) × (novelty ≡ filled (noveltyAt similarity rows) novelty₀ from (min i past)) × (length near ≡ 640)
+    (from ≤ i) × (i ≤ past) × (length novelty ≡ length novelty₀) × (novelty ≡ filled (noveltyAt similarity rows) novelty₀ from i) × (length near ≡ 640)
 
 abbrev μ-loop : tie.MeasureT-loop
 μ-loop table similarity rows from past novelty₀ near₀ i₀ novelty near i = past - i
 
 loop-holds : tie.Need-loop-holds Inv-loop μ-loop
-loop-holds c =
-    let a = c .before .before .args in
-    let e : min (a .from) (a .past) ≡ a .from = omega arith in (
-      omega arith,
-      refl,
-      sym (ap (filled (noveltyAt (now (a .similarity)) (a .rows)) (now (a .novelty)) (a .from)) e ∙ filled-none _ _ _),
-      length-replicate 640 nought,
-    )
+loop-holds c = (omega arith, omega arith, refl, sym (filled-none _ _ _), length-replicate 640 nought)
 
 sub-least : tie.Need-sub-least Inv-loop μ-loop
 sub-least c = omega arith
@@ -41,47 +33,59 @@ sub-least c = omega arith
 least-requires : tie.Need-least-requires Inv-loop μ-loop
 least-requires c κs = search needs
 
--- the block from row `start` on, where the rows before i are written
-record Block (rows from past i start : ℕ) : Type 0 where
-  low : 8 ≤ start
-  high : start + 31 ≤ rows
-  first : from ≤ start
-  reached : start ≤ min i past
-  over : min i past ≤ start + 24
-  end : start + 24 ≡ min (i + 24) past
+add-least : tie.Need-add-least Inv-loop μ-loop
+add-least c = let e = c .least .ensures in omega arith
 
-block : (c : tie.After-least Inv-loop μ-loop)
-    → let l = c .before .before in let a = l .before .before .before .args in Block (a .rows) (a .from) (a .past) (l .loop .i) (c .least .result)
+least-requires-2 : tie.Need-least-requires-2 Inv-loop μ-loop
+least-requires-2 c κs = search needs
+
+-- the block from row `first` on, of which the slots from i up to `end` are written
+record Block (rows past i first end : ℕ) : Type 0 where
+  low : 8 ≤ first
+  high : first + 31 ≤ rows
+  begun : first ≤ i
+  more : i < end
+  over : end ≤ first + 24
+  most : end ≤ past
+
+block : (c : tie.After-least2 Inv-loop μ-loop)
+    → let l = c .before .before .before in
+    let a = l .before .before .before .args in
+    Block (a .rows) (a .past) (l .loop .i) (c .before .least .result) (c .least2 .result)
 block c =
-    let e = c .least .ensures in
-    record { low = omega arith; high = omega arith; first = omega arith; reached = omega arith; over = omega arith; end = omega arith }
+    let e = c .before .least .ensures in
+    let m = c .least2 .ensures in
+    record { low = omega arith; high = omega arith; begun = omega arith; more = omega arith; over = omega arith; most = omega arith }
 
 sub-gather : tie.Need-sub-gather Inv-loop μ-loop
 sub-gather c = block c .low
 
-mul-gather : tie.Need-mul-gather Inv-loop μ-loop
-mul-gather c = let b = block c in omega arith
+rows-in : (rows first slots : ℕ) → 8 ≤ first → first + 31 ≤ rows → slots ≡ rows * 17 → (first - 8) * 17 + 661 < slots
+rows-in rows first slots h k e = omega arith
 
 gather-requires : tie.Need-gather-requires Inv-loop μ-loop
 gather-requires c κs =
     let b = block (c .before) in
-    (omega arith, c .before .before .before .loop .inv .3)
+    let l = c .before .before .before .before in
+    (rows-in _ _ _ (b .low) (b .high) (l .before .before .before .pre .1), l .loop .inv .4)
 
 block-slots-requires : tie.Need-block-slots-requires Inv-loop μ-loop
-block-slots-requires c κs = c .before .before .before .before .before .before .before .before .pre .0
+block-slots-requires c κs = c .before .before .before .before .before .before .before .before .before .pre .0
 
-put-block-requires : tie.Need-put-block-requires Inv-loop μ-loop
-put-block-requires c κs =
+put-part-requires : tie.Need-put-part-requires Inv-loop μ-loop
+put-part-requires c κs =
     let p = c .before .before .before .before .before .before in
     let b = block p in
-    let l = p .before .before .loop .inv .1 in
-    omega arith
+    let l = p .before .before .before .loop .inv .2 in
+    (b .begun, omega arith, b .over, omega arith)
 
-add-i : tie.Need-add-i Inv-loop μ-loop
-add-i c = omega arith
+falls : (past i end : ℕ) → i < end → end ≤ past → past - end < past - i
+falls past i end h k = omega arith
 
 loop-less : tie.Need-loop-less Inv-loop μ-loop
-loop-less c = omega arith
+loop-less c =
+    let b = block (c .before .before .before .before .before .before .before .before .before) in
+    falls _ _ _ (b .more) (b .most)
 
 loop-again : tie.Need-loop-again Inv-loop μ-loop
 loop-again c =
@@ -90,35 +94,36 @@ loop-again c =
     let g = v .before .before in
     let p = g .before .before in
     let b = block p in
-    let l = p .before .before in
+    let l = p .before .before .before in
     let a = l .before .before .before .args in
     let i = l .loop .i in
-    let start : ℕ = p .least .result in
+    let first : ℕ = p .before .least .result in
+    let end : ℕ = p .least2 .result in
     let f : ℕ → Float = noveltyAt (now (a .similarity)) (a .rows) in
     let values : List Float = v .block-slots .result in
     let was : List Float = l .loop .novelty in
     let near : List Float = g .gather .last .1 .1 .0 in
-    let k : Gathered (now (a .similarity)) ((start - 8) * 17) 16 near = g .gather .ensures in
-    let e : q .put-block .last .1 .1 .0 ≡ filled (laneFrom values start) was start (start + 24) = q .put-block .ensures in
-    let m : length was ≡ length (now (a .novelty)) = l .loop .inv .1 in (
+    let k : Gathered (now (a .similarity)) ((first - 8) * 17) 16 near = g .gather .ensures in
+    let e : q .put-part .last .1 .1 .1 .1 .0 ≡ filled (laneFrom values first) was i end = q .put-part .ensures in
+    let m : length was ≡ length (now (a .novelty)) = l .loop .inv .2 in (
       omega arith,
-      ap length e ∙ length-filled (laneFrom values start) was start (start + 24) (omega arith) (omega arith) ∙ m,
-      e ∙ ap (λ (d : List Float). filled (laneFrom values start) d start (start + 24)) (l .loop .inv .2)
-          ∙ lanes-join f values (now (a .novelty)) (a .from) start (min i (a .past)) (b .first) (b .reached) (b .over) (omega arith)
-          (λ j h. v .block-slots .ensures j h ∙ lane-novelty (now (a .similarity)) near (a .rows) start j (b .low) (b .high) h k)
-          ∙ ap (filled f (now (a .novelty)) (a .from)) (b .end),
+      omega arith,
+      ap length e ∙ length-filled (laneFrom values first) was i end (omega arith) (omega arith) ∙ m,
+      e ∙ ap (λ (d : List Float). filled (laneFrom values first) d i end) (l .loop .inv .3)
+          ∙ lanes-join f values (now (a .novelty)) (a .from) first i end (l .loop .inv .0) (b .begun) (omega arith) (b .over) (omega arith)
+          (λ j h. v .block-slots .ensures j h ∙ lane-novelty (now (a .similarity)) near (a .rows) first j (b .low) (b .high) h k),
       k .whole,
     )
 
 same-length : tie.Need-same-length Inv-loop μ-loop
-same-length c = c .before .loop .inv .1
+same-length c = c .before .loop .inv .2
 
 returns : tie.Need-returns Inv-loop μ-loop
 returns c =
     let l = c .before in
     let a = l .before .before .before .args in
-    let e : min (l .loop .i) (a .past) ≡ a .past = omega arith in
-    l .loop .inv .2 ∙ ap (filled (noveltyAt (now (a .similarity)) (a .rows)) (now (a .novelty)) (a .from)) e
+    let e : l .loop .i ≡ a .past = omega arith in
+    l .loop .inv .3 ∙ ap (filled (noveltyAt (now (a .similarity)) (a .rows)) (now (a .novelty)) (a .from)) e
 
 pub fill-blocks-spec : {M : Type 1} → statement M
 fill-blocks-spec =
@@ -129,12 +134,12 @@ fill-blocks-spec =
     loop-holds
     sub-least
     least-requires
+    add-least
+    least-requires-2
     sub-gather
-    mul-gather
     gather-requires
     block-slots-requires
-    put-block-requires
-    add-i
+    put-part-requires
     loop-less
     loop-again
     same-length
