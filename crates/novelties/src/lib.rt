@@ -141,8 +141,8 @@ fn fill_plain(
     }
 }
 
-// The rows go in blocks of twenty-four. The kernels around a block's rows take in thirty-nine rows; the similarities of those that are d rows apart are
-// laid side by side from slot 40 * d on.
+// Rows go in blocks of twenty-four, whose kernels take in thirty-nine rows. The similarities of those that are d rows apart are laid side by side, from
+// slot 40 * d on; the first of the thirty-nine rows has its similarities from slot `first` on.
 fn gather_apart(similarity: &[f64], first: usize, d: usize, near: &mut [f64; 640])
     requires { ⌜ (d < 16) × (first + d + 646 < length (now similarity)) × (length (now near) ≡ 640) ⌝ }
     ensures { λ _. ⌜ now (near .exit) ≡ filled (apart (now (similarity .entry)) first d) (now (near .entry)) (d * 40) (d * 40 + 39) ⌝ }

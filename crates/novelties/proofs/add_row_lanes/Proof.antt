@@ -2,7 +2,7 @@
 -- the kernel. The measure is what is left of the sixteen places. Assumes nothing.
 use mathlib.Core.Path.{_≡_, refl, sym, ap, _∙_}
 use mathlib.Core.List.{List, []}
-use Prim.Native.Nat.{ℕ, _+_, _-_, _≤_, _<_}
+use Prim.Native.Nat.{ℕ, _-_, _≤_, _<_}
 use native.Mathlib.Omega.{arith}
 use borrow.Author.Needs.{needs}
 use denote.Ref.{now}
@@ -12,7 +12,7 @@ use Rattle.numbers.specs.Lists.{filled}
 use Rattle.numbers.proofs.Tabs.{length-filled, getD-filled-in}
 use Rattle.kernels.specs.Kernel.{kernelAt}
 use Rattle.novelties.specs.Novelty.{turns}
-use Rattle.novelties.specs.Lanes.{nearSlot, laneTerm, nearTerm, nearRow, laneRow}
+use Rattle.novelties.specs.Lanes.{laneTerm, nearTerm, nearRow, laneRow}
 use Rattle.kernels.proofs.Weights.{kernel-entry}
 use Rattle.novelties.proofs.Terms.{turns-next, turns-end}
 use Rattle.similarities.proofs.Lanes.{by-slots}

@@ -1,6 +1,6 @@
 -- `novelties::add_term` meets its contract. Both rows are inside and lie at most fifteen apart, so that their slot is inside the similarity; the table's
 -- entry is the kernel's. Assumes nothing.
-use mathlib.Core.Path.{_≡_, sym, _∙_}
+use mathlib.Core.Path.{sym}
 use Prim.Native.Nat.{_+_, _-_, _<_, _*_}
 use native.Mathlib.Omega.{arith}
 use borrow.Author.Needs.{needs}

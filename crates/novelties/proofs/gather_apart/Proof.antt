@@ -1,6 +1,6 @@
 -- `novelties::gather_apart` meets its contract. The invariant: the first r slots of the distance are written, the others are as they were. The measure
 -- is what is left of the thirty-nine rows. Assumes nothing.
-use mathlib.Core.Path.{_≡_, refl, sym, ap, _∙_}
+use mathlib.Core.Path.{_≡_, sym, ap, _∙_}
 use Prim.Native.Nat.{ℕ, _+_, _-_, _*_, _≤_}
 use native.Mathlib.Nat.{add-sub-cancel-left}
 use native.Mathlib.Omega.{arith}

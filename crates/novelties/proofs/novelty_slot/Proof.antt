@@ -1,6 +1,6 @@
 -- `novelties::novelty_slot` meets its contract. The invariant: the steps that are left, taken from the sum so far, give the whole. The measure is
 -- what is left up to `past`. The places before `low` and from `past` on are of rows outside, whose steps change nothing. Assumes nothing.
-use mathlib.Core.Path.{_≡_, refl, sym, _∙_}
+use mathlib.Core.Path.{_≡_, sym, _∙_}
 use mathlib.Core.List.{List}
 use Prim.Native.Nat.{ℕ, _-_, _≤_}
 use native.Mathlib.Omega.{arith}
