@@ -8,8 +8,8 @@ use Prim.Native.Nat.{ℕ, zero, suc, _+_, _-_, _*_, _≤_, _<_}
 use native.Mathlib.Nat.{le-of-lt, min-comm, max-comm, min-eq-left, min-eq-right, max-eq-left, max-eq-right}
 use native.Mathlib.Numerals.{add-one}
 use native.Mathlib.Omega.{arith}
-use lib.Dec.{leb}
-use borrow.Author.Tests.{leb-true, ltb-true, le-leb, lt-ltb}
+use lib.Dec.{leb, ltb}
+use borrow.Author.Tests.{leb-true, ltb-true, le-leb, lt-leb, lt-ltb, le-ltb}
 use lib.Ieee.{Float}
 use Rattle.numbers.specs.Rounded.{_⊕_, _⊗_, nought}
 use Rattle.numbers.proofs.Tests.{lt-or-le, and-left, and-right, and-both, and-held, and-failed, pick-true, pick-false}
@@ -31,6 +31,17 @@ module _ {A : Type 0} (f : ℕ → A → A) where
   turns-end s e x h =
       let k : e - s ≡ 0 = omega arith in
       ap (λ (n : ℕ). turns f s n x) k
+
+  -- steps that change nothing
+  pub turns-skip : (s t e : ℕ) (x : A) → s ≤ t → t ≤ e → ((p : ℕ) → s ≤ p → p < t → (y : A) → f p y ≡ y) → turns f s (e - s) x ≡ turns f t (e - t) x
+  turns-skip s t e x h k same = go (t - s) s x h refl same
+    where
+      go : (n s : ℕ) (x : A) → s ≤ t → t - s ≡ n → ((p : ℕ) → s ≤ p → p < t → (y : A) → f p y ≡ y) → turns f s (e - s) x ≡ turns f t (e - t) x
+      go zero s x h l same = let z : s ≡ t = omega arith in ap (λ (n : ℕ). turns f n (e - n) x) z
+      go (suc n) s x h l same =
+          turns-next s e x (omega arith)
+          ∙ ap (turns f (s + 1) (e - (s + 1))) (same s (omega arith) (omega arith) x)
+          ∙ go n (s + 1) x (omega arith) (omega arith) (λ p b c y. same p (omega arith) c y)
 
 -- where the steps do the same, so do all together
 pub turns-same : {A : Type 0} (f g : ℕ → A → A) (s n : ℕ) (x : A) → ((p : ℕ) → s ≤ p → p < s + n → (y : A) → f p y ≡ g p y) → turns f s n x ≡ turns g s n x
@@ -75,6 +86,14 @@ inside-is rows i p e = record {
 pub is-inside : (rows i p : ℕ) → 8 ≤ i + p → i + p < rows + 8 → inside rows i p ≡ true
 is-inside rows i p h k = and-both _ _ (le-leb 8 (i + p) h) (lt-ltb (i + p) (rows + 8) k)
 
+-- before the first row, and past the last
+pub is-before : (rows i p : ℕ) → i + p < 8 → inside rows i p ≡ false
+is-before rows i p h = let e : leb 8 (i + p) ≡ false = lt-leb 8 (i + p) h in sym (and-failed (leb 8 (i + p)) (ltb (i + p) (rows + 8)) e) ∙ e
+
+pub is-past : (rows i p : ℕ) → rows + 8 ≤ i + p → inside rows i p ≡ false
+is-past rows i p h =
+    sym (and-held (leb 8 (i + p)) (ltb (i + p) (rows + 8)) (le-leb 8 (i + p) (omega arith))) ∙ le-ltb (i + p) (rows + 8) h
+
 -- ---- one term
 
 module _ (similarity : List Float) (rows i u v : ℕ) (sum : Float) where
@@ -90,6 +109,13 @@ module _ (similarity : List Float) (rows i u v : ℕ) (sum : Float) where
   pub term-skipped-too : inside rows i u ≡ true → inside rows i v ≡ false → addTerm similarity rows i u v sum ≡ sum
   unfolding addTerm
   term-skipped-too h k = pick-false _ _ _ (sym (and-held (inside rows i u) (inside rows i v) h) ∙ k)
+
+-- where the row of place u lies outside, none of its terms counts
+pub row-skipped : (similarity : List Float) (rows i u : ℕ) (sum : Float) → inside rows i u ≡ false → addRow similarity rows i u sum ≡ sum
+unfolding addRow
+row-skipped similarity rows i u sum h =
+    turns-skip (addTerm similarity rows i u) 0 16 16 sum (omega arith) (omega arith) (λ v l k x. term-skipped similarity rows i u v x h)
+    ∙ turns-end (addTerm similarity rows i u) 16 16 sum (omega arith)
 
 -- ---- the order of u and v
 

@@ -13,13 +13,13 @@ use numbers::less;
 use numbers::similarities_fine;
 use similarities::BAND_WIDTH;
 ghost use mathlib.Core.Path.{_≡_};
-ghost use Prim.Native.Nat.{ℕ, _+_, _-_, _*_, _^_, _≤_, _<_, min};
+ghost use Prim.Native.Nat.{ℕ, _+_, _-_, _*_, _^_, _≤_, _<_, min, max};
 ghost use lib.ListN.{length, getD};
 ghost use lib.Ieee.{nan};
 ghost use Rattle.numbers.specs.Lists.{filled};
 ghost use Rattle.kernels.specs.Kernel.{kernelTable};
-ghost use Rattle.novelties.specs.Novelty.{slotOf, inside, addTerm, addRow, noveltyAt, noveltyNumber, NoveltyDone};
-ghost use Rattle.novelties.specs.Lanes.{laneTerm, laneRow, laneFrom};
+ghost use Rattle.novelties.specs.Novelty.{slotOf, addTerm, addRow, noveltyAt, noveltyNumber, NoveltyDone};
+ghost use Rattle.novelties.specs.Lanes.{nearSlot, apart, Gathered, laneTerm, laneRow, laneWhole, laneFrom};
 
 // the number that novelty gives
 fn novelty_number(similarity: &[f64], rows: usize, room: usize) -> u32
@@ -66,15 +66,7 @@ fn slot_of(a: usize, b: usize) -> usize
     }
 }
 
-// whether the row at place p around row i lies inside
-fn is_inside(rows: usize, i: usize, p: usize) -> bool
-    requires { ⌜ (i < rows) × (rows < 2 ^ 63) × (p < 16) ⌝ }
-    ensures { λ r. ⌜ r ≡ inside rows i p ⌝ }
-{
-    8 <= i + p && i + p < rows + 8
-}
-
-// the term of places u and v around row i, unless a row lies outside
+// the term of places u and v around row i, where both rows lie inside
 fn add_term(
     table: &[[f64; 16]; 16],
     similarity: &[f64],
@@ -84,34 +76,30 @@ fn add_term(
     v: usize,
     sum: f64,
 ) -> f64
-    requires { ⌜ (now table ≡ kernelTable) × (length (now similarity) ≡ rows * 17) × (i < rows) × (u < 16) × (v < 16) ⌝ }
+    requires { ⌜ (now table ≡ kernelTable) × (length (now similarity) ≡ rows * 17) × (u < 16) × (v < 16) × (8 ≤ i + u) × (i + u < rows + 8) × (8 ≤ i + v) × (i + v < rows + 8) ⌝ }
     ensures { λ r. ⌜ r ≡ addTerm (now (similarity .entry)) rows i u v sum ⌝ }
 {
-    if !is_inside(rows, i, u) {
-        return sum;
-    }
-    if !is_inside(rows, i, v) {
-        return sum;
-    }
     let k = slot_of(i + u - 8, i + v - 8);
     sum + table[u][v] * similarity[k]
 }
 
-// the terms of place u, v ascending
+// the terms of place u, v ascending; the rows inside stand at the places from low up to past
 fn add_row(
     table: &[[f64; 16]; 16],
     similarity: &[f64],
     rows: usize,
     i: usize,
+    low: usize,
+    past: usize,
     u: usize,
     sum: f64,
 ) -> f64
-    requires { ⌜ (now table ≡ kernelTable) × (length (now similarity) ≡ rows * 17) × (i < rows) × (u < 16) ⌝ }
+    requires { ⌜ (now table ≡ kernelTable) × (length (now similarity) ≡ rows * 17) × (i < rows) × (low ≡ 8 - i) × (past ≡ min 16 (rows + 8 - i)) × (low ≤ u) × (u < past) ⌝ }
     ensures { λ r. ⌜ r ≡ addRow (now (similarity .entry)) rows i u sum ⌝ }
 {
     let mut total = sum;
-    let mut v = 0;
-    while v < 16 {
+    let mut v = low;
+    while v < past {
         total = add_term(table, similarity, rows, i, u, v, total);
         v += 1;
     }
@@ -123,16 +111,18 @@ fn novelty_slot(table: &[[f64; 16]; 16], similarity: &[f64], rows: usize, i: usi
     requires { ⌜ (now table ≡ kernelTable) × (length (now similarity) ≡ rows * 17) × (i < rows) ⌝ }
     ensures { λ r. ⌜ r ≡ noveltyAt (now (similarity .entry)) rows i ⌝ }
 {
+    let low = less(8, i);
+    let past = least(16, rows + 8 - i);
     let mut total = 0.0;
-    let mut u = 0;
-    while u < 16 {
-        total = add_row(table, similarity, rows, i, u, total);
+    let mut u = low;
+    while u < past {
+        total = add_row(table, similarity, rows, i, low, past, u, total);
         u += 1;
     }
     total
 }
 
-// slot by slot: near the ends, and where fewer than eight are left
+// slot by slot: near the ends, and all where fewer than a block lie inside
 fn fill_plain(
     table: &[[f64; 16]; 16],
     similarity: &[f64],
@@ -151,67 +141,98 @@ fn fill_plain(
     }
 }
 
-// Eight rows side by side, one to a lane: each lane's sum grows by the weight times its own row's similarity, which stands seventeen slots after
-// that of the lane before.
-fn add_lanes(lanes: &mut [f64; 8], weight: f64, similarity: &[f64], k: usize)
-    requires { ⌜ (length (now lanes) ≡ 8) × (k + 119 < length (now similarity)) ⌝ }
-    ensures { λ _. ⌜ now (lanes .exit) ≡ filled (laneTerm (now (lanes .entry)) weight (now (similarity .entry)) k) (now (lanes .entry)) 0 8 ⌝ }
+// Rows go in blocks of twenty-four, whose kernels take in thirty-nine rows. The similarities of those that are d rows apart are laid side by side, from
+// slot 40 * d on; the first of the thirty-nine rows has its similarities from slot `first` on.
+fn gather_apart(similarity: &[f64], first: usize, d: usize, near: &mut [f64; 640])
+    requires { ⌜ (d < 16) × (first + d + 646 < length (now similarity)) × (length (now near) ≡ 640) ⌝ }
+    ensures { λ _. ⌜ now (near .exit) ≡ filled (apart (now (similarity .entry)) first d) (now (near .entry)) (d * 40) (d * 40 + 39) ⌝ }
+{
+    let mut r = 0;
+    while r < 39 {
+        near[d * 40 + r] = similarity[first + d + 17 * r];
+        r += 1;
+    }
+}
+
+// the similarities of the thirty-nine rows from `row` on
+fn gather(similarity: &[f64], row: usize, near: &mut [f64; 640])
+    requires { ⌜ (row * 17 + 661 < length (now similarity)) × (length (now near) ≡ 640) ⌝ }
+    ensures { λ _. ⌜ Gathered (now (similarity .entry)) (row * 17) 16 (now (near .exit)) ⌝ }
+{
+    let first = row * 17;
+    let mut d = 0;
+    while d < 16 {
+        gather_apart(similarity, first, d, near);
+        d += 1;
+    }
+}
+
+// the slot of places u and v among those gathered
+fn near_slot(u: usize, v: usize) -> usize
+    requires { ⌜ (u < 16) × (v < 16) ⌝ }
+    ensures { λ r. ⌜ r ≡ nearSlot u v ⌝ }
+{
+    if u <= v {
+        (v - u) * 40 + u
+    } else {
+        (u - v) * 40 + v
+    }
+}
+
+// A block's rows side by side, one to a lane: each lane's sum grows by the weight times its own row's similarity, which stands one slot after that of
+// the lane before.
+fn add_lanes(lanes: &mut [f64; 24], weight: f64, near: &[f64; 640], k: usize)
+    requires { ⌜ (length (now lanes) ≡ 24) × (k + 24 ≤ 640) ⌝ }
+    ensures { λ _. ⌜ now (lanes .exit) ≡ filled (laneTerm (now (lanes .entry)) weight (now (near .entry)) k) (now (lanes .entry)) 0 24 ⌝ }
 {
     let mut j = 0;
-    while j < 8 {
-        lanes[j] = lanes[j] + weight * similarity[k + 17 * j];
+    while j < 24 {
+        lanes[j] = lanes[j] + weight * near[k + j];
         j += 1;
     }
 }
 
 // the terms of place u, v ascending, in each lane
-fn add_row_lanes(
-    table: &[[f64; 16]; 16],
-    similarity: &[f64],
-    rows: usize,
-    i: usize,
-    u: usize,
-    lanes: &mut [f64; 8],
-)
-    requires { ⌜ (now table ≡ kernelTable) × (length (now similarity) ≡ rows * 17) × (8 ≤ i) × (i + 15 ≤ rows) × (u < 16) × (length (now lanes) ≡ 8) ⌝ }
-    ensures { λ _. ⌜ now (lanes .exit) ≡ filled (laneRow (now (lanes .entry)) (now (similarity .entry)) rows i u) (now (lanes .entry)) 0 8 ⌝ }
+fn add_row_lanes(table: &[[f64; 16]; 16], near: &[f64; 640], u: usize, lanes: &mut [f64; 24])
+    requires { ⌜ (now table ≡ kernelTable) × (u < 16) × (length (now lanes) ≡ 24) ⌝ }
+    ensures { λ _. ⌜ now (lanes .exit) ≡ filled (laneRow (now (lanes .entry)) (now (near .entry)) u) (now (lanes .entry)) 0 24 ⌝ }
 {
-    let first = (i - 8) * 17;
     let mut v = 0;
     while v < 16 {
-        add_lanes(lanes, table[u][v], similarity, first + slot_of(u, v));
+        add_lanes(lanes, table[u][v], near, near_slot(u, v));
         v += 1;
     }
 }
 
-// the novelty of rows i to i + 7, whose kernels lie inside
-fn eight_slots(table: &[[f64; 16]; 16], similarity: &[f64], rows: usize, i: usize) -> [f64; 8]
-    requires { ⌜ (now table ≡ kernelTable) × (length (now similarity) ≡ rows * 17) × (8 ≤ i) × (i + 15 ≤ rows) ⌝ }
-    ensures { λ r. ⌜ ((j : ℕ) → j < 8 → getD r j nan ≡ noveltyAt (now (similarity .entry)) rows (i + j)) ⌝ }
+// the novelty of a block's rows
+fn block_slots(table: &[[f64; 16]; 16], near: &[f64; 640]) -> [f64; 24]
+    requires { ⌜ now table ≡ kernelTable ⌝ }
+    ensures { λ r. ⌜ ((j : ℕ) → j < 24 → getD r j nan ≡ laneWhole (now (near .entry)) j) ⌝ }
 {
-    let mut lanes = [0.0; 8];
+    let mut lanes = [0.0; 24];
     let mut u = 0;
     while u < 16 {
-        add_row_lanes(table, similarity, rows, i, u, &mut lanes);
+        add_row_lanes(table, near, u, &mut lanes);
         u += 1;
     }
     lanes
 }
 
-// the lanes to slots i to i + 7
-fn put_eight(values: &[f64; 8], i: usize, novelty: &mut [f64])
-    requires { ⌜ i + 8 ≤ length (now novelty) ⌝ }
-    ensures { λ _. ⌜ now (novelty .exit) ≡ filled (laneFrom (now (values .entry)) i) (now (novelty .entry)) i (i + 8) ⌝ }
+// the slots from `from` up to `past` of a block whose first row is `first`
+fn put_part(values: &[f64; 24], first: usize, from: usize, past: usize, novelty: &mut [f64])
+    requires { ⌜ (first ≤ from) × (from ≤ past) × (past ≤ first + 24) × (past ≤ length (now novelty)) ⌝ }
+    ensures { λ _. ⌜ now (novelty .exit) ≡ filled (laneFrom (now (values .entry)) first) (now (novelty .entry)) from past ⌝ }
 {
-    let mut j = 0;
-    while j < 8 {
-        novelty[i + j] = values[j];
-        j += 1;
+    let mut k = from;
+    while k < past {
+        novelty[k] = values[k - first];
+        k += 1;
     }
 }
 
-// Rows whose kernel lies inside go eight at a time: each sum keeps its own order, and the compiler runs the eight side by side.
-fn fill_eights(
+// Rows whose kernel lies inside go in blocks: each sum keeps its own order, and the compiler runs a block's sums side by side. A block may begin before
+// the rows that are left and end after them: only theirs are written.
+fn fill_blocks(
     table: &[[f64; 16]; 16],
     similarity: &[f64],
     rows: usize,
@@ -219,17 +240,19 @@ fn fill_eights(
     past: usize,
     novelty: &mut [f64],
 )
-    requires { ⌜ (now table ≡ kernelTable) × (length (now similarity) ≡ rows * 17) × (min 8 past ≤ from) × (from ≤ past) × (past ≤ rows) × (past ≤ length (now novelty)) ⌝ }
+    requires { ⌜ (now table ≡ kernelTable) × (length (now similarity) ≡ rows * 17) × (39 ≤ rows) × (min 8 past ≤ from) × (from ≤ past) × (past ≤ max from (rows - 7)) × (past ≤ length (now novelty)) ⌝ }
     ensures { λ _. ⌜ now (novelty .exit) ≡ filled (noveltyAt (now (similarity .entry)) rows) (now (novelty .entry)) from past ⌝ }
 {
-    let stop = least(past, less(rows, 7));
+    let mut near = [0.0; 640];
     let mut i = from;
-    while i + 8 <= stop {
-        let values = eight_slots(table, similarity, rows, i);
-        put_eight(&values, i, novelty);
-        i += 8;
+    while i < past {
+        let first = least(i, rows - 31);
+        let end = least(first + 24, past);
+        gather(similarity, first - 8, &mut near);
+        let values = block_slots(table, &near);
+        put_part(&values, first, i, end, novelty);
+        i = end;
     }
-    fill_plain(table, similarity, rows, i, past, novelty);
 }
 
 // Inner: writes slots from `from` up to `past` of the novelty curve of a similarity of `rows` rows.
@@ -238,7 +261,13 @@ pub fn fill_novelty(similarity: &[f64], rows: usize, from: usize, past: usize, n
     ensures { λ _. ⌜ now (novelty .exit) ≡ filled (noveltyAt (now (similarity .entry)) rows) (now (novelty .entry)) from past ⌝ }
 {
     let table = kernel();
+    if rows < 39 {
+        fill_plain(&table, similarity, rows, from, past, novelty);
+        return;
+    }
     let start = least(greatest(from, 8), past);
+    let stop = greatest(start, least(past, rows - 7));
     fill_plain(&table, similarity, rows, from, start, novelty);
-    fill_eights(&table, similarity, rows, start, past, novelty);
+    fill_blocks(&table, similarity, rows, start, stop, novelty);
+    fill_plain(&table, similarity, rows, stop, past, novelty);
 }

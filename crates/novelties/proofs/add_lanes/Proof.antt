@@ -1,7 +1,7 @@
 -- `novelties::add_lanes` meets its contract. The invariant: the lanes before j have grown, the others are as they were, so that lane j is read as it
--- came. The measure is what is left of the eight. Assumes nothing.
+-- came. The measure is what is left of the lanes. Assumes nothing.
 use mathlib.Core.Path.{_≡_, refl, sym, ap, _∙_}
-use Prim.Native.Nat.{_+_, _-_, _*_, _≤_}
+use Prim.Native.Nat.{_+_, _-_, _≤_}
 use native.Mathlib.Omega.{arith}
 use denote.Ref.{now}
 use lib.ListN.{length, getD, length-set}
@@ -15,11 +15,11 @@ use Rattle.novelties.proofs.add_lanes.Statement.{statement}
 use Rattle.novelties.proofs.add_lanes.Tie as tie
 
 abbrev Inv-loop : tie.InvT-loop
-Inv-loop lanes₀ weight similarity k j₀ lanes j =
-    (j ≤ 8) × (length lanes ≡ 8) × (lanes ≡ filled (laneTerm lanes₀ weight similarity k) lanes₀ 0 j)
+Inv-loop lanes₀ weight near k j₀ lanes j =
+    (j ≤ 24) × (length lanes ≡ 24) × (lanes ≡ filled (laneTerm lanes₀ weight near k) lanes₀ 0 j)
 
 abbrev μ-loop : tie.MeasureT-loop
-μ-loop lanes₀ weight similarity k j₀ lanes j = 8 - j
+μ-loop lanes₀ weight near k j₀ lanes j = 24 - j
 
 loop-holds : tie.Need-loop-holds Inv-loop μ-loop
 loop-holds c = (omega arith, c .pre .0, sym (filled-none _ _ _))
@@ -30,20 +30,17 @@ mul-lanes c = omega arith
 element-copy-out-lanes : tie.Need-element-copy-out-lanes Inv-loop μ-loop
 element-copy-out-lanes c = c .loop-test .taken
 
-mul-lanes-2 : tie.Need-mul-lanes-2 Inv-loop μ-loop
-mul-lanes-2 c = omega arith
-
 add-lanes : tie.Need-add-lanes Inv-loop μ-loop
 add-lanes c = omega arith
 
+mul-lanes-2 : tie.Need-mul-lanes-2 Inv-loop μ-loop
+mul-lanes-2 c = omega arith
+
+element-copy-out-lanes-2 : tie.Need-element-copy-out-lanes-2 Inv-loop μ-loop
+element-copy-out-lanes-2 c = omega arith
+
 mul-lanes-3 : tie.Need-mul-lanes-3 Inv-loop μ-loop
 mul-lanes-3 c = omega arith
-
-shared-slice-read-lanes : tie.Need-shared-slice-read-lanes Inv-loop μ-loop
-shared-slice-read-lanes c = omega arith
-
-mul-lanes-4 : tie.Need-mul-lanes-4 Inv-loop μ-loop
-mul-lanes-4 c = omega arith
 
 element-write-lanes : tie.Need-element-write-lanes Inv-loop μ-loop
 element-write-lanes c = omega arith
@@ -62,16 +59,16 @@ loop-again c =
       omega arith,
       simp length-set (l .loop .inv .1),
       rw (l .loop .inv .2)
-          (grown-more (laneTerm (now (a .lanes)) (a .weight) (now (a .similarity)) (a .k)) (now (a .lanes)) 0 (l .loop .j) nan
-          (λ (x : Float). x ⊕ a .weight ⊗ getD (now (a .similarity)) (a .k + 17 * l .loop .j) nan) (omega arith) (omega arith) refl),
+          (grown-more (laneTerm (now (a .lanes)) (a .weight) (now (a .near)) (a .k)) (now (a .lanes)) 0 (l .loop .j) nan
+          (λ (x : Float). x ⊕ a .weight ⊗ getD (now (a .near)) (a .k + l .loop .j) nan) (omega arith) (omega arith) refl),
     )
 
 returns : tie.Need-returns Inv-loop μ-loop
 returns c =
     let l = c .before in
     let a = l .before .args in
-    let e : l .loop .j ≡ 8 = omega arith in
-    l .loop .inv .2 ∙ ap (filled (laneTerm (now (a .lanes)) (a .weight) (now (a .similarity)) (a .k)) (now (a .lanes)) 0) e
+    let e : l .loop .j ≡ 24 = omega arith in
+    l .loop .inv .2 ∙ ap (filled (laneTerm (now (a .lanes)) (a .weight) (now (a .near)) (a .k)) (now (a .lanes)) 0) e
 
 pub add-lanes-spec : {M : Type 1} → statement M
 add-lanes-spec =
@@ -82,11 +79,10 @@ add-lanes-spec =
     loop-holds
     mul-lanes
     element-copy-out-lanes
-    mul-lanes-2
     add-lanes
+    mul-lanes-2
+    element-copy-out-lanes-2
     mul-lanes-3
-    shared-slice-read-lanes
-    mul-lanes-4
     element-write-lanes
     add-j
     loop-less
