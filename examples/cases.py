@@ -8,7 +8,9 @@ import subprocess
 import sys
 import time
 
-REPORT = os.path.join(os.path.dirname(os.path.abspath(__file__)), "..", "report")
+HERE = os.path.dirname(os.path.abspath(__file__))
+REPORT = os.path.join(HERE, "..", "report")
+LONG = os.path.join(HERE, "..", "crates", "report_long")
 NOTHING = "onsets none\nlag none\ncandidates none\nbeats none\ndownbeats none\nstability none\n"
 PAPER = NOTHING.replace("onsets none", "onsets 2")
 
@@ -32,6 +34,11 @@ def words(*xs):
 
 def refused(number):
     return "refused %d\n" % number
+
+
+def kept(path, mode="rb"):
+    with open(path, mode) as f:
+        return f.read()
 
 
 paper = header(4, 1) + floats(0, 0, 5, 0)
@@ -97,6 +104,21 @@ for n, b in [(0, 1), (0, 4096), (1, 1), (2, 1), (1, 4096), (3, 4096), (8000, 1)]
     cases.append(("zeros of shape (%d, %d)" % (n, b), header(n, b) + b"\0" * (n * b * 4), NOTHING))
 cases.append(("2^126 and -2^126", header(4, 1) + words(0xFE800000, 0xFE800000, 0x7E800000, 0xFE800000), PAPER))
 cases.append(("the least above zero", header(4, 1) + words(0, 0, 1, 0x80000000), NOTHING))
+for at in (1, 4095):
+    row = [0.0] * 4096
+    row[at] = float("inf")
+    cases.append(("infinity in bin %d" % at, header(1, 4096) + floats(*row), refused(4)))
+for name, bytes_ in [("8,001 rows, all there", header(8001, 1) + bytes(8001 * 4)), ("4,097 bins, all there", header(2, 4097) + bytes(2 * 4097 * 4))]:
+    cases.append((name, bytes_, refused(1)))
+for name, text in [("no space after the comma", b"(4,1)"), ("a space more", b"( 4, 1)"), ("a space before the comma", b"(4 , 1)")]:
+    cases.append((name, header(4, 1, text=text_of(4, 1).replace(b"(4, 1)", text)) + floats(0, 0, 5, 0), refused(5)))
+cases.append(("ten thousand digits", header("1" * 10000, 1), refused(1)))
+# as many reads as the largest array takes, and one whose reads end within a value
+cases.append(("8,000 rows of 4,096 bins", header(8000, 4096) + bytes(8000 * 4096 * 4), NOTHING))
+cases.append(("8,000 rows of 4,096 bins, a byte short", header(8000, 4096) + bytes(8000 * 4096 * 4 - 1), refused(2)))
+click = ("clicks", kept(os.path.join(HERE, "click.npy")), kept(os.path.join(HERE, "click.txt"), "r"))
+long = ("the long array", kept(os.path.join(LONG, "stdin")), kept(os.path.join(LONG, "stdout"), "r"))
+cases += [click, long]
 cases.append(("4,096 bins", header(4, 4096) + b"\0" * (2 * 16384) + floats(*[5.0] * 4096) + b"\0" * 16384, PAPER))
 
 
@@ -104,10 +126,13 @@ def run(bytes_, pieces=None):
     child = subprocess.Popen([REPORT], stdin=subprocess.PIPE, stdout=subprocess.PIPE)
     if pieces is None:
         return child.communicate(bytes_)[0].decode()
-    for at in range(0, len(bytes_), pieces):
-        child.stdin.write(bytes_[at : at + pieces])
-        child.stdin.flush()
-        time.sleep(0.002)
+    try:
+        for at in range(0, len(bytes_), pieces):
+            child.stdin.write(bytes_[at : at + pieces])
+            child.stdin.flush()
+            time.sleep(0.002)
+    except BrokenPipeError:
+        return "stopped reading"
     return child.communicate()[0].decode()
 
 
@@ -122,6 +147,10 @@ for pieces in (1, 3, 7, 64):
         if run(bytes_, pieces) != expected:
             wrong += 1
             print("WRONG:", name, "in pieces of", pieces)
+for pieces, (name, bytes_, expected) in [(61, click), (977, long), (65535, long)]:
+    if run(bytes_, pieces) != expected:
+        wrong += 1
+        print("WRONG:", name, "in pieces of", pieces)
 # a refusal is told once the whole input is read: nobody who writes it meets a closed pipe
 for start, expected in [(header(8001, 1), refused(1)), (paper, refused(2)), (header("04", 1), refused(5)), (b"x" * 10, refused(5))]:
     child = subprocess.Popen([REPORT], stdin=subprocess.PIPE, stdout=subprocess.PIPE)
@@ -134,5 +163,5 @@ for start, expected in [(header(8001, 1), refused(1)), (paper, refused(2)), (hea
     if broken or child.communicate()[0].decode() != expected:
         wrong += 1
         print("WRONG: two million bytes behind", start[:10])
-print("%d cases, %d wrong" % (len(cases) + 12, wrong))
+print("%d cases, %d wrong" % (len(cases) + 15, wrong))
 sys.exit(1 if wrong else 0)

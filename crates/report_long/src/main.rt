@@ -1,4 +1,4 @@
-// The reporting program on 4,000 rows of one bin: hits with jitter and echoes, whose tempo falls.
+// The reporting program on 4,000 rows of twelve bins, which take three reads that end within a value: clicks over noise.
 fn main() {
     report_io::report();
 }

@@ -1,19 +1,20 @@
 // Reads a NumPy array from standard input, to its end, and leaves the flux of its rows.
 //
-// Document 01, The reporting program. Nothing is decided here: each read's bytes are passed on to report_feed, whose promises hold for every input and
-// for every way in which it is cut into reads. What is proved here is that there is an input of which the number and the flux are right. That this input
-// is standard input, so that the bytes passed on are those that `read` put there, all of them and in their order, is what the lines of `read_all` say;
-// the kit's contract of `read` says nothing of the bytes, so it is not proved: runs show it. A read that fails is taken for the end of the input.
+// Document 01, The reporting program. What an input is told to be is decided in report_feed, whose promises hold for every input and for every way in
+// which it is cut into reads; here each read's bytes are passed on, until a read gives none. What is proved here is that there is an input of which the
+// number and the flux are right. That this input is standard input, read to its end, is what the lines of `read_all` say; the kit's contract of `read`
+// says nothing of the bytes, so it is not proved: runs show it. A read that fails is taken for the end of the input.
 use libc::STDIN_FILENO;
+use report_feed::Feed;
 use report_feed::Reading;
 ghost use mathlib.Core.Path.{_≡_};
 ghost use mathlib.Core.Bool.{true};
 ghost use Prim.Native.Nat.{_*_, _≤_};
-ghost use lib.ListN.{length};
+ghost use lib.ListN.{length, take};
 ghost use Rattle.numbers.specs.Limits.{magnitudeFine, mostBins};
 ghost use Rattle.numbers.specs.Lists.{every};
 ghost use Rattle.report.specs.Input.{mostReported};
-ghost use Rattle.report_feed.specs.Feeds.{heldRoom};
+ghost use Rattle.report_feed.specs.Feeds.{heldRoom, Ready, Step};
 ghost use Rattle.report_read.specs.Reads.{InputRead};
 
 // room for two rows of as many bins as there may be
@@ -23,6 +24,21 @@ fn two_rows() -> [f32; TWO_ROWS]
     ensures { λ r. ⌜ (2 * mostBins ≡ length r) × (every magnitudeFine r ≡ true) ⌝ }
 {
     [0.0f32; TWO_ROWS]
+}
+
+// Passes on the first bytes, as many as came.
+fn pass_on(
+    got: usize,
+    bytes: &[u8],
+    feed: Feed,
+    held: &mut [u8],
+    kept: &mut [f32],
+    flux: &mut [f64],
+) -> Feed
+    requires { ⌜ (got ≤ length (now bytes)) × Ready feed (now held) (now kept) (now flux) ⌝ }
+    ensures { λ r. ⌜ Step (take got (now (bytes .entry))) feed (now (held .entry)) (now (kept .entry)) (now (flux .entry)) r (now (held .exit)) (now (kept .exit)) (now (flux .exit)) ⌝ }
+{
+    report_feed::take_bytes(&bytes[0..got], feed, held, kept, flux)
 }
 
 // Reads to the end of the input. A proved loop has to end, and nothing says that the input does: the loop counts down from a number that no run
@@ -38,7 +54,7 @@ fn read_all(bytes: &mut [u8], held: &mut [u8], kept: &mut [f32], flux: &mut [f64
         if got == 0 {
             return report_feed::closed(feed);
         }
-        feed = report_feed::take_bytes(&bytes[0..got], feed, held, kept, flux);
+        feed = pass_on(got, bytes, feed, held, kept, flux);
         turns -= 1;
     }
     report_feed::closed(feed)

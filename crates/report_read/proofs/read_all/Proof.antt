@@ -46,17 +46,8 @@ same-length-4 c = c .before .before .before .before .before .before .before .bef
 returns : tie.Need-returns Inv-loop μ-loop
 returns c = coming-told (c .closed .ensures) (c .before .before .before .before .before .before .before .before .before .loop .inv .4)
 
-sub-take-bytes : tie.Need-sub-take-bytes Inv-loop μ-loop
-sub-take-bytes c = search needs
-
-part-take-bytes-start : tie.Need-part-take-bytes-start Inv-loop μ-loop
-part-take-bytes-start c = search needs
-
-part-take-bytes-end : tie.Need-part-take-bytes-end Inv-loop μ-loop
-part-take-bytes-end c = search needs
-
-take-bytes-requires : tie.Need-take-bytes-requires Inv-loop μ-loop
-take-bytes-requires c κs = c .before .before .before .before .before .before .before .before .before .before .before .before .before .loop .inv .4 .fed .ready
+pass-on-requires : tie.Need-pass-on-requires Inv-loop μ-loop
+pass-on-requires c κs = (c .before .before .before .before .before .count .ensures .0 .0, c .before .before .before .before .before .before .before .before .before .before .before .before .loop .inv .4 .fed .ready)
 
 sub-turns : tie.Need-sub-turns Inv-loop μ-loop
 sub-turns c = omega arith
@@ -66,12 +57,12 @@ loop-less c = omega arith
 
 loop-again : tie.Need-loop-again Inv-loop μ-loop
 loop-again c =
-    let l = c .before .before .before .before .before .before .before .before .before .before .before .before .before .before .before .before .before .before .before .before .loop in
-    let taken = c .before .before .before .before .before .before .take-bytes in (
-      c .before .before .before .before .before .before .before .before .before .before .before .before .before .before .before .before .before .read .kept .1 .0 ∙ l .inv .0,
-      taken .kept .1 .1 .0 ∙ l .inv .1,
-      taken .kept .1 .1 .1 .0 ∙ l .inv .2,
-      taken .kept .1 .1 .1 .1 .0 ∙ l .inv .3,
+    let l = c .before .before .before .before .before .before .before .before .before .before .before .before .before .before .before .before .before .before .before .loop in
+    let taken = c .before .before .before .before .before .before .pass-on in (
+      c .before .before .before .before .before .before .before .before .before .before .before .before .before .before .before .before .read .kept .1 .0 ∙ l .inv .0,
+      taken .kept .1 .1 .1 .0 ∙ l .inv .1,
+      taken .kept .1 .1 .1 .1 .0 ∙ l .inv .2,
+      taken .kept .1 .1 .1 .1 .1 .0 ∙ l .inv .3,
       coming-more (taken .ensures) (l .inv .4),
     )
 
@@ -109,10 +100,7 @@ read-all-spec =
     same-length-3
     same-length-4
     returns
-    sub-take-bytes
-    part-take-bytes-start
-    part-take-bytes-end
-    take-bytes-requires
+    pass-on-requires
     sub-turns
     loop-less
     loop-again
