@@ -23,20 +23,20 @@ loop-holds c = search needs
 find-requires : tie.Need-find-requires Inv-loop μ-loop
 find-requires c κs = search needs
 
-slice-aggregate-case : tie.Need-slice-aggregate-case Inv-loop μ-loop
-slice-aggregate-case c = search needs
+slice-aggregate-run : tie.Need-slice-aggregate-run Inv-loop μ-loop
+slice-aggregate-run c = search needs
 
-sub-case : tie.Need-sub-case Inv-loop μ-loop
-sub-case c = search needs
+sub-run : tie.Need-sub-run Inv-loop μ-loop
+sub-run c = search needs
 
-part-case-start : tie.Need-part-case-start Inv-loop μ-loop
-part-case-start c = search needs
+part-run-start : tie.Need-part-run-start Inv-loop μ-loop
+part-run-start c = search needs
 
-part-case-end : tie.Need-part-case-end Inv-loop μ-loop
-part-case-end c = search needs
+part-run-end : tie.Need-part-run-end Inv-loop μ-loop
+part-run-end c = search needs
 
-case-requires : tie.Need-case-requires Inv-loop μ-loop
-case-requires c κs = search needs
+run-requires : tie.Need-run-requires Inv-loop μ-loop
+run-requires c κs = search needs
 
 add-at : tie.Need-add-at Inv-loop μ-loop
 add-at c = search needs
@@ -60,11 +60,11 @@ table-spec =
     spell-requires
     loop-holds
     find-requires
-    slice-aggregate-case
-    sub-case
-    part-case-start
-    part-case-end
-    case-requires
+    slice-aggregate-run
+    sub-run
+    part-run-start
+    part-run-end
+    run-requires
     add-at
     loop-less
     loop-again
