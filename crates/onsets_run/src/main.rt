@@ -61,6 +61,20 @@ flux of nan, 0 in 1 slot|26|28|2|1|1|3",
 
 // The magnitudes from c[1] to c[2], as c[3] rows of c[4] bins, into the first c[5] slots; c[6] slots are shown.
 fn flux(c: [usize; 10]) {
+    let end = numbers::least(c[2], 28);
+    flux_of(
+        numbers::least(c[1], end),
+        end,
+        c[3],
+        c[4],
+        numbers::least(c[5], 26),
+        c[6],
+    );
+}
+
+fn flux_of(from: usize, end: usize, rows: usize, bins: usize, room: usize, shown: usize)
+    requires { ⌜ (from ≤ end) × (end ≤ 28) × (room ≤ 26) ⌝ }
+{
     let most = 85070591730234615865843651857942052864.0f32; // 2^126
     let above = 85070601871439417691678863815628095488.0f32;
     let slab = [
@@ -94,15 +108,9 @@ fn flux(c: [usize; 10]) {
         0.0,
     ];
     let mut out = [9.0f64; 26];
-    let end = numbers::least(c[2], 28);
-    show::small(flux::spectral_flux(
-        &slab[numbers::least(c[1], end)..end],
-        c[3],
-        c[4],
-        &mut out[0..numbers::least(c[5], 26)],
-    ));
+    show::small(flux::spectral_flux(&slab[from..end], rows, bins, &mut out[0..room]));
     show::words(b",");
-    slots(&out, 0, c[6]);
+    slots(&out, 0, shown);
     show::end();
 }
 
@@ -141,6 +149,29 @@ threshold of nan, 0 with 1|33|35|3|1|3|2|2",
 
 // The slots from c[1] to c[2], into the first c[3] slots, with c[4] to sort in; c[5] slots are shown, and those to sort in from c[6] to c[7].
 fn threshold(c: [usize; 10]) {
+    let end = numbers::least(c[2], 35);
+    threshold_of(
+        numbers::least(c[1], end),
+        end,
+        numbers::least(c[3], 26),
+        numbers::least(c[4], 26),
+        c[5],
+        c[6],
+        c[7],
+    );
+}
+
+fn threshold_of(
+    from: usize,
+    end: usize,
+    room: usize,
+    sorting: usize,
+    shown: usize,
+    kept: usize,
+    last: usize,
+)
+    requires { ⌜ (from ≤ end) × (end ≤ 35) × (room ≤ 26) × (sorting ≤ 26) ⌝ }
+{
     let most = 1427247692705959881058285969449495136382746624.0f64; // 2^150
     let above = 1427247692705960198040629304906567743379996672.0f64;
     let flux = [
@@ -182,16 +213,15 @@ fn threshold(c: [usize; 10]) {
     ];
     let mut out = [9.0f64; 26];
     let mut work = [9.0f64; 26];
-    let end = numbers::least(c[2], 35);
     show::small(threshold::adaptive_threshold(
-        &flux[numbers::least(c[1], end)..end],
-        &mut out[0..numbers::least(c[3], 26)],
-        &mut work[0..numbers::least(c[4], 26)],
+        &flux[from..end],
+        &mut out[0..room],
+        &mut work[0..sorting],
     ));
     show::words(b",");
-    slots(&out, 0, c[5]);
+    slots(&out, 0, shown);
     show::words(b", work");
-    slots(&work, c[6], c[7]);
+    slots(&work, kept, last);
     show::end();
 }
 
@@ -227,6 +257,22 @@ onsets above nan|39|42|37|40|48000|3|3",
 
 // The slots from c[1] to c[2] with the thresholds from c[3] to c[4], at rate c[5], into the first c[6] slots; c[7] are shown.
 fn onsets(c: [usize; 10]) {
+    let end = numbers::least(c[2], 45);
+    let high = numbers::least(c[4], 40);
+    onsets_of(
+        numbers::least(c[1], end),
+        end,
+        numbers::least(c[3], high),
+        high,
+        small(c[5]),
+        numbers::least(c[6], 26),
+        c[7],
+    );
+}
+
+fn onsets_of(from: usize, end: usize, low: usize, high: usize, rate: u32, room: usize, shown: usize)
+    requires { ⌜ (from ≤ end) × (end ≤ 45) × (low ≤ high) × (high ≤ 40) × (room ≤ 26) ⌝ }
+{
     let most = 1427247692705959881058285969449495136382746624.0f64; // 2^150
     let above = 1427247692705960198040629304906567743379996672.0f64;
     let nan = 0.0f64 / 0.0;
@@ -320,15 +366,13 @@ fn onsets(c: [usize; 10]) {
         1.0,
     ];
     let mut frames = [77u32; 26];
-    let end = numbers::least(c[2], 45);
-    let last = numbers::least(c[4], 40);
     let r = onsets::pick_onsets(
-        &flux[numbers::least(c[1], end)..end],
-        &level[numbers::least(c[3], last)..last],
-        small(c[5]),
-        &mut frames[0..numbers::least(c[6], 26)],
+        &flux[from..end],
+        &level[low..high],
+        rate,
+        &mut frames[0..room],
     );
-    listing(r, &frames, c[7]);
+    listing(r, &frames, shown);
 }
 
 fn listing(r: Listing, frames: &[u32; 26], shown: usize) {
@@ -373,9 +417,36 @@ nan in 1 slot|1|2|0|2|57|60|9|1|2",
 
 // The first c[4] of the peaks c[1] to c[3], of the curve from c[5] to c[6], with gap c[7], into the first c[8] slots; c[9] are shown.
 fn suppression(c: [usize; 10]) {
+    let end = numbers::least(c[6], 60);
+    suppression_of(
+        small(c[1]),
+        small(c[2]),
+        small(c[3]),
+        numbers::least(c[4], 3),
+        numbers::least(c[5], end),
+        end,
+        c[7],
+        numbers::least(c[8], 26),
+        c[9],
+    );
+}
+
+fn suppression_of(
+    p: u32,
+    q: u32,
+    r: u32,
+    many: usize,
+    from: usize,
+    end: usize,
+    gap: usize,
+    room: usize,
+    shown: usize,
+)
+    requires { ⌜ (many ≤ 3) × (from ≤ end) × (end ≤ 60) × (room ≤ 26) ⌝ }
+{
     let most = 1427247692705959881058285969449495136382746624.0f64; // 2^150
     let below = -1427247692705960198040629304906567743379996672.0f64;
-    let peaks = [small(c[1]), small(c[2]), small(c[3])];
+    let peaks = [p, q, r];
     let curve = [
         0.0f64,
         0.0,
@@ -439,14 +510,13 @@ fn suppression(c: [usize; 10]) {
         0.0f64 / 0.0,
     ];
     let mut frames = [77u32; 26];
-    let end = numbers::least(c[6], 60);
-    let r = onsets::peaks::suppress_close_peaks(
-        &peaks[0..numbers::least(c[4], 3)],
-        &curve[numbers::least(c[5], end)..end],
-        c[7],
-        &mut frames[0..numbers::least(c[8], 26)],
+    let kept = onsets::peaks::suppress_close_peaks(
+        &peaks[0..many],
+        &curve[from..end],
+        gap,
+        &mut frames[0..room],
     );
-    listing(r, &frames, c[9]);
+    listing(kept, &frames, shown);
 }
 
 // ---- times and gaps
@@ -469,13 +539,20 @@ times of 0 frames in 0 slots|1048576|0|48000|0",
 
 // The first c[2] of four frames, the last of them c[1], at rate c[3], into the first c[4] of five slots.
 fn times(c: [usize; 10]) {
-    let frames = [2u32, 0, 100, small(c[1])];
-    let mut ms = [9.0f64; 26];
-    show::small(onsets::frame_times(
-        &frames[0..numbers::least(c[2], 4)],
+    times_of(
+        small(c[1]),
+        numbers::least(c[2], 4),
         small(c[3]),
-        &mut ms[0..numbers::least(c[4], 26)],
-    ));
+        numbers::least(c[4], 26),
+    );
+}
+
+fn times_of(last: u32, many: usize, rate: u32, room: usize)
+    requires { ⌜ (many ≤ 4) × (room ≤ 26) ⌝ }
+{
+    let frames = [2u32, 0, 100, last];
+    let mut ms = [9.0f64; 26];
+    show::small(onsets::frame_times(&frames[0..many], rate, &mut ms[0..room]));
     show::words(b",");
     slots(&ms, 0, 5);
     show::end();
