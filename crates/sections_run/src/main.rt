@@ -2,7 +2,8 @@
 // sections, the count, the confidence, and each slot that is promised, those that were not lent too. Sorting room is printed past the
 // novelty's slots, and whole at a refusal. The file stdout holds what must come out: numbers by document 01, values by the Rust.
 //
-// The cases stand in tables, one to a line, with bars between the columns: the label, then the numbers that the function of that name takes.
+// The cases stand in tables, one to a line, with bars between the columns: the label, for boundaries the curve, and the numbers that the function
+// of that name takes.
 ghost use Prim.Native.Nat.{_≤_};
 use sections::Sections;
 
@@ -24,49 +25,48 @@ fn main() {
 
 // ---- boundaries
 
-// A curve with seven peaks: 5, 7, 5, 9, 7, 5 and 3.
+// Curves with up to seven peaks: 5, 7, 5, 9, 7, 5 and 3.
 fn hills() {
     table(
         BOUNDARIES,
-        b"015h07105q09h070150h30h0",
-        b"hills, at most 10 sections|24|192000|48000|10|26|26
-at most 9|24|192000|48000|9|26|26
-at most 8|24|192000|48000|8|26|26
-at most 7|24|192000|48000|7|26|26
-at most 6|24|192000|48000|6|26|26
-at most 5|24|192000|48000|5|26|26
-at most 4|24|192000|48000|4|26|26
-at most 3|24|192000|48000|3|26|26
-at most 2|24|192000|48000|2|26|26
-at most 1|24|192000|48000|1|26|26
-at most 0|24|192000|48000|0|26|26
-17 rows|17|192000|48000|10|26|26
-16 rows|16|192000|48000|10|26|26
-15 rows|15|192000|48000|10|26|26
-2 rows|2|192000|48000|10|26|26
-1 rows|1|192000|48000|10|26|26
-0 rows|0|192000|48000|10|26|26
-24 rows in 24 slots|24|192000|48000|10|24|24
-in 23 slots of rows|24|192000|48000|10|23|24
-in 23 slots of work|24|192000|48000|10|24|23
-15 rows in 15 slots|15|192000|48000|10|15|15
-in 14 slots of rows|15|192000|48000|10|14|15
-in 14 slots of work|15|192000|48000|10|15|14
-no rows in no slots|0|192000|48000|10|0|0
-length 0 at rate 48000|24|0|48000|3|26|26
-length 1 at rate 48000|24|1|48000|3|26|26
-length 2147483648 at rate 48000|24|2147483648|48000|3|26|26
-length 2147483649 at rate 48000|24|2147483649|48000|3|26|26
-length 192000 at rate 0|24|192000|0|3|26|26
-length 192000 at rate 1|24|192000|1|3|26|26
-length 192000 at rate 192000|24|192000|192000|3|26|26
-length 192000 at rate 192001|24|192000|192001|3|26|26
-length 1 at rate 1|24|1|1|10|26|26
-length 1 at rate 192000|24|1|192000|10|26|26
-length 2147483648 at rate 1|24|2147483648|1|10|26|26
-length 2147483648 at rate 192000|24|2147483648|192000|10|26|26
-length 24000 at rate 48000, gap 8|24|24000|48000|10|26|26
-length 0 in 23 slots|24|0|48000|10|23|26",
+        b"hills, at most 10 sections|015h07105q09h070150h30h0|192000|48000|10|26|26
+at most 9|015h07105q09h070150h30h0|192000|48000|9|26|26
+at most 8|015h07105q09h070150h30h0|192000|48000|8|26|26
+at most 7|015h07105q09h070150h30h0|192000|48000|7|26|26
+at most 6|015h07105q09h070150h30h0|192000|48000|6|26|26
+at most 5|015h07105q09h070150h30h0|192000|48000|5|26|26
+at most 4|015h07105q09h070150h30h0|192000|48000|4|26|26
+at most 3|015h07105q09h070150h30h0|192000|48000|3|26|26
+at most 2|015h07105q09h070150h30h0|192000|48000|2|26|26
+at most 1|015h07105q09h070150h30h0|192000|48000|1|26|26
+at most 0|015h07105q09h070150h30h0|192000|48000|0|26|26
+17 rows|015h07105q09h0701|192000|48000|10|26|26
+16 rows|015h07105q09h070|192000|48000|10|26|26
+15 rows|015h07105q09h07|192000|48000|10|26|26
+2 rows|01|192000|48000|10|26|26
+1 rows|0|192000|48000|10|26|26
+0 rows||192000|48000|10|26|26
+24 rows in 24 slots|015h07105q09h070150h30h0|192000|48000|10|24|24
+in 23 slots of rows|015h07105q09h070150h30h0|192000|48000|10|23|24
+in 23 slots of work|015h07105q09h070150h30h0|192000|48000|10|24|23
+15 rows in 15 slots|015h07105q09h07|192000|48000|10|15|15
+in 14 slots of rows|015h07105q09h07|192000|48000|10|14|15
+in 14 slots of work|015h07105q09h07|192000|48000|10|15|14
+no rows in no slots||192000|48000|10|0|0
+length 0 at rate 48000|015h07105q09h070150h30h0|0|48000|3|26|26
+length 1 at rate 48000|015h07105q09h070150h30h0|1|48000|3|26|26
+length 2147483648 at rate 48000|015h07105q09h070150h30h0|2147483648|48000|3|26|26
+length 2147483649 at rate 48000|015h07105q09h070150h30h0|2147483649|48000|3|26|26
+length 192000 at rate 0|015h07105q09h070150h30h0|192000|0|3|26|26
+length 192000 at rate 1|015h07105q09h070150h30h0|192000|1|3|26|26
+length 192000 at rate 192000|015h07105q09h070150h30h0|192000|192000|3|26|26
+length 192000 at rate 192001|015h07105q09h070150h30h0|192000|192001|3|26|26
+length 1 at rate 1|015h07105q09h070150h30h0|1|1|10|26|26
+length 1 at rate 192000|015h07105q09h070150h30h0|1|192000|10|26|26
+length 2147483648 at rate 1|015h07105q09h070150h30h0|2147483648|1|10|26|26
+length 2147483648 at rate 192000|015h07105q09h070150h30h0|2147483648|192000|10|26|26
+length 24000 at rate 48000, gap 8|015h07105q09h070150h30h0|24000|48000|10|26|26
+length 0 in 23 slots|015h07105q09h070150h30h0|0|48000|10|23|26",
     );
 }
 
@@ -74,68 +74,26 @@ length 0 in 23 slots|24|0|48000|10|23|26",
 fn others() {
     table(
         BOUNDARIES,
-        b"00t0000t0000t000",
-        b"three thirds, held to 1|16|192000|48000|10|26|26
-two of three thirds|16|192000|48000|3|26|26",
-    );
-    table(
-        BOUNDARIES,
-        b"mmmmzmmmm0mmmmmm",
-        b"the greater of two zeros|16|192000|48000|2|26|26",
-    );
-    table(
-        BOUNDARIES,
-        b"ffffffffffffffff",
-        b"a flat curve|16|192000|48000|10|26|26",
-    );
-    table(
-        BOUNDARIES,
-        b"0202020205020202",
-        b"a peak at the threshold|16|192000|48000|10|26|26",
-    );
-    table(
-        BOUNDARIES,
-        b"020202020u020202",
-        b"a peak above the threshold|16|192000|48000|10|26|26",
+        b"three thirds, held to 1|00t0000t0000t000|192000|48000|10|26|26
+two of three thirds|00t0000t0000t000|192000|48000|3|26|26
+the greater of two zeros|mmmmzmmmm0mmmmmm|192000|48000|2|26|26
+a flat curve|ffffffffffffffff|192000|48000|10|26|26
+a peak at the threshold|0202020205020202|192000|48000|10|26|26
+a peak above the threshold|020202020u020202|192000|48000|10|26|26",
     );
 }
 
 fn values() {
     table(
         BOUNDARIES,
-        b"000b00000B000000",
-        b"2^150 and -2^150|16|192000|48000|10|26|26",
-    );
-    table(
-        BOUNDARIES,
-        b"000a000000000000",
-        b"the next above 2^150|16|192000|48000|10|26|26",
-    );
-    table(
-        BOUNDARIES,
-        b"000000000A000000",
-        b"the next below -2^150|16|192000|48000|10|26|26",
-    );
-    table(
-        BOUNDARIES,
-        b"000000000n000000",
-        b"a nan|16|192000|48000|10|26|26",
-    );
-    table(
-        BOUNDARIES,
-        b"000i000000000000",
-        b"infinity|16|192000|48000|10|26|26",
-    );
-    table(
-        BOUNDARIES,
-        b"000000000I000000",
-        b"-infinity|16|192000|48000|10|26|26",
-    );
-    table(
-        BOUNDARIES,
-        b"000000000n000000",
-        b"a nan in 15 slots|16|192000|48000|10|15|26
-a nan in 15 rows|15|192000|48000|10|26|26",
+        b"2^150 and -2^150|000b00000B000000|192000|48000|10|26|26
+the next above 2^150|000a000000000000|192000|48000|10|26|26
+the next below -2^150|000000000A000000|192000|48000|10|26|26
+a nan|000000000n000000|192000|48000|10|26|26
+infinity|000i000000000000|192000|48000|10|26|26
+-infinity|000000000I000000|192000|48000|10|26|26
+a nan in 15 slots|000000000n000000|192000|48000|10|15|26
+a nan in 15 rows|000000000n00000|192000|48000|10|26|26",
     );
 }
 
@@ -176,15 +134,32 @@ fn spell(text: &[u8], values: &mut [f64]) {
     }
 }
 
-// The first c[1] rows of the curve, c[2] samples at rate c[3], at most c[4] sections, the first c[5] slots of rows and c[6] of work.
-fn boundaries(curve: &[f64], c: [usize; 10]) {
-    boundaries_of(
-        &curve[0..numbers::least(c[1], curve.len())],
+// The curve that the text spells after a bar, c[2] samples at rate c[3], at most c[4] sections, the first c[5] slots of rows and c[6] of work.
+fn boundaries(text: &[u8], c: [usize; 10]) {
+    let from = numbers::least(1, text.len());
+    let end = bytes::scan::find(text, from, text.len(), b'|');
+    boundaries_by(
+        &text[from..end],
         c[2] as u64,
         small(c[3]),
         c[4],
         numbers::least(c[5], 26),
         numbers::least(c[6], 26),
+    );
+}
+
+fn boundaries_by(text: &[u8], samples: u64, rate: u32, most: usize, room: usize, space: usize)
+    requires { ⌜ (room ≤ 26) × (space ≤ 26) ⌝ }
+{
+    let mut curve = [0.0f64; 24];
+    spell(text, &mut curve);
+    boundaries_of(
+        &curve[0..numbers::least(text.len(), 24)],
+        samples,
+        rate,
+        most,
+        room,
+        space,
     );
 }
 
@@ -233,12 +208,16 @@ fn slots(xs: &[f64], from: usize, to: usize) {
 
 // 50,000 rows, with one peak.
 fn longest() {
-    let mut curve = [0.0f64; 50001];
+    let mut curve = [0.0f64; 50000];
     set(&mut curve, 49997, 5.0);
     let mut rows = [777u32; 50001];
     let mut work = [9.0f64; 50001];
     show::words(b"50000 rows");
-    answer(sections::boundaries(&curve[0..50000], 192000, 48000, 10, &mut rows, &mut work));
+    answer(sections::boundaries(&curve, 192000, 48000, 10, &mut rows, &mut work));
+    first_two(&rows);
+}
+
+fn first_two(rows: &[u32; 50001]) {
     show::small(rows[0]);
     show::small(rows[1]);
     show::end();
@@ -264,7 +243,6 @@ fn too_long() {
 fn time_lists() {
     table(
         TIMES,
-        b"",
         b"times|0|4|24000|48000|4
 times in 6 slots|0|4|24000|48000|6
 times in 3 slots|0|4|24000|48000|3
@@ -314,7 +292,6 @@ fn six(ms: &[f64; 6]) {
 fn gaps() {
     table(
         GAPS,
-        b"",
         b"gap 1 1|1|1
 gap 1 192000|1|192000
 gap 2147483648 1|2147483648|1
@@ -339,30 +316,30 @@ fn gap(c: [usize; 10]) {
 
 // ---- the tables
 
-fn table(call: usize, text: &[u8], lines: &[u8]) {
-    let mut curve = [0.0f64; 24];
-    spell(text, &mut curve);
+fn table(call: usize, lines: &[u8]) {
     let mut at = 0;
     while at < lines.len() {
         let end = bytes::scan::find(lines, at, lines.len(), b'\n');
-        line(call, &curve, &lines[at..end]);
+        line(call, &lines[at..end]);
         at = end + 1;
     }
 }
 
-fn line(call: usize, curve: &[f64], line: &[u8]) {
-    show::words(&line[0..bytes::scan::find(line, 0, line.len(), b'|')]);
-    run(call, curve, columns(line));
+fn line(call: usize, line: &[u8]) {
+    let bar = bytes::scan::find(line, 0, line.len(), b'|');
+    show::words(&line[0..bar]);
+    run(call, &line[bar..], columns(line));
 }
 
-fn run(call: usize, curve: &[f64], c: [usize; 10]) {
+// The text is what stands behind the label.
+fn run(call: usize, text: &[u8], c: [usize; 10]) {
     if call == TIMES {
         return times(c);
     }
     if call == GAPS {
         return gap(c);
     }
-    boundaries(curve, c);
+    boundaries(text, c);
 }
 
 // The numbers in the columns of a line. Column 0, the label, means nothing.

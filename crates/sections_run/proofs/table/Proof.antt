@@ -6,25 +6,16 @@ use Rattle.sections_run.proofs.table.Statement.{statement}
 use Rattle.sections_run.proofs.table.Tie as tie
 
 abbrev Inv-loop : tie.InvT-loop
-Inv-loop call text lines curve at₀ at = at ≤ length lines + 1
+Inv-loop call lines at₀ at = at ≤ length lines + 1
 
 abbrev μ-loop : tie.MeasureT-loop
-μ-loop call text lines curve at₀ at = length lines - at
-
-slice-aggregate-spell : tie.Need-slice-aggregate-spell Inv-loop μ-loop
-slice-aggregate-spell c = search needs
-
-spell-requires : tie.Need-spell-requires Inv-loop μ-loop
-spell-requires c κs = search needs
+μ-loop call lines at₀ at = length lines - at
 
 loop-holds : tie.Need-loop-holds Inv-loop μ-loop
 loop-holds c = search needs
 
 find-requires : tie.Need-find-requires Inv-loop μ-loop
 find-requires c κs = search needs
-
-slice-aggregate-line : tie.Need-slice-aggregate-line Inv-loop μ-loop
-slice-aggregate-line c = search needs
 
 sub-line : tie.Need-sub-line Inv-loop μ-loop
 sub-line c = search needs
@@ -56,11 +47,8 @@ table-spec =
     (tie.spec
     Inv-loop
     μ-loop
-    slice-aggregate-spell
-    spell-requires
     loop-holds
     find-requires
-    slice-aggregate-line
     sub-line
     part-line-start
     part-line-end
