@@ -634,7 +634,7 @@ fn column_at(k: usize, byte: u8) -> usize
     numbers::least(k, 9)
 }
 
-// The number with a digit more, and the largest where it would be too large. Other bytes leave it.
+// The number with a digit more, and the largest of all where that comes near it or above it. Other bytes leave it.
 fn with_digit(n: usize, byte: u8) -> usize {
     let digit = std::num::wrapping_sub_u8(byte, b'0');
     if digit > 9 {
@@ -646,6 +646,7 @@ fn with_digit(n: usize, byte: u8) -> usize {
     n * 10 + digit as usize
 }
 
+// The number as a u32, or the largest of them.
 fn small(n: usize) -> u32 {
     numbers::least(n, 4294967295) as u32
 }

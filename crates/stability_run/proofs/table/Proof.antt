@@ -6,10 +6,10 @@ use Rattle.stability_run.proofs.table.Statement.{statement}
 use Rattle.stability_run.proofs.table.Tie as tie
 
 abbrev Inv-loop : tie.InvT-loop
-Inv-loop envelope shown lines e at₀ at = at ≤ length lines + 1
+Inv-loop text shown lines envelope at₀ at = at ≤ length lines + 1
 
 abbrev μ-loop : tie.MeasureT-loop
-μ-loop envelope shown lines e at₀ at = length lines - at
+μ-loop text shown lines envelope at₀ at = length lines - at
 
 slice-aggregate-spell : tie.Need-slice-aggregate-spell Inv-loop μ-loop
 slice-aggregate-spell c = search needs
@@ -23,20 +23,20 @@ loop-holds c = search needs
 find-requires : tie.Need-find-requires Inv-loop μ-loop
 find-requires c κs = search needs
 
-slice-aggregate-run : tie.Need-slice-aggregate-run Inv-loop μ-loop
-slice-aggregate-run c = search needs
+slice-aggregate-line : tie.Need-slice-aggregate-line Inv-loop μ-loop
+slice-aggregate-line c = search needs
 
-sub-run : tie.Need-sub-run Inv-loop μ-loop
-sub-run c = search needs
+sub-line : tie.Need-sub-line Inv-loop μ-loop
+sub-line c = search needs
 
-part-run-start : tie.Need-part-run-start Inv-loop μ-loop
-part-run-start c = search needs
+part-line-start : tie.Need-part-line-start Inv-loop μ-loop
+part-line-start c = search needs
 
-part-run-end : tie.Need-part-run-end Inv-loop μ-loop
-part-run-end c = search needs
+part-line-end : tie.Need-part-line-end Inv-loop μ-loop
+part-line-end c = search needs
 
-run-requires : tie.Need-run-requires Inv-loop μ-loop
-run-requires c κs = search needs
+line-requires : tie.Need-line-requires Inv-loop μ-loop
+line-requires c κs = search needs
 
 add-at : tie.Need-add-at Inv-loop μ-loop
 add-at c = search needs
@@ -60,11 +60,11 @@ table-spec =
     spell-requires
     loop-holds
     find-requires
-    slice-aggregate-run
-    sub-run
-    part-run-start
-    part-run-end
-    run-requires
+    slice-aggregate-line
+    sub-line
+    part-line-start
+    part-line-end
+    line-requires
     add-at
     loop-less
     loop-again
