@@ -132,42 +132,6 @@ fn lists_are(onsets: &[u32; 50], back: &[u32; 50], beats: &[u32; 50], downbeats:
 // Analyses an envelope with the slice `short` of the eleven, counted from 1, one slot short; 0: exactly the room; 12: two slots more in each.
 // Every slice is shown with two slots past its room.
 fn lent(envelope: &[f64], rate: u32, short: usize) {
-    analyse(
-        envelope,
-        rate,
-        slots(48, 1, short),
-        slots(48, 2, short),
-        slots(15, 3, short),
-        slots(15, 4, short),
-        slots(15, 5, short),
-        slots(15, 6, short),
-        slots(48, 7, short),
-        slots(48, 8, short),
-        slots(48, 9, short),
-        slots(48, 10, short),
-        slots(21, 11, short),
-    );
-}
-
-// So many slots of each slice are lent.
-fn analyse(
-    envelope: &[f64],
-    rate: u32,
-    threshold_slots: usize,
-    onset_slots: usize,
-    clarity_slots: usize,
-    weight_slots: usize,
-    window_clarity_slots: usize,
-    window_weight_slots: usize,
-    score_slots: usize,
-    back_slots: usize,
-    beat_slots: usize,
-    downbeat_slots: usize,
-    work_slots: usize,
-)
-    requires { ⌜ («threshold_slots» ≤ 50) × («onset_slots» ≤ 50) × («clarity_slots» ≤ 17) × («weight_slots» ≤ 17) × («window_clarity_slots» ≤ 17) × («window_weight_slots» ≤ 17) ⌝ }
-    requires { ⌜ («score_slots» ≤ 50) × («back_slots» ≤ 50) × («beat_slots» ≤ 50) × («downbeat_slots» ≤ 50) × («work_slots» ≤ 23) ⌝ }
-{
     let mut threshold = [9.0f64; 50];
     let mut onsets = [77u32; 50];
     let mut clarity = [9.0f64; 17];
@@ -183,17 +147,17 @@ fn analyse(
         envelope,
         rate,
         TempoOpts::new(),
-        &mut threshold[0..threshold_slots],
-        &mut onsets[0..onset_slots],
-        &mut clarity[0..clarity_slots],
-        &mut weight[0..weight_slots],
-        &mut window_clarity[0..window_clarity_slots],
-        &mut window_weight[0..window_weight_slots],
-        &mut score[0..score_slots],
-        &mut back[0..back_slots],
-        &mut beats[0..beat_slots],
-        &mut downbeats[0..downbeat_slots],
-        &mut work[0..work_slots],
+        &mut threshold[0..slots(48, 1, short)],
+        &mut onsets[0..slots(48, 2, short)],
+        &mut clarity[0..slots(15, 3, short)],
+        &mut weight[0..slots(15, 4, short)],
+        &mut window_clarity[0..slots(15, 5, short)],
+        &mut window_weight[0..slots(15, 6, short)],
+        &mut score[0..slots(48, 7, short)],
+        &mut back[0..slots(48, 8, short)],
+        &mut beats[0..slots(48, 9, short)],
+        &mut downbeats[0..slots(48, 10, short)],
+        &mut work[0..slots(21, 11, short)],
     ));
     curves_are(&threshold, &clarity, &weight, &score);
     worked_in(&window_clarity, &window_weight, &work);
