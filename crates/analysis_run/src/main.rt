@@ -2,6 +2,8 @@
 // what must come out.
 //
 // The clicks are four frames apart, from frame 1 on, at rate 2,048: eight frames a second, so 120 beats a minute. The lags are 2 to 16.
+//
+// The cases stand in tables, one to a line, with bars between the columns: the label, then the numbers, and here and there what they are about.
 ghost use Prim.Native.Nat.{_≤_, _+_};
 ghost use lib.ListN.{length};
 use lags::TempoOpts;
@@ -162,23 +164,26 @@ fn lent(envelope: &[f64], rate: u32, short: usize) {
     lists_are(&onsets, &back, &beats, &downbeats);
 }
 
-fn of_envelope(label: &[u8], envelope: &[f64], rate: u32, short: usize) {
-    show::words(label);
-    lent(envelope, rate, short);
+// The columns: so many slots of the envelope, the rate, and the slice that is short.
+fn of_envelope(envelope: &[f64], line: &[u8]) {
+    label(line);
+    lent(
+        &envelope[0..numbers::least(number(line, 1), envelope.len())],
+        rate(number(line, 2)),
+        number(line, 3),
+    );
 }
 
-// Exactly the room, then each of the eleven slices one short.
-fn each_short(envelope: &[f64]) {
-    let mut short = 0;
-    while short < 12 {
-        show::words(b"short");
-        show::count(short);
-        show::words(b":");
-        lent(envelope, 2048, short);
-        short += 1;
+fn of_envelopes(envelope: &[f64], lines: &[u8]) {
+    let mut at = 0;
+    while at < lines.len() {
+        let end = bytes::scan::find(lines, at, lines.len(), b'\n');
+        of_envelope(envelope, &lines[at..end]);
+        at = end + 1;
     }
 }
 
+// Two slots more in each slice; exactly the room, then each of the eleven slices one short; and what is refused.
 fn clicks() {
     let e = [
         0.0f64,
@@ -230,21 +235,36 @@ fn clicks() {
         0.0,
         0.0,
     ];
-    of_envelope(b"clicks:", &e, 2048, 12);
-    of_envelope(b"seventeen slots of them:", &e[0..17], 2048, 12);
-    of_envelope(b"one of them:", &e[0..4], 2048, 12);
-    each_short(&e);
-    refused(&e);
-}
-
-fn refused(e: &[f64]) {
-    let nan = 0.0f64 / 0.0;
-    let odd = [nan; 48];
-    of_envelope(b"a NaN:", &odd, 2048, 0);
-    of_envelope(b"3 before 4:", &odd, 2048, 11);
-    of_envelope(b"rate 0:", e, 0, 0);
-    of_envelope(b"rate 192,001:", e, 192001, 0);
-    of_envelope(b"1 before 3:", e, 0, 11);
+    let odd = [0.0f64 / 0.0; 48];
+    of_envelopes(
+        &e,
+        b"clicks:|48|2048|12
+seventeen slots of them:|17|2048|12
+one of them:|4|2048|12
+short 0:|48|2048|0
+short 1:|48|2048|1
+short 2:|48|2048|2
+short 3:|48|2048|3
+short 4:|48|2048|4
+short 5:|48|2048|5
+short 6:|48|2048|6
+short 7:|48|2048|7
+short 8:|48|2048|8
+short 9:|48|2048|9
+short 10:|48|2048|10
+short 11:|48|2048|11",
+    );
+    of_envelopes(
+        &odd,
+        b"a NaN:|48|2048|0
+3 before 4:|48|2048|11",
+    );
+    of_envelopes(
+        &e,
+        b"rate 0:|48|0|0
+rate 192,001:|48|192001|0
+1 before 3:|48|0|11",
+    );
 }
 
 // The magnitudes whose flux is the clicks, and what is refused of them.
@@ -299,36 +319,40 @@ fn magnitudes() {
         0.0,
         0.0,
     ];
-    each_case(&m);
     let infinite = [1.0f32 / 0.0; 48];
-    show::words(b"an infinity:");
-    of_magnitudes(&infinite, 48, 1, 48);
+    of_each(
+        &m,
+        b"magnitudes 0:|48|48|1|48|clicks of one bin
+magnitudes 1:|48|24|2|48|two bins
+magnitudes 2:|48|48|1|47|flux one short
+magnitudes 3:|0|48|0|48|no bins
+magnitudes 4:|48|0|4097|48|4,097 bins
+magnitudes 5:|47|24|2|48|half a row
+magnitudes 6:|0|0|1|48|no rows
+magnitudes 7:|0|1048577|1|48|1,048,577 rows
+magnitudes 8:|47|24|2|23|2 before 3",
+    );
+    of_each(&infinite, b"an infinity:|48|48|1|48");
 }
 
-// A case: so many of the magnitudes, rows, bins, room for the flux.
-fn each_case(m: &[f32])
-    requires { ⌜ 48 ≤ length (now m) ⌝ }
-{
-    let cases = [
-        [48usize, 48, 1, 48], // 0: clicks of one bin
-        [48, 24, 2, 48], // 1: two bins
-        [48, 48, 1, 47], // 2: flux one short
-        [0, 48, 0, 48], // 3: no bins
-        [48, 0, 4097, 48], // 4: 4,097 bins
-        [47, 24, 2, 48], // 5: half a row
-        [0, 0, 1, 48], // 6: no rows
-        [0, 1048577, 1, 48], // 7: 1,048,577 rows
-        [47, 24, 2, 23], // 8: 2 before 3
-    ];
-    let mut k = 0;
-    while k < 9 {
-        let c = cases[k];
-        show::words(b"magnitudes");
-        show::count(k);
-        show::words(b":");
-        of_magnitudes(&m[0..numbers::least(c[0], 48)], c[1], c[2], c[3]);
-        k += 1;
+fn of_each(magnitudes: &[f32], lines: &[u8]) {
+    let mut at = 0;
+    while at < lines.len() {
+        let end = bytes::scan::find(lines, at, lines.len(), b'\n');
+        of_line(magnitudes, &lines[at..end]);
+        at = end + 1;
     }
+}
+
+// The columns: so many of the magnitudes, rows, bins, room for the flux.
+fn of_line(magnitudes: &[f32], line: &[u8]) {
+    label(line);
+    of_magnitudes(
+        &magnitudes[0..numbers::least(number(line, 1), magnitudes.len())],
+        number(line, 2),
+        number(line, 3),
+        number(line, 4),
+    );
 }
 
 // Everything but the flux has exactly its room; the flux is shown with the slots that are not lent.
@@ -438,4 +462,49 @@ fn main() {
     magnitudes();
     rooms();
     bounds();
+}
+
+// ---- the tables
+
+// Column 0 of a line.
+fn label(line: &[u8]) {
+    show::words(&line[0..bytes::scan::find(line, 0, line.len(), b'|')]);
+}
+
+// The number in a column of a line.
+fn number(line: &[u8], column: usize) -> usize {
+    let mut left = column;
+    let mut n = 0;
+    let mut i = 0;
+    while i < line.len() {
+        let byte = line[i];
+        if byte == b'|' {
+            if left == 0 {
+                return n;
+            }
+            left -= 1;
+            n = 0;
+        } else {
+            n = with_digit(n, byte);
+        }
+        i += 1;
+    }
+    n
+}
+
+// The number with a digit more, and the largest of all where that comes near it or above it. Other bytes leave it.
+fn with_digit(n: usize, byte: u8) -> usize {
+    let digit = std::num::wrapping_sub_u8(byte, b'0');
+    if digit > 9 {
+        return n;
+    }
+    if n > 1844674407370955160 {
+        return 18446744073709551615;
+    }
+    n * 10 + digit as usize
+}
+
+// The number as a u32, or the largest of them.
+fn rate(n: usize) -> u32 {
+    numbers::least(n, 4294967295) as u32
 }

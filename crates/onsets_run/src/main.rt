@@ -1,42 +1,82 @@
 // Runs each call of the crates flux, threshold and onsets on both sides of each boundary of document 01, but for a curve of 1,048,577 slots, which no stack
 // holds: that is proved only. Small inputs too. Prints the number, the count and each slot that is promised, those that were not lent
 // too. The file stdout holds what must come out: numbers by document 01, values by the Rust.
+//
+// The cases stand in tables, one to a line, with bars between the columns: the label, then the numbers that the function of that name takes.
 ghost use Prim.Native.Nat.{_≤_};
-ghost use lib.ListN.{length};
 use numbers::Listing;
 
+const FLUX: usize = 1;
+
+const THRESHOLD: usize = 2;
+
+const ONSETS: usize = 3;
+
+const SUPPRESSION: usize = 4;
+
+const TIMES: usize = 5;
+
+const GAPS: usize = 6;
+
 fn main() {
-    flux_rooms();
-    flux_bounds();
-    flux_sizes();
-    threshold_rooms();
-    threshold_sizes();
-    onset_rates();
-    onset_rooms();
-    onset_values();
-    suppression_gaps();
-    suppression_lists();
-    suppression_values();
-    time_rates();
+    fluxes();
+    thresholds();
+    onset_lists();
+    suppressions();
     time_lists();
     gaps();
 }
 
 // ---- flux
 
-fn flux_part(magnitudes: &[f32], rows: usize, bins: usize, out: &mut [f64], room: usize)
-    requires { ⌜ room ≤ length (now out) ⌝ }
-{
-    show::small(flux::spectral_flux(magnitudes, rows, bins, &mut out[0..room]));
-    show::words(b",");
-    show::floats(out);
-    show::end();
+// Nine rows are slot 0 and twice four slots side by side; seven leave two slots over. Number 2 comes before 3, and says that rows and bins
+// are within their bounds.
+fn fluxes() {
+    table(
+        FLUX,
+        b"flux of 9 rows in 11 slots|0|18|9|2|11|11
+flux of 9 rows in 9 slots|0|18|9|2|9|11
+flux of 9 rows in 8 slots|0|18|9|2|8|11
+flux of 7 rows in 7 slots|0|14|7|2|7|11
+flux of 2 rows of 9 bins|0|18|2|9|2|11
+flux of 1 row in 1 slot|0|3|1|3|1|11
+flux of 0 rows in 0 slots|0|0|0|3|0|11
+flux of 17 magnitudes as 9 rows of 2|0|17|9|2|9|11
+flux of 17 magnitudes as 8 rows of 2 in 7 slots|0|17|8|2|7|11
+flux of 1048576 rows|0|2|1048576|1|2|11
+flux of 1048577 rows|0|2|1048577|1|2|11
+flux of 0 rows of 0 bins|0|0|0|0|2|11
+flux of 2 rows of 1 bin|0|2|2|1|2|11
+flux of 0 rows of 4096 bins|0|0|0|4096|2|11
+flux of 0 rows of 4097 bins|0|0|0|4097|2|11
+flux of most rows and most bins|0|2|1048576|4096|2|11
+flux of -2^126, 2^126|18|20|2|1|2|3
+flux of 0, above 2^126|20|22|2|1|2|3
+flux of below -2^126, 0|22|24|2|1|2|3
+flux of 0, infinity|24|26|2|1|2|3
+flux of nan, 0|26|28|2|1|2|3
+flux of nan, 0 in 1 slot|26|28|2|1|1|3",
+    );
 }
 
-// The first many of eighteen magnitudes, as rows of bins, into the first room of eleven slots.
-fn flux(label: &[u8], many: usize, rows: usize, bins: usize, room: usize)
-    requires { ⌜ (many ≤ 18) × (room ≤ 11) ⌝ }
+// The magnitudes from c[1] to c[2], as c[3] rows of c[4] bins, into the first c[5] slots; c[6] slots are shown.
+fn flux(c: [usize; 10]) {
+    let end = numbers::least(c[2], 28);
+    flux_of(
+        numbers::least(c[1], end),
+        end,
+        c[3],
+        c[4],
+        numbers::least(c[5], 26),
+        c[6],
+    );
+}
+
+fn flux_of(from: usize, end: usize, rows: usize, bins: usize, room: usize, shown: usize)
+    requires { ⌜ (from ≤ end) × (end ≤ 28) × (room ≤ 26) ⌝ }
 {
+    let most = 85070591730234615865843651857942052864.0f32; // 2^126
+    let above = 85070601871439417691678863815628095488.0f32;
     let slab = [
         0.5f32,
         1.0,
@@ -56,100 +96,84 @@ fn flux(label: &[u8], many: usize, rows: usize, bins: usize, room: usize)
         0.4,
         100.0,
         0.001,
+        -most, // 18: two rows of one bin
+        most,
+        0.0, // 20
+        above,
+        -above, // 22
+        0.0,
+        0.0, // 24
+        1.0f32 / 0.0,
+        0.0f32 / 0.0, // 26
+        0.0,
     ];
-    let mut out = [9.0f64; 11];
-    show::words(label);
-    flux_part(&slab[0..many], rows, bins, &mut out, room);
+    let mut out = [9.0f64; 26];
+    show::small(flux::spectral_flux(&slab[from..end], rows, bins, &mut out[0..room]));
+    show::words(b",");
+    slots(&out, 0, shown);
+    show::end();
 }
 
-// Nine rows are slot 0 and twice four slots side by side; seven leave two slots over. Number 2 comes before 3.
-fn flux_rooms() {
-    flux(b"flux of 9 rows in 11 slots", 18, 9, 2, 11);
-    flux(b"flux of 9 rows in 9 slots", 18, 9, 2, 9);
-    flux(b"flux of 9 rows in 8 slots", 18, 9, 2, 8);
-    flux(b"flux of 7 rows in 7 slots", 14, 7, 2, 7);
-    flux(b"flux of 2 rows of 9 bins", 18, 2, 9, 2);
-    flux(b"flux of 1 row in 1 slot", 3, 1, 3, 1);
-    flux(b"flux of 0 rows in 0 slots", 0, 0, 3, 0);
-    flux(b"flux of 17 magnitudes as 9 rows of 2", 17, 9, 2, 9);
-    flux(
-        b"flux of 17 magnitudes as 8 rows of 2 in 7 slots",
-        17,
-        8,
-        2,
-        7,
-    );
+// The slots from `from` to `to`, lent or not.
+fn slots(xs: &[f64; 26], from: usize, to: usize) {
+    part(xs, from, to);
 }
 
-// Number 2 says that rows and bins are within their bounds.
-fn flux_bounds() {
-    flux(b"flux of 1048576 rows", 2, 1048576, 1, 2);
-    flux(b"flux of 1048577 rows", 2, 1048577, 1, 2);
-    flux(b"flux of 0 rows of 0 bins", 0, 0, 0, 2);
-    flux(b"flux of 2 rows of 1 bin", 2, 2, 1, 2);
-    flux(b"flux of 0 rows of 4096 bins", 0, 0, 4096, 2);
-    flux(b"flux of 0 rows of 4097 bins", 0, 0, 4097, 2);
-    flux(b"flux of most rows and most bins", 2, 1048576, 4096, 2);
-}
-
-fn flux_of(label: &[u8], x: f32, y: f32, room: usize)
-    requires { ⌜ room ≤ 3 ⌝ }
-{
-    let slab = [x, y];
-    let mut out = [9.0f64; 3];
-    show::words(label);
-    flux_part(&slab, 2, 1, &mut out, room);
-}
-
-fn flux_sizes() {
-    flux_of(
-        b"flux of -2^126, 2^126",
-        -85070591730234615865843651857942052864.0,
-        85070591730234615865843651857942052864.0,
-        2,
-    );
-    flux_of(
-        b"flux of 0, above 2^126",
-        0.0,
-        85070601871439417691678863815628095488.0,
-        2,
-    );
-    flux_of(
-        b"flux of below -2^126, 0",
-        -85070601871439417691678863815628095488.0,
-        0.0,
-        2,
-    );
-    flux_of(b"flux of 0, infinity", 0.0, 1.0f32 / 0.0, 2);
-    flux_of(b"flux of nan, 0", 0.0f32 / 0.0, 0.0, 2);
-    flux_of(b"flux of nan, 0 in 1 slot", 0.0f32 / 0.0, 0.0, 1);
+fn part(xs: &[f64], from: usize, to: usize) {
+    let end = numbers::least(to, xs.len());
+    show::floats(&xs[numbers::least(from, end)..end]);
 }
 
 // ---- threshold
 
-fn threshold_part(
-    flux: &[f64],
-    out: &mut [f64],
-    room: usize,
-    work: &mut [f64],
-    sorting: usize,
-    from: usize,
-)
-    requires { ⌜ (room ≤ length (now out)) × (sorting ≤ length (now work)) × (from ≤ length (now work)) ⌝ }
-{
-    show::small(threshold::adaptive_threshold(flux, &mut out[0..room], &mut work[0..sorting]));
-    show::words(b",");
-    show::floats(out);
-    show::words(b", work");
-    show::floats(&work[from..]);
-    show::end();
+// A threshold may be larger than 2^150.
+fn thresholds() {
+    table(
+        THRESHOLD,
+        b"threshold of 25 slots in 26 with 22|0|25|26|22|26|21|22
+threshold of 25 slots in 25 with 21|0|25|25|21|26|21|22
+threshold of 25 slots in 24 with 21|0|25|24|21|26|0|22
+threshold of 25 slots in 25 with 20|0|25|25|20|26|0|22
+threshold of 4 slots in 4 with 4|0|4|4|4|26|4|22
+threshold of 4 slots in 4 with 3|0|4|4|3|26|0|22
+threshold of 1 slot in 1 with 1|0|1|1|1|26|1|22
+threshold of 0 slots in 0 with 0|0|0|0|0|26|0|22
+threshold of -2^150, 2^150|25|27|3|2|3|2|2
+threshold of 0, above 2^150|27|29|3|2|3|2|2
+threshold of below -2^150, 0|29|31|3|2|3|2|2
+threshold of 0, -infinity|31|33|3|2|3|2|2
+threshold of nan, 0|33|35|3|2|3|2|2
+threshold of nan, 0 with 1|33|35|3|1|3|2|2",
+    );
 }
 
-// The first many of twenty-five slots, into the first room of twenty-six, with `sorting` of twenty-two to sort in. Slots of these
-// from `from` on are shown.
-fn threshold(label: &[u8], many: usize, room: usize, sorting: usize, from: usize)
-    requires { ⌜ (many ≤ 25) × (room ≤ 26) × (sorting ≤ 22) × (from ≤ 22) ⌝ }
+// The slots from c[1] to c[2], into the first c[3] slots, with c[4] to sort in; c[5] slots are shown, and those to sort in from c[6] to c[7].
+fn threshold(c: [usize; 10]) {
+    let end = numbers::least(c[2], 35);
+    threshold_of(
+        numbers::least(c[1], end),
+        end,
+        numbers::least(c[3], 26),
+        numbers::least(c[4], 26),
+        c[5],
+        c[6],
+        c[7],
+    );
+}
+
+fn threshold_of(
+    from: usize,
+    end: usize,
+    room: usize,
+    sorting: usize,
+    shown: usize,
+    kept: usize,
+    last: usize,
+)
+    requires { ⌜ (from ≤ end) × (end ≤ 35) × (room ≤ 26) × (sorting ≤ 26) ⌝ }
 {
+    let most = 1427247692705959881058285969449495136382746624.0f64; // 2^150
+    let above = 1427247692705960198040629304906567743379996672.0f64;
     let flux = [
         0.0f64,
         1.0,
@@ -176,81 +200,82 @@ fn threshold(label: &[u8], many: usize, room: usize, sorting: usize, from: usize
         1.6,
         0.05,
         0.0,
+        -most, // 25: two slots
+        most,
+        0.0, // 27
+        above,
+        -above, // 29
+        0.0,
+        0.0, // 31
+        -1.0f64 / 0.0,
+        0.0f64 / 0.0, // 33
+        0.0,
     ];
     let mut out = [9.0f64; 26];
-    let mut work = [9.0f64; 22];
-    show::words(label);
-    threshold_part(&flux[0..many], &mut out, room, &mut work, sorting, from);
-}
-
-fn threshold_rooms() {
-    threshold(b"threshold of 25 slots in 26 with 22", 25, 26, 22, 21);
-    threshold(b"threshold of 25 slots in 25 with 21", 25, 25, 21, 21);
-    threshold(b"threshold of 25 slots in 24 with 21", 25, 24, 21, 0);
-    threshold(b"threshold of 25 slots in 25 with 20", 25, 25, 20, 0);
-    threshold(b"threshold of 4 slots in 4 with 4", 4, 4, 4, 4);
-    threshold(b"threshold of 4 slots in 4 with 3", 4, 4, 3, 0);
-    threshold(b"threshold of 1 slot in 1 with 1", 1, 1, 1, 1);
-    threshold(b"threshold of 0 slots in 0 with 0", 0, 0, 0, 0);
-}
-
-fn threshold_of(label: &[u8], x: f64, y: f64, sorting: usize)
-    requires { ⌜ sorting ≤ 2 ⌝ }
-{
-    let flux = [x, y];
-    let mut out = [9.0f64; 3];
-    let mut work = [9.0f64; 2];
-    show::words(label);
-    threshold_part(&flux, &mut out, 3, &mut work, sorting, 2);
-}
-
-// A threshold may be larger than 2^150.
-fn threshold_sizes() {
-    threshold_of(
-        b"threshold of -2^150, 2^150",
-        -1427247692705959881058285969449495136382746624.0,
-        1427247692705959881058285969449495136382746624.0,
-        2,
-    );
-    threshold_of(
-        b"threshold of 0, above 2^150",
-        0.0,
-        1427247692705960198040629304906567743379996672.0,
-        2,
-    );
-    threshold_of(
-        b"threshold of below -2^150, 0",
-        -1427247692705960198040629304906567743379996672.0,
-        0.0,
-        2,
-    );
-    threshold_of(b"threshold of 0, -infinity", 0.0, -1.0f64 / 0.0, 2);
-    threshold_of(b"threshold of nan, 0", 0.0f64 / 0.0, 0.0, 2);
-    threshold_of(b"threshold of nan, 0 with 1", 0.0f64 / 0.0, 0.0, 1);
+    let mut work = [9.0f64; 26];
+    show::small(threshold::adaptive_threshold(
+        &flux[from..end],
+        &mut out[0..room],
+        &mut work[0..sorting],
+    ));
+    show::words(b",");
+    slots(&out, 0, shown);
+    show::words(b", work");
+    slots(&work, kept, last);
+    show::end();
 }
 
 // ---- onsets
 
-fn listing(r: Listing, frames: &[u32]) {
-    show::small(r.number);
-    show::words(b" count");
-    show::count(r.count);
-    show::words(b",");
-    show::smalls(frames);
-    show::end();
+fn onset_lists() {
+    table(
+        ONSETS,
+        b"onsets at 48000|0|24|0|24|48000|26|26
+onsets at 8000|0|24|0|24|8000|26|26
+onsets at 192000|0|24|0|24|192000|26|26
+onsets at 192001|0|24|0|24|192001|26|26
+onsets at 1|0|24|0|24|1|26|26
+onsets at 0|0|24|0|24|0|26|26
+onsets of 24 slots in 24|0|24|0|24|8000|24|26
+onsets of 24 slots in 23|0|24|0|24|8000|23|26
+onsets of 24 slots with 23 thresholds in 23|0|24|0|23|8000|23|26
+onsets of 24 slots with 25 thresholds in 23|0|24|0|25|8000|23|26
+onsets of 4 slots in 4|0|4|0|4|8000|4|26
+onsets of 3 slots in 3|0|3|0|3|8000|3|26
+onsets of 2 slots in 2|0|2|0|2|8000|2|26
+onsets of 0 slots in 0|0|0|0|0|8000|0|26
+onsets of 3, 3, 2|24|27|25|28|48000|3|3
+onsets of 0, 3, 3|27|30|25|28|48000|3|3
+onsets of 0, 3, 0 above 3|30|33|28|31|48000|3|3
+onsets of 0, 2^150, -1 above -2^150|33|36|31|34|48000|3|3
+onsets of above 2^150|36|39|25|28|48000|3|3
+onsets above what is above 2^150|39|42|34|37|48000|3|3
+onsets of nan|42|45|25|28|48000|3|3
+onsets above nan|39|42|37|40|48000|3|3",
+    );
 }
 
-fn picked(flux: &[f64], level: &[f64], rate: u32, frames: &mut [u32], room: usize)
-    requires { ⌜ room ≤ length (now frames) ⌝ }
-{
-    let r = onsets::pick_onsets(flux, level, rate, &mut frames[0..room]);
-    listing(r, frames);
+// The slots from c[1] to c[2] with the thresholds from c[3] to c[4], at rate c[5], into the first c[6] slots; c[7] are shown.
+fn onsets(c: [usize; 10]) {
+    let end = numbers::least(c[2], 45);
+    let high = numbers::least(c[4], 40);
+    onsets_of(
+        numbers::least(c[1], end),
+        end,
+        numbers::least(c[3], high),
+        high,
+        small(c[5]),
+        numbers::least(c[6], 26),
+        c[7],
+    );
 }
 
-// The first many of twenty-four slots with the first levels of twenty-five thresholds, into the first room of twenty-six.
-fn onset(label: &[u8], many: usize, levels: usize, rate: u32, room: usize)
-    requires { ⌜ (many ≤ 24) × (levels ≤ 25) × (room ≤ 26) ⌝ }
+fn onsets_of(from: usize, end: usize, low: usize, high: usize, rate: u32, room: usize, shown: usize)
+    requires { ⌜ (from ≤ end) × (end ≤ 45) × (low ≤ high) × (high ≤ 40) × (room ≤ 26) ⌝ }
 {
+    let most = 1427247692705959881058285969449495136382746624.0f64; // 2^150
+    let above = 1427247692705960198040629304906567743379996672.0f64;
+    let nan = 0.0f64 / 0.0;
     let flux = [
         9.0f64,
         1.0,
@@ -276,213 +301,352 @@ fn onset(label: &[u8], many: usize, levels: usize, rate: u32, room: usize)
         0.0,
         1.0,
         9.0,
-    ];
-    let level = [0.5f64; 25];
-    let mut frames = [77u32; 26];
-    show::words(label);
-    picked(&flux[0..many], &level[0..levels], rate, &mut frames, room);
-}
-
-fn onset_rates() {
-    onset(b"onsets at 48000", 24, 24, 48000, 26);
-    onset(b"onsets at 8000", 24, 24, 8000, 26);
-    onset(b"onsets at 192000", 24, 24, 192000, 26);
-    onset(b"onsets at 192001", 24, 24, 192001, 26);
-    onset(b"onsets at 1", 24, 24, 1, 26);
-    onset(b"onsets at 0", 24, 24, 0, 26);
-}
-
-fn onset_rooms() {
-    onset(b"onsets of 24 slots in 24", 24, 24, 8000, 24);
-    onset(b"onsets of 24 slots in 23", 24, 24, 8000, 23);
-    onset(
-        b"onsets of 24 slots with 23 thresholds in 23",
-        24,
-        23,
-        8000,
-        23,
-    );
-    onset(
-        b"onsets of 24 slots with 25 thresholds in 23",
-        24,
-        25,
-        8000,
-        23,
-    );
-    onset(b"onsets of 4 slots in 4", 4, 4, 8000, 4);
-    onset(b"onsets of 3 slots in 3", 3, 3, 8000, 3);
-    onset(b"onsets of 2 slots in 2", 2, 2, 8000, 2);
-    onset(b"onsets of 0 slots in 0", 0, 0, 8000, 0);
-}
-
-fn onset_of(label: &[u8], x: f64, y: f64, z: f64, middle: f64) {
-    let flux = [x, y, z];
-    let level = [1.0, middle, 1.0];
-    let mut frames = [77u32; 3];
-    show::words(label);
-    picked(&flux, &level, 48000, &mut frames, 3);
-}
-
-fn onset_values() {
-    onset_of(b"onsets of 3, 3, 2", 3.0, 3.0, 2.0, 1.0);
-    onset_of(b"onsets of 0, 3, 3", 0.0, 3.0, 3.0, 1.0);
-    onset_of(b"onsets of 0, 3, 0 above 3", 0.0, 3.0, 0.0, 3.0);
-    onset_of(
-        b"onsets of 0, 2^150, -1 above -2^150",
+        3.0, // 24: three slots
+        3.0,
+        2.0,
+        0.0, // 27
+        3.0,
+        3.0,
+        0.0, // 30
+        3.0,
         0.0,
-        1427247692705959881058285969449495136382746624.0,
+        0.0, // 33
+        most,
         -1.0,
-        -1427247692705959881058285969449495136382746624.0,
+        above, // 36
+        1.0,
+        1.0,
+        1.0, // 39
+        1.0,
+        1.0,
+        1.0, // 42
+        1.0,
+        nan,
+    ];
+    let level = [
+        0.5f64,
+        0.5,
+        0.5,
+        0.5,
+        0.5,
+        0.5,
+        0.5,
+        0.5,
+        0.5,
+        0.5,
+        0.5,
+        0.5,
+        0.5,
+        0.5,
+        0.5,
+        0.5,
+        0.5,
+        0.5,
+        0.5,
+        0.5,
+        0.5,
+        0.5,
+        0.5,
+        0.5,
+        0.5,
+        1.0, // 25: three slots
+        1.0,
+        1.0,
+        1.0, // 28
+        3.0,
+        1.0,
+        1.0, // 31
+        -most,
+        1.0,
+        1.0, // 34
+        above,
+        1.0,
+        1.0, // 37
+        nan,
+        1.0,
+    ];
+    let mut frames = [77u32; 26];
+    let r = onsets::pick_onsets(
+        &flux[from..end],
+        &level[low..high],
+        rate,
+        &mut frames[0..room],
     );
-    onset_of(
-        b"onsets of above 2^150",
-        1427247692705960198040629304906567743379996672.0,
-        1.0,
-        1.0,
-        1.0,
-    );
-    onset_of(
-        b"onsets above what is above 2^150",
-        1.0,
-        1.0,
-        1.0,
-        1427247692705960198040629304906567743379996672.0,
-    );
-    onset_of(b"onsets of nan", 1.0, 1.0, 0.0f64 / 0.0, 1.0);
-    onset_of(b"onsets above nan", 1.0, 1.0, 1.0, 0.0f64 / 0.0);
+    listing(r, &frames, shown);
+}
+
+fn listing(r: Listing, frames: &[u32; 26], shown: usize) {
+    show::small(r.number);
+    show::words(b" count");
+    show::count(r.count);
+    show::words(b",");
+    first(frames, shown);
+    show::end();
+}
+
+fn first(frames: &[u32], shown: usize) {
+    show::smalls(&frames[0..numbers::least(shown, frames.len())]);
 }
 
 // ---- suppression
 
-fn kept(peaks: &[u32], curve: &[f64], gap: usize, frames: &mut [u32], room: usize)
-    requires { ⌜ room ≤ length (now frames) ⌝ }
-{
-    let r = onsets::peaks::suppress_close_peaks(peaks, curve, gap, &mut frames[0..room]);
-    listing(r, frames);
-}
-
-fn rising(label: &[u8], gap: usize) {
-    let mut curve = [0.0f64; 24];
-    curve[10] = 5.0;
-    curve[16] = 6.0;
-    curve[22] = 7.0;
-    let peaks = [10u32, 16, 22];
-    let mut frames = [77u32; 4];
-    show::words(label);
-    kept(&peaks, &curve, gap, &mut frames, 3);
-}
-
-fn suppression_gaps() {
-    rising(b"M4: 10, 16, 22, gap 6", 6);
-    rising(b"10, 16, 22, gap 5", 5);
-    rising(b"10, 16, 22, gap 0", 0);
-    rising(b"10, 16, 22, largest gap", 18446744073709551615);
-}
-
-// The first many of the peaks p and q, of a curve of so many equal slots, into the first room of three.
-fn pair(label: &[u8], p: u32, q: u32, many: usize, slots: usize, room: usize)
-    requires { ⌜ (many ≤ 2) × (slots ≤ 24) × (room ≤ 3) ⌝ }
-{
-    let peaks = [p, q];
-    let curve = [5.0f64; 24];
-    let mut frames = [77u32; 3];
-    show::words(label);
-    kept(&peaks[0..many], &curve[0..slots], 6, &mut frames, room);
-}
-
-fn suppression_lists() {
-    pair(b"M2: 10 and 16", 10, 16, 2, 24, 2);
-    pair(b"M3: 10 and 17", 10, 17, 2, 24, 3);
-    pair(b"10 and 10", 10, 10, 2, 24, 2);
-    pair(b"10 and 9 in 1 slot", 10, 9, 2, 24, 1);
-    pair(b"0 and 23 of 24 in 2 slots", 0, 23, 2, 24, 2);
-    pair(b"0 and 24 of 24 in 2 slots", 0, 24, 2, 24, 2);
-    pair(b"0 and 23 of 24 in 1 slot", 0, 23, 2, 24, 1);
-    pair(b"none of 24 in 0 slots", 0, 0, 0, 24, 0);
-    pair(b"none of 0 in 0 slots", 0, 0, 0, 0, 0);
-    pair(b"0 of 0 in 1 slot", 0, 0, 1, 0, 1);
-}
-
-fn valued(label: &[u8], x: f64, room: usize)
-    requires { ⌜ room ≤ 2 ⌝ }
-{
-    let peaks = [1u32, 2];
-    let curve = [1.0, 2.0, x];
-    let mut frames = [77u32; 2];
-    show::words(label);
-    kept(&peaks, &curve, 9, &mut frames, room);
-}
-
-fn suppression_values() {
-    valued(
-        b"2^150",
-        1427247692705959881058285969449495136382746624.0,
-        2,
+fn suppressions() {
+    table(
+        SUPPRESSION,
+        b"M4: 10, 16, 22, gap 6|10|16|22|3|0|24|6|3|4
+10, 16, 22, gap 5|10|16|22|3|0|24|5|3|4
+10, 16, 22, gap 0|10|16|22|3|0|24|0|3|4
+10, 16, 22, largest gap|10|16|22|3|0|24|18446744073709551615|3|4
+M2: 10 and 16|10|16|0|2|24|48|6|2|3
+M3: 10 and 17|10|17|0|2|24|48|6|3|3
+10 and 10|10|10|0|2|24|48|6|2|3
+10 and 9 in 1 slot|10|9|0|2|24|48|6|1|3
+0 and 23 of 24 in 2 slots|0|23|0|2|24|48|6|2|3
+0 and 24 of 24 in 2 slots|0|24|0|2|24|48|6|2|3
+0 and 23 of 24 in 1 slot|0|23|0|2|24|48|6|1|3
+none of 24 in 0 slots|0|0|0|0|24|48|6|0|3
+none of 0 in 0 slots|0|0|0|0|24|24|6|0|3
+0 of 0 in 1 slot|0|0|0|1|24|24|6|1|3
+2^150|1|2|0|2|48|51|9|2|2
+-2^150|1|2|0|2|51|54|9|2|2
+below -2^150|1|2|0|2|54|57|9|2|2
+nan|1|2|0|2|57|60|9|2|2
+nan in 1 slot|1|2|0|2|57|60|9|1|2",
     );
-    valued(
-        b"-2^150",
-        -1427247692705959881058285969449495136382746624.0,
-        2,
+}
+
+// The first c[4] of the peaks c[1] to c[3], of the curve from c[5] to c[6], with gap c[7], into the first c[8] slots; c[9] are shown.
+fn suppression(c: [usize; 10]) {
+    let end = numbers::least(c[6], 60);
+    suppression_of(
+        small(c[1]),
+        small(c[2]),
+        small(c[3]),
+        numbers::least(c[4], 3),
+        numbers::least(c[5], end),
+        end,
+        c[7],
+        numbers::least(c[8], 26),
+        c[9],
     );
-    valued(
-        b"below -2^150",
-        -1427247692705960198040629304906567743379996672.0,
-        2,
+}
+
+fn suppression_of(
+    p: u32,
+    q: u32,
+    r: u32,
+    many: usize,
+    from: usize,
+    end: usize,
+    gap: usize,
+    room: usize,
+    shown: usize,
+)
+    requires { ⌜ (many ≤ 3) × (from ≤ end) × (end ≤ 60) × (room ≤ 26) ⌝ }
+{
+    let most = 1427247692705959881058285969449495136382746624.0f64; // 2^150
+    let below = -1427247692705960198040629304906567743379996672.0f64;
+    let peaks = [p, q, r];
+    let curve = [
+        0.0f64,
+        0.0,
+        0.0,
+        0.0,
+        0.0,
+        0.0,
+        0.0,
+        0.0,
+        0.0,
+        0.0,
+        5.0,
+        0.0,
+        0.0,
+        0.0,
+        0.0,
+        0.0,
+        6.0,
+        0.0,
+        0.0,
+        0.0,
+        0.0,
+        0.0,
+        7.0,
+        0.0,
+        5.0, // 24: as many equal slots
+        5.0,
+        5.0,
+        5.0,
+        5.0,
+        5.0,
+        5.0,
+        5.0,
+        5.0,
+        5.0,
+        5.0,
+        5.0,
+        5.0,
+        5.0,
+        5.0,
+        5.0,
+        5.0,
+        5.0,
+        5.0,
+        5.0,
+        5.0,
+        5.0,
+        5.0,
+        5.0,
+        1.0, // 48: three slots
+        2.0,
+        most,
+        1.0, // 51
+        2.0,
+        -most,
+        1.0, // 54
+        2.0,
+        below,
+        1.0, // 57
+        2.0,
+        0.0f64 / 0.0,
+    ];
+    let mut frames = [77u32; 26];
+    let kept = onsets::peaks::suppress_close_peaks(
+        &peaks[0..many],
+        &curve[from..end],
+        gap,
+        &mut frames[0..room],
     );
-    valued(b"nan", 0.0f64 / 0.0, 2);
-    valued(b"nan in 1 slot", 0.0f64 / 0.0, 1);
+    listing(kept, &frames, shown);
 }
 
 // ---- times and gaps
 
-fn times_part(frames: &[u32], rate: u32, ms: &mut [f64], room: usize)
-    requires { ⌜ room ≤ length (now ms) ⌝ }
-{
-    show::small(onsets::frame_times(frames, rate, &mut ms[0..room]));
-    show::words(b",");
-    show::floats(ms);
-    show::end();
+fn time_lists() {
+    table(
+        TIMES,
+        b"times at 48000|1048575|4|48000|5
+times at 44100|1048575|4|44100|5
+times at 192000|1048575|4|192000|5
+times at 192001|1048575|4|192001|5
+times at 1|1048575|4|1|5
+times at 0|1048575|4|0|5
+times of frame 1048576 in 3 slots|1048576|4|48000|3
+times of 4 frames in 4 slots|1048575|4|48000|4
+times of 4 frames in 3 slots|1048575|4|48000|3
+times of 0 frames in 0 slots|1048576|0|48000|0",
+    );
 }
 
-// The first many of four frames, into the first room of five slots.
-fn times(label: &[u8], last: u32, many: usize, rate: u32, room: usize)
-    requires { ⌜ (many ≤ 4) × (room ≤ 5) ⌝ }
+// The first c[2] of four frames, the last of them c[1], at rate c[3], into the first c[4] of five slots.
+fn times(c: [usize; 10]) {
+    times_of(
+        small(c[1]),
+        numbers::least(c[2], 4),
+        small(c[3]),
+        numbers::least(c[4], 26),
+    );
+}
+
+fn times_of(last: u32, many: usize, rate: u32, room: usize)
+    requires { ⌜ (many ≤ 4) × (room ≤ 26) ⌝ }
 {
     let frames = [2u32, 0, 100, last];
-    let mut ms = [9.0f64; 5];
-    show::words(label);
-    times_part(&frames[0..many], rate, &mut ms, room);
-}
-
-fn time_rates() {
-    times(b"times at 48000", 1048575, 4, 48000, 5);
-    times(b"times at 44100", 1048575, 4, 44100, 5);
-    times(b"times at 192000", 1048575, 4, 192000, 5);
-    times(b"times at 192001", 1048575, 4, 192001, 5);
-    times(b"times at 1", 1048575, 4, 1, 5);
-    times(b"times at 0", 1048575, 4, 0, 5);
-}
-
-fn time_lists() {
-    times(b"times of frame 1048576 in 3 slots", 1048576, 4, 48000, 3);
-    times(b"times of 4 frames in 4 slots", 1048575, 4, 48000, 4);
-    times(b"times of 4 frames in 3 slots", 1048575, 4, 48000, 3);
-    times(b"times of 0 frames in 0 slots", 1048576, 0, 48000, 0);
-}
-
-fn gap(rate: u32) {
-    show::words(b"gap at");
-    show::small(rate);
-    show::words(b" is");
-    show::count(onsets::gap_of(rate));
+    let mut ms = [9.0f64; 26];
+    show::small(onsets::frame_times(&frames[0..many], rate, &mut ms[0..room]));
+    show::words(b",");
+    slots(&ms, 0, 5);
     show::end();
 }
 
 fn gaps() {
-    gap(1);
-    gap(8533);
-    gap(8534);
-    gap(44100);
-    gap(48000);
-    gap(192000);
+    table(
+        GAPS,
+        b"gap at 1 is|1
+gap at 8533 is|8533
+gap at 8534 is|8534
+gap at 44100 is|44100
+gap at 48000 is|48000
+gap at 192000 is|192000",
+    );
+}
+
+// The gap at rate c[1].
+fn gap(c: [usize; 10]) {
+    show::count(onsets::gap_of(small(c[1])));
+    show::end();
+}
+
+// ---- the tables
+
+fn table(call: usize, lines: &[u8]) {
+    let mut at = 0;
+    while at < lines.len() {
+        let end = bytes::scan::find(lines, at, lines.len(), b'\n');
+        line(call, &lines[at..end]);
+        at = end + 1;
+    }
+}
+
+fn line(call: usize, line: &[u8]) {
+    show::words(&line[0..bytes::scan::find(line, 0, line.len(), b'|')]);
+    run(call, columns(line));
+}
+
+fn run(call: usize, c: [usize; 10]) {
+    if call == FLUX {
+        return flux(c);
+    }
+    if call == THRESHOLD {
+        return threshold(c);
+    }
+    if call == ONSETS {
+        return onsets(c);
+    }
+    if call == SUPPRESSION {
+        return suppression(c);
+    }
+    if call == TIMES {
+        return times(c);
+    }
+    gap(c);
+}
+
+// The numbers in the columns of a line. Column 0, the label, means nothing.
+fn columns(line: &[u8]) -> [usize; 10] {
+    let mut c = [0usize; 10];
+    let mut k = 0;
+    let mut i = 0;
+    while i < line.len() {
+        k = column_at(k, line[i]);
+        c[k] = with_digit(c[k], line[i]);
+        i += 1;
+    }
+    c
+}
+
+// The column of a byte after column k: the next where it is a bar.
+fn column_at(k: usize, byte: u8) -> usize
+    ensures { λ r. ⌜ r ≤ 9 ⌝ }
+{
+    if byte == b'|' {
+        return numbers::least(k, 8) + 1;
+    }
+    numbers::least(k, 9)
+}
+
+// The number with a digit more, and the largest of all where that comes near it or above it. Other bytes leave it.
+fn with_digit(n: usize, byte: u8) -> usize {
+    let digit = std::num::wrapping_sub_u8(byte, b'0');
+    if digit > 9 {
+        return n;
+    }
+    if n > 1844674407370955160 {
+        return 18446744073709551615;
+    }
+    n * 10 + digit as usize
+}
+
+// The number as a u32, or the largest of them.
+fn small(n: usize) -> u32 {
+    numbers::least(n, 4294967295) as u32
 }

@@ -1,27 +1,192 @@
 // Runs the calls of the crate sections on both sides of each boundary of document 01, and on small curves, and prints the number, the
 // sections, the count, the confidence, and each slot that is promised, those that were not lent too. Sorting room is printed past the
 // novelty's slots, and whole at a refusal. The file stdout holds what must come out: numbers by document 01, values by the Rust.
+//
+// The cases stand in tables, one to a line, with bars between the columns: the label, for boundaries the curve, and the numbers that the function
+// of that name takes.
 ghost use Prim.Native.Nat.{_≤_};
-ghost use lib.ListN.{length};
 use sections::Sections;
 
+const BOUNDARIES: usize = 1;
+
+const TIMES: usize = 2;
+
+const GAPS: usize = 3;
+
 fn main() {
-    caps();
-    small_caps();
-    rows();
-    rooms();
-    lengths();
-    rates();
+    hills();
     others();
     values();
     longest();
     too_long();
-    times();
-    time_grids();
+    time_lists();
     gaps();
 }
 
 // ---- boundaries
+
+// Curves with up to seven peaks: 5, 7, 5, 9, 7, 5 and 3.
+fn hills() {
+    table(
+        BOUNDARIES,
+        b"hills, at most 10 sections|015h07105q09h070150h30h0|192000|48000|10|26|26
+at most 9|015h07105q09h070150h30h0|192000|48000|9|26|26
+at most 8|015h07105q09h070150h30h0|192000|48000|8|26|26
+at most 7|015h07105q09h070150h30h0|192000|48000|7|26|26
+at most 6|015h07105q09h070150h30h0|192000|48000|6|26|26
+at most 5|015h07105q09h070150h30h0|192000|48000|5|26|26
+at most 4|015h07105q09h070150h30h0|192000|48000|4|26|26
+at most 3|015h07105q09h070150h30h0|192000|48000|3|26|26
+at most 2|015h07105q09h070150h30h0|192000|48000|2|26|26
+at most 1|015h07105q09h070150h30h0|192000|48000|1|26|26
+at most 0|015h07105q09h070150h30h0|192000|48000|0|26|26
+17 rows|015h07105q09h0701|192000|48000|10|26|26
+16 rows|015h07105q09h070|192000|48000|10|26|26
+15 rows|015h07105q09h07|192000|48000|10|26|26
+2 rows|01|192000|48000|10|26|26
+1 rows|0|192000|48000|10|26|26
+0 rows||192000|48000|10|26|26
+24 rows in 24 slots|015h07105q09h070150h30h0|192000|48000|10|24|24
+in 23 slots of rows|015h07105q09h070150h30h0|192000|48000|10|23|24
+in 23 slots of work|015h07105q09h070150h30h0|192000|48000|10|24|23
+15 rows in 15 slots|015h07105q09h07|192000|48000|10|15|15
+in 14 slots of rows|015h07105q09h07|192000|48000|10|14|15
+in 14 slots of work|015h07105q09h07|192000|48000|10|15|14
+no rows in no slots||192000|48000|10|0|0
+length 0 at rate 48000|015h07105q09h070150h30h0|0|48000|3|26|26
+length 1 at rate 48000|015h07105q09h070150h30h0|1|48000|3|26|26
+length 2147483648 at rate 48000|015h07105q09h070150h30h0|2147483648|48000|3|26|26
+length 2147483649 at rate 48000|015h07105q09h070150h30h0|2147483649|48000|3|26|26
+length 192000 at rate 0|015h07105q09h070150h30h0|192000|0|3|26|26
+length 192000 at rate 1|015h07105q09h070150h30h0|192000|1|3|26|26
+length 192000 at rate 192000|015h07105q09h070150h30h0|192000|192000|3|26|26
+length 192000 at rate 192001|015h07105q09h070150h30h0|192000|192001|3|26|26
+length 1 at rate 1|015h07105q09h070150h30h0|1|1|10|26|26
+length 1 at rate 192000|015h07105q09h070150h30h0|1|192000|10|26|26
+length 2147483648 at rate 1|015h07105q09h070150h30h0|2147483648|1|10|26|26
+length 2147483648 at rate 192000|015h07105q09h070150h30h0|2147483648|192000|10|26|26
+length 24000 at rate 48000, gap 8|015h07105q09h070150h30h0|24000|48000|10|26|26
+length 0 in 23 slots|015h07105q09h070150h30h0|0|48000|10|23|26",
+    );
+}
+
+// The last two have the median 2 and the threshold 5.
+fn others() {
+    table(
+        BOUNDARIES,
+        b"three thirds, held to 1|00t0000t0000t000|192000|48000|10|26|26
+two of three thirds|00t0000t0000t000|192000|48000|3|26|26
+the greater of two zeros|mmmmzmmmm0mmmmmm|192000|48000|2|26|26
+a flat curve|ffffffffffffffff|192000|48000|10|26|26
+a peak at the threshold|0202020205020202|192000|48000|10|26|26
+a peak above the threshold|020202020u020202|192000|48000|10|26|26",
+    );
+}
+
+fn values() {
+    table(
+        BOUNDARIES,
+        b"2^150 and -2^150|000b00000B000000|192000|48000|10|26|26
+the next above 2^150|000a000000000000|192000|48000|10|26|26
+the next below -2^150|000000000A000000|192000|48000|10|26|26
+a nan|000000000n000000|192000|48000|10|26|26
+infinity|000i000000000000|192000|48000|10|26|26
+-infinity|000000000I000000|192000|48000|10|26|26
+a nan in 15 slots|000000000n000000|192000|48000|10|15|26
+a nan in 15 rows|000000000n00000|192000|48000|10|26|26",
+    );
+}
+
+// What a byte of a curve stands for: a letter for a value that is no digit.
+fn value(byte: u8) -> f64 {
+    match byte {
+        b'q' => 0.25,
+        b'h' => 0.5,
+        b't' => 0.1,
+        b'f' => 2.5,
+        b'u' => 5.000000000000001,
+        b'z' => -0.0,
+        b'm' => -1.0,
+        _ => far_value(byte),
+    }
+}
+
+// 2^150, the next above it, their negatives, infinity, minus infinity, and what is no number.
+fn far_value(byte: u8) -> f64 {
+    match byte {
+        b'b' => 1427247692705959881058285969449495136382746624.0,
+        b'B' => -1427247692705959881058285969449495136382746624.0,
+        b'a' => 1427247692705960197970936026506845510558547968.0,
+        b'A' => -1427247692705960197970936026506845510558547968.0,
+        b'i' => 1.0 / 0.0,
+        b'I' => -1.0 / 0.0,
+        b'n' => 0.0 / 0.0,
+        _ => byte as f64 - 48.0,
+    }
+}
+
+fn spell(text: &[u8], values: &mut [f64]) {
+    let most = numbers::least(text.len(), values.len());
+    let mut i = 0;
+    while i < most {
+        values[i] = value(text[i]);
+        i += 1;
+    }
+}
+
+// The curve that the text spells after a bar, c[2] samples at rate c[3], at most c[4] sections, the first c[5] slots of rows and c[6] of work.
+fn boundaries(text: &[u8], c: [usize; 10]) {
+    let from = numbers::least(1, text.len());
+    let end = bytes::scan::find(text, from, text.len(), b'|');
+    boundaries_by(
+        &text[from..end],
+        c[2] as u64,
+        small(c[3]),
+        c[4],
+        numbers::least(c[5], 26),
+        numbers::least(c[6], 26),
+    );
+}
+
+fn boundaries_by(text: &[u8], samples: u64, rate: u32, most: usize, room: usize, space: usize)
+    requires { ⌜ (room ≤ 26) × (space ≤ 26) ⌝ }
+{
+    let mut curve = [0.0f64; 24];
+    spell(text, &mut curve);
+    boundaries_of(
+        &curve[0..numbers::least(text.len(), 24)],
+        samples,
+        rate,
+        most,
+        room,
+        space,
+    );
+}
+
+fn boundaries_of(novelty: &[f64], samples: u64, rate: u32, most: usize, room: usize, space: usize)
+    requires { ⌜ (room ≤ 26) × (space ≤ 26) ⌝ }
+{
+    let mut rows = [777u32; 26];
+    let mut work = [9.0f64; 26];
+    let a = sections::boundaries(
+        novelty,
+        samples,
+        rate,
+        most,
+        &mut rows[0..room],
+        &mut work[0..space],
+    );
+    told(a, novelty.len(), &rows, &work);
+}
+
+fn told(a: Sections, n: usize, rows: &[u32; 26], work: &[f64; 26]) {
+    answer(a);
+    show::words(b", rows");
+    show::smalls(rows);
+    show::words(b", kept");
+    slots(work, open_slots(a, n), 26);
+    show::end();
+}
 
 fn answer(a: Sections) {
     show::small(a.number);
@@ -31,328 +196,37 @@ fn answer(a: Sections) {
 }
 
 // How many slots of the work slice are left open.
-fn open_slots(a: Sections, n: usize) -> usize
-    ensures { λ r. ⌜ r ≤ n ⌝ }
-{
+fn open_slots(a: Sections, n: usize) -> usize {
     if a.number == 0 { n } else { 0 }
 }
 
-fn told(a: Sections, n: usize, rows: &[u32], work: &[f64])
-    requires { ⌜ n ≤ length (now work) ⌝ }
-{
-    answer(a);
-    show::words(b", rows");
-    show::smalls(rows);
-    show::words(b", kept");
-    let open = open_slots(a, n);
-    show::floats(&work[open..]);
-    show::end();
-}
-
-fn part(
-    novelty: &[f64],
-    samples: u64,
-    rate: u32,
-    most: usize,
-    rows: &mut [u32],
-    room: usize,
-    work: &mut [f64],
-    space: usize,
-)
-    requires { ⌜ (length (now novelty) ≤ length (now work)) × (room ≤ length (now rows)) × (space ≤ length (now work)) ⌝ }
-{
-    let a = sections::boundaries(
-        novelty,
-        samples,
-        rate,
-        most,
-        &mut rows[0..room],
-        &mut work[0..space],
-    );
-    told(a, novelty.len(), rows, work);
-}
-
-// One line: the first room of twenty-six slots of rows are lent, and the first space of as many of work.
-fn line(
-    label: &[u8],
-    novelty: &[f64],
-    samples: u64,
-    rate: u32,
-    most: usize,
-    room: usize,
-    space: usize,
-)
-    requires { ⌜ (length (now novelty) ≤ 24) × (room ≤ 26) × (space ≤ 26) ⌝ }
-{
-    let mut rows = [777u32; 26];
-    let mut work = [9.0f64; 26];
-    show::words(label);
-    part(
-        novelty,
-        samples,
-        rate,
-        most,
-        &mut rows,
-        room,
-        &mut work,
-        space,
-    );
-}
-
-// The first `many` rows of a curve with seven peaks: 5, 7, 5, 9, 7, 5 and 3.
-fn hills(label: &[u8], many: usize, samples: u64, rate: u32, most: usize, room: usize, space: usize)
-    requires { ⌜ (many ≤ 24) × (room ≤ 26) × (space ≤ 26) ⌝ }
-{
-    let curve = [
-        0.0f64,
-        1.0,
-        5.0,
-        0.5,
-        0.0,
-        7.0,
-        1.0,
-        0.0,
-        5.0,
-        0.25,
-        0.0,
-        9.0,
-        0.5,
-        0.0,
-        7.0,
-        0.0,
-        1.0,
-        5.0,
-        0.0,
-        0.5,
-        3.0,
-        0.0,
-        0.5,
-        0.0,
-    ];
-    line(label, &curve[0..many], samples, rate, most, room, space);
-}
-
-fn caps() {
-    hills(b"hills, at most 10 sections", 24, 192000, 48000, 10, 26, 26);
-    hills(b"at most 9", 24, 192000, 48000, 9, 26, 26);
-    hills(b"at most 8", 24, 192000, 48000, 8, 26, 26);
-    hills(b"at most 7", 24, 192000, 48000, 7, 26, 26);
-    hills(b"at most 6", 24, 192000, 48000, 6, 26, 26);
-}
-
-fn small_caps() {
-    hills(b"at most 5", 24, 192000, 48000, 5, 26, 26);
-    hills(b"at most 4", 24, 192000, 48000, 4, 26, 26);
-    hills(b"at most 3", 24, 192000, 48000, 3, 26, 26);
-    hills(b"at most 2", 24, 192000, 48000, 2, 26, 26);
-    hills(b"at most 1", 24, 192000, 48000, 1, 26, 26);
-    hills(b"at most 0", 24, 192000, 48000, 0, 26, 26);
-}
-
-fn rows() {
-    hills(b"17 rows", 17, 192000, 48000, 10, 26, 26);
-    hills(b"16 rows", 16, 192000, 48000, 10, 26, 26);
-    hills(b"15 rows", 15, 192000, 48000, 10, 26, 26);
-    hills(b"2 rows", 2, 192000, 48000, 10, 26, 26);
-    hills(b"1 rows", 1, 192000, 48000, 10, 26, 26);
-    hills(b"0 rows", 0, 192000, 48000, 10, 26, 26);
-}
-
-fn rooms() {
-    hills(b"24 rows in 24 slots", 24, 192000, 48000, 10, 24, 24);
-    hills(b"in 23 slots of rows", 24, 192000, 48000, 10, 23, 24);
-    hills(b"in 23 slots of work", 24, 192000, 48000, 10, 24, 23);
-    hills(b"15 rows in 15 slots", 15, 192000, 48000, 10, 15, 15);
-    hills(b"in 14 slots of rows", 15, 192000, 48000, 10, 14, 15);
-    hills(b"in 14 slots of work", 15, 192000, 48000, 10, 15, 14);
-    hills(b"no rows in no slots", 0, 192000, 48000, 10, 0, 0);
-}
-
-fn lengths() {
-    hills(b"length 0 at rate 48000", 24, 0, 48000, 3, 26, 26);
-    hills(b"length 1 at rate 48000", 24, 1, 48000, 3, 26, 26);
-    hills(
-        b"length 2147483648 at rate 48000",
-        24,
-        2147483648,
-        48000,
-        3,
-        26,
-        26,
-    );
-    hills(
-        b"length 2147483649 at rate 48000",
-        24,
-        2147483649,
-        48000,
-        3,
-        26,
-        26,
-    );
-}
-
-fn rates() {
-    hills(b"length 192000 at rate 0", 24, 192000, 0, 3, 26, 26);
-    hills(b"length 192000 at rate 1", 24, 192000, 1, 3, 26, 26);
-    hills(
-        b"length 192000 at rate 192000",
-        24,
-        192000,
-        192000,
-        3,
-        26,
-        26,
-    );
-    hills(
-        b"length 192000 at rate 192001",
-        24,
-        192000,
-        192001,
-        3,
-        26,
-        26,
-    );
-    hills(b"length 1 at rate 1", 24, 1, 1, 10, 26, 26);
-    hills(b"length 1 at rate 192000", 24, 1, 192000, 10, 26, 26);
-    hills(
-        b"length 2147483648 at rate 1",
-        24,
-        2147483648,
-        1,
-        10,
-        26,
-        26,
-    );
-    hills(
-        b"length 2147483648 at rate 192000",
-        24,
-        2147483648,
-        192000,
-        10,
-        26,
-        26,
-    );
-    hills(
-        b"length 24000 at rate 48000, gap 8",
-        24,
-        24000,
-        48000,
-        10,
-        26,
-        26,
-    );
-    hills(b"length 0 in 23 slots", 24, 0, 48000, 10, 23, 26);
-}
-
-fn others() {
-    let mut thirds = [0.0f64; 16];
-    thirds[2] = 0.1;
-    thirds[7] = 0.1;
-    thirds[12] = 0.1;
-    line(
-        b"three thirds, held to 1",
-        &thirds,
-        192000,
-        48000,
-        10,
-        26,
-        26,
-    );
-    line(b"two of three thirds", &thirds, 192000, 48000, 3, 26, 26);
-    let mut zeros = [-1.0f64; 16];
-    zeros[4] = -0.0;
-    zeros[9] = 0.0;
-    line(
-        b"the greater of two zeros",
-        &zeros,
-        192000,
-        48000,
-        2,
-        26,
-        26,
-    );
-    let flat = [2.5f64; 16];
-    line(b"a flat curve", &flat, 192000, 48000, 10, 26, 26);
-    at_level(b"a peak at the threshold", 5.0);
-    at_level(b"a peak above the threshold", 5.000000000000001);
-}
-
-// Sixteen rows whose median is 2 and whose threshold is 5, with one peak that high.
-fn at_level(label: &[u8], peak: f64) {
-    let mut curve = [0.0f64; 16];
-    curve[1] = 2.0;
-    curve[3] = 2.0;
-    curve[5] = 2.0;
-    curve[7] = 2.0;
-    curve[9] = peak;
-    curve[11] = 2.0;
-    curve[13] = 2.0;
-    curve[15] = 2.0;
-    line(label, &curve, 192000, 48000, 10, 26, 26);
-}
-
-// The first `many` of sixteen rows, two of which are given.
-fn two_values(label: &[u8], x: f64, y: f64, many: usize, room: usize)
-    requires { ⌜ (many ≤ 16) × (room ≤ 26) ⌝ }
-{
-    let mut curve = [0.0f64; 16];
-    curve[3] = x;
-    curve[9] = y;
-    show::words(label);
-    let mut rows = [777u32; 26];
-    let mut work = [9.0f64; 26];
-    part(
-        &curve[0..many],
-        192000,
-        48000,
-        10,
-        &mut rows,
-        room,
-        &mut work,
-        26,
-    );
-}
-
-fn values() {
-    two_values(
-        b"2^150 and -2^150",
-        1427247692705959881058285969449495136382746624.0,
-        -1427247692705959881058285969449495136382746624.0,
-        16,
-        26,
-    );
-    two_values(
-        b"the next above 2^150",
-        1427247692705960197970936026506845510558547968.0,
-        0.0,
-        16,
-        26,
-    );
-    two_values(
-        b"the next below -2^150",
-        0.0,
-        -1427247692705960197970936026506845510558547968.0,
-        16,
-        26,
-    );
-    two_values(b"a nan", 0.0, 0.0f64 / 0.0, 16, 26);
-    two_values(b"infinity", 1.0f64 / 0.0, 0.0, 16, 26);
-    two_values(b"-infinity", 0.0, -1.0f64 / 0.0, 16, 26);
-    two_values(b"a nan in 15 slots", 0.0, 0.0f64 / 0.0, 16, 15);
-    two_values(b"a nan in 15 rows", 0.0, 0.0f64 / 0.0, 15, 26);
+// The slots from `from` to `to`, lent or not.
+fn slots(xs: &[f64], from: usize, to: usize) {
+    let end = numbers::least(to, xs.len());
+    show::floats(&xs[numbers::least(from, end)..end]);
 }
 
 // 50,000 rows, with one peak.
 fn longest() {
-    let mut curve = [0.0f64; 50001];
-    curve[49997] = 5.0;
+    let mut curve = [0.0f64; 50000];
+    set(&mut curve, 49997, 5.0);
     let mut rows = [777u32; 50001];
     let mut work = [9.0f64; 50001];
     show::words(b"50000 rows");
-    answer(sections::boundaries(&curve[0..50000], 192000, 48000, 10, &mut rows, &mut work));
+    answer(sections::boundaries(&curve, 192000, 48000, 10, &mut rows, &mut work));
+    first_two(&rows);
+}
+
+fn first_two(rows: &[u32; 50001]) {
     show::small(rows[0]);
     show::small(rows[1]);
     show::end();
+}
+
+fn set(curve: &mut [f64], row: usize, x: f64) {
+    if row < curve.len() {
+        curve[row] = x;
+    }
 }
 
 fn too_long() {
@@ -366,84 +240,144 @@ fn too_long() {
 
 // ---- times
 
-fn times_part(rows: &[u32], samples: u64, rate: u32, ms: &mut [f64], room: usize)
-    requires { ⌜ room ≤ length (now ms) ⌝ }
+fn time_lists() {
+    table(
+        TIMES,
+        b"times|0|4|24000|48000|4
+times in 6 slots|0|4|24000|48000|6
+times in 3 slots|0|4|24000|48000|3
+a row of 50000|4|6|24000|48000|4
+a row of 50000 in 1 slot|4|6|24000|48000|1
+no rows in no slots|0|0|24000|48000|0
+times at length 0, rate 48000|6|8|0|48000|2
+times at length 1, rate 192000|6|8|1|192000|2
+times at length 2147483648, rate 1|6|8|2147483648|1|2
+times at length 2147483649, rate 1|6|8|2147483649|1|2
+times at length 1, rate 0|6|8|1|0|2
+times at length 1, rate 1|6|8|1|1|2
+times at length 1, rate 192001|6|8|1|192001|2
+times at length 2147483648, rate 192000|6|8|2147483648|192000|2",
+    );
+}
+
+// The rows from c[1] to c[2], c[3] samples at rate c[4], into the first c[5] of six slots.
+fn times(c: [usize; 10]) {
+    let end = numbers::least(c[2], 8);
+    times_of(
+        numbers::least(c[1], end),
+        end,
+        c[3] as u64,
+        small(c[4]),
+        numbers::least(c[5], 6),
+    );
+}
+
+fn times_of(from: usize, end: usize, samples: u64, rate: u32, room: usize)
+    requires { ⌜ (from ≤ end) × (end ≤ 8) × (room ≤ 6) ⌝ }
 {
-    show::small(sections::boundary_times(rows, samples, rate, &mut ms[0..room]));
+    let rows = [0u32, 3, 49999, 1, 0, 50000, 1, 49999];
+    let mut ms = [9.0f64; 6];
+    show::small(sections::boundary_times(&rows[from..end], samples, rate, &mut ms[0..room]));
+    six(&ms);
+}
+
+fn six(ms: &[f64; 6]) {
     show::words(b",");
     show::floats(ms);
     show::end();
 }
 
-fn times_line(label: &[u8], rows: &[u32], samples: u64, rate: u32, room: usize)
-    requires { ⌜ room ≤ 6 ⌝ }
-{
-    let mut ms = [9.0f64; 6];
-    show::words(label);
-    times_part(rows, samples, rate, &mut ms, room);
-}
-
-fn times() {
-    let rows = [0u32, 3, 49999, 1];
-    let past = [0u32, 50000];
-    times_line(b"times", &rows, 24000, 48000, 4);
-    times_line(b"times in 6 slots", &rows, 24000, 48000, 6);
-    times_line(b"times in 3 slots", &rows, 24000, 48000, 3);
-    times_line(b"a row of 50000", &past, 24000, 48000, 4);
-    times_line(b"a row of 50000 in 1 slot", &past, 24000, 48000, 1);
-    times_line(b"no rows in no slots", &rows[0..0], 24000, 48000, 0);
-}
-
-fn time_grids() {
-    let rows = [1u32, 49999];
-    times_line(b"times at length 0, rate 48000", &rows, 0, 48000, 2);
-    times_line(b"times at length 1, rate 192000", &rows, 1, 192000, 2);
-    times_line(
-        b"times at length 2147483648, rate 1",
-        &rows,
-        2147483648,
-        1,
-        2,
-    );
-    times_line(
-        b"times at length 2147483649, rate 1",
-        &rows,
-        2147483649,
-        1,
-        2,
-    );
-    times_line(b"times at length 1, rate 0", &rows, 1, 0, 2);
-    times_line(b"times at length 1, rate 1", &rows, 1, 1, 2);
-    times_line(b"times at length 1, rate 192001", &rows, 1, 192001, 2);
-    times_line(
-        b"times at length 2147483648, rate 192000",
-        &rows,
-        2147483648,
-        192000,
-        2,
-    );
-}
-
 // ---- inner calls
 
-fn gap(samples: u64, rate: u32) {
-    show::words(b"gap");
-    show::number(samples);
-    show::small(rate);
+fn gaps() {
+    table(
+        GAPS,
+        b"gap 1 1|1|1
+gap 1 192000|1|192000
+gap 2147483648 1|2147483648|1
+gap 2147483648 192000|2147483648|192000
+gap 24000 48000|24000|48000
+gap 192000 48000|192000|48000
+gap 191999 48000|191999|48000
+gap 192001 48000|192001|48000
+gap 7 44100|7|44100
+gap 11025 44100|11025|44100",
+    );
+}
+
+// The gap of c[1] samples at rate c[2].
+fn gap(c: [usize; 10]) {
+    let samples = c[1] as u64;
+    let rate = small(c[2]);
     show::count(sections::section_gap(samples, rate));
     show::float(sections::frame_ms(samples, rate));
     show::end();
 }
 
-fn gaps() {
-    gap(1, 1);
-    gap(1, 192000);
-    gap(2147483648, 1);
-    gap(2147483648, 192000);
-    gap(24000, 48000);
-    gap(192000, 48000);
-    gap(191999, 48000);
-    gap(192001, 48000);
-    gap(7, 44100);
-    gap(11025, 44100);
+// ---- the tables
+
+fn table(call: usize, lines: &[u8]) {
+    let mut at = 0;
+    while at < lines.len() {
+        let end = bytes::scan::find(lines, at, lines.len(), b'\n');
+        line(call, &lines[at..end]);
+        at = end + 1;
+    }
+}
+
+fn line(call: usize, line: &[u8]) {
+    let bar = bytes::scan::find(line, 0, line.len(), b'|');
+    show::words(&line[0..bar]);
+    run(call, &line[bar..], columns(line));
+}
+
+// The text is what stands behind the label.
+fn run(call: usize, text: &[u8], c: [usize; 10]) {
+    if call == TIMES {
+        return times(c);
+    }
+    if call == GAPS {
+        return gap(c);
+    }
+    boundaries(text, c);
+}
+
+// The numbers in the columns of a line. Column 0, the label, means nothing.
+fn columns(line: &[u8]) -> [usize; 10] {
+    let mut c = [0usize; 10];
+    let mut k = 0;
+    let mut i = 0;
+    while i < line.len() {
+        k = column_at(k, line[i]);
+        c[k] = with_digit(c[k], line[i]);
+        i += 1;
+    }
+    c
+}
+
+// The column of a byte after column k: the next where it is a bar.
+fn column_at(k: usize, byte: u8) -> usize
+    ensures { λ r. ⌜ r ≤ 9 ⌝ }
+{
+    if byte == b'|' {
+        return numbers::least(k, 8) + 1;
+    }
+    numbers::least(k, 9)
+}
+
+// The number with a digit more, and the largest of all where that comes near it or above it. Other bytes leave it.
+fn with_digit(n: usize, byte: u8) -> usize {
+    let digit = std::num::wrapping_sub_u8(byte, b'0');
+    if digit > 9 {
+        return n;
+    }
+    if n > 1844674407370955160 {
+        return 18446744073709551615;
+    }
+    n * 10 + digit as usize
+}
+
+// The number as a u32, or the largest of them.
+fn small(n: usize) -> u32 {
+    numbers::least(n, 4294967295) as u32
 }

@@ -1,9 +1,303 @@
 // Runs `stability::stability_of` on both sides of each boundary and prints what it answers; the file stdout holds what must come out.
+//
+// The cases stand in tables, one to a line, with bars between the columns: the label, then the numbers that `run` takes.
 ghost use Prim.Native.Nat.{_≤_};
-ghost use lib.ListN.{length};
 use lags::TempoOpts;
 use stability::Stability;
 use stability::Steadiness;
+
+fn main() {
+    windows();
+    contents();
+    bounds();
+    values();
+    rooms();
+    envelopes();
+}
+
+// ---- the cases
+
+// rate 512, defaults: lags 1 to 4
+fn windows() {
+    table(
+        b"030103010301031030030030030030",
+        PAST_LAGS,
+        b"no slots:|0|0|512|0|4|5|5|5
+eleven slots, one window:|0|11|512|0|4|5|5|5
+twelve slots, two windows:|0|12|512|0|4|5|5|5
+seventeen slots, two windows of eight:|0|17|512|0|4|5|5|5
+eighteen slots, three windows:|0|18|512|0|4|5|5|5
+23 slots, three windows of seven:|0|23|512|0|4|5|5|5
+24 slots, four windows:|0|24|512|0|4|5|5|5
+thirty slots, four windows of seven:|0|30|512|0|4|5|5|5
+whole lag 3:|0|30|512|0|3|5|5|5
+whole lag 2:|0|30|512|0|2|5|5|5
+whole lag 1:|0|30|512|0|1|5|5|5
+whole lag 0:|0|30|512|0|0|5|5|5
+whole lag 6:|0|30|512|0|6|5|5|5
+whole lag 45,000:|0|30|512|0|45000|5|5|5",
+    );
+}
+
+fn contents() {
+    table(
+        b"000000000000000000000000hhhhhhhhhhhhhhhhhhhhhhhh010101010101000000000000z1z1z1zzzzzzzzzzzzz1z1z1",
+        PAST_LAGS,
+        b"all zero:|0|24|512|0|2|5|5|5
+constant:|24|48|512|0|2|5|5|5
+two windows flat:|48|72|512|0|2|5|5|5
+two windows of -0:|72|96|512|0|4|5|5|5",
+    );
+}
+
+fn bounds() {
+    table(
+        b"030103010301",
+        ALL_FIVE,
+        b"whole lag 45,001:|0|12|512|0|45001|5|5|5
+whole lag 18,446,744,073,709,551,615:|0|12|512|0|18446744073709551615|5|5|5
+rate 0:|0|12|0|0|4|5|5|5
+rate 192,001:|0|12|192001|1|4|5|5|5
+rate 192,000, lags 150 to 151, no windows:|0|12|192000|1|4|5|5|5
+upper bound infinite:|0|12|512|2|4|5|5|5
+lower bound a NaN:|0|12|512|3|4|5|5|5",
+    );
+}
+
+fn values() {
+    table(
+        b"03010301030ni3010301030103010301030a",
+        ALL_FIVE,
+        b"a NaN:|0|12|512|0|4|5|5|5
+a NaN, whole lag 0:|0|12|512|0|0|5|5|5
+a NaN alone:|11|12|512|0|4|5|5|5
+minus infinity:|12|24|512|0|4|5|5|5
+the next above 2^150:|24|36|512|0|4|5|5|5
+too little room and a NaN:|0|12|512|0|4|3|3|3
+too little room and whole lag 45,001:|0|12|512|0|45001|3|3|3",
+    );
+}
+
+fn rooms() {
+    table(
+        b"030103010301",
+        NOTHING,
+        b"just enough room:|0|12|512|0|4|4|4|4
+clarity one short:|0|12|512|0|4|3|4|4
+weight one short:|0|12|512|0|4|4|3|4
+work one short:|0|12|512|0|4|4|4|3
+work one short for no slots:|0|0|512|0|4|4|4|3",
+    );
+}
+
+// rate 2,560, defaults: lags 2 to 20
+fn envelopes() {
+    table(
+        b"17100160110601106000060171001700117011070001611600000111160110110106006011001601101160110007",
+        NOTHING,
+        b"periods 5, 5, 10 and 7, whole lag 5:|0|92|2560|0|5|19|19|19
+periods 5, 5, 10 and 7, whole lag 10:|0|92|2560|0|10|19|19|19
+periods 5, 5, 10 and 7, whole lag 20:|0|92|2560|0|20|19|19|19
+periods 5, 5, 10 and 7, whole lag 3:|0|92|2560|0|3|19|19|19
+periods 5, 5, 10 and 7, whole lag 2:|0|92|2560|0|2|19|19|19
+periods 5, 5, 10 and 7, whole lag 7:|0|92|2560|0|7|19|19|19
+periods 5, 5, 10 and 7, whole lag 14:|0|92|2560|0|14|19|19|19
+periods 5, 5, 10 and 7, whole lag 4:|0|92|2560|0|4|19|19|19",
+    );
+    table(
+        b"0070000000700000007000007000000000000000700000700070007000700070000070000000070000000070",
+        NOTHING,
+        b"periods 8, 16, 4 and 9, whole lag 8:|0|88|2560|0|8|19|19|19
+periods 8, 16, 4 and 9, whole lag 16:|0|88|2560|0|16|19|19|19
+periods 8, 16, 4 and 9, whole lag 2:|0|88|2560|0|2|19|19|19
+periods 8, 16, 4 and 9, whole lag 4:|0|88|2560|0|4|19|19|19
+periods 8, 16, 4 and 9, whole lag 9:|0|88|2560|0|9|19|19|19
+periods 8, 16, 4 and 9, whole lag 18:|0|88|2560|0|18|19|19|19
+periods 8, 16, 4 and 9, whole lag 17:|0|88|2560|0|17|19|19|19
+periods 8, 16, 4 and 9, whole lag 19:|0|88|2560|0|19|19|19|19
+periods 8, 16, 4 and 9, whole lag 32:|0|88|2560|0|32|19|19|19",
+    );
+    table(
+        b"7850255171607909669091111465697778188049170317974054293825773564363363953227501421774366875975104904",
+        NOTHING,
+        b"noise, whole lag 5:|0|100|2560|0|5|19|19|19
+noise, whole lag 10:|0|100|2560|0|10|19|19|19
+noise, whole lag 11:|0|100|2560|0|11|19|19|19
+noise, whole lag 12:|0|100|2560|0|12|19|19|19
+noise, whole lag 13:|0|100|2560|0|13|19|19|19",
+    );
+}
+
+// ---- the tables
+
+// What a table shows of the lent slices afterwards: slots from here to the fifth.
+const ALL_FIVE: usize = 0;
+
+const PAST_LAGS: usize = 4;
+
+const NOTHING: usize = 5;
+
+fn table(text: &[u8], shown: usize, lines: &[u8]) {
+    let mut envelope = [0.0f64; 100];
+    spell(text, &mut envelope);
+    let mut at = 0;
+    while at < lines.len() {
+        let end = bytes::scan::find(lines, at, lines.len(), b'\n');
+        line(&envelope, shown, &lines[at..end]);
+        at = end + 1;
+    }
+}
+
+fn line(envelope: &[f64], shown: usize, line: &[u8]) {
+    show::words(&line[0..bytes::scan::find(line, 0, line.len(), b'|')]);
+    run(envelope, shown, columns(line));
+}
+
+fn spell(text: &[u8], values: &mut [f64]) {
+    let most = numbers::least(text.len(), values.len());
+    let mut i = 0;
+    while i < most {
+        values[i] = value(text[i]);
+        i += 1;
+    }
+}
+
+// What a byte of an envelope stands for: a letter for a value that is no digit.
+fn value(byte: u8) -> f64 {
+    if byte == b'h' {
+        return 2.5;
+    }
+    if byte == b'z' {
+        return -0.0;
+    }
+    if byte == b'n' {
+        return 0.0 / 0.0;
+    }
+    if byte == b'i' {
+        return -1.0 / 0.0;
+    }
+    // the next above 2^150
+    if byte == b'a' {
+        return 1427247692705960198167543979640382187474485248.0;
+    }
+    byte as f64 - 48.0
+}
+
+// The slots from c[1] to c[2] of the envelope, at rate c[3], the bounds c[4] of the tempo, the whole lag c[5], and so many slots lent: c[6] of
+// clarity, c[7] of weight, c[8] of work.
+fn run(envelope: &[f64], shown: usize, c: [usize; 10]) {
+    let end = numbers::least(c[2], envelope.len());
+    stability(
+        &envelope[numbers::least(c[1], end)..end],
+        small(c[3]),
+        bounds_of(c[4]),
+        c[5],
+        numbers::least(c[6], 19),
+        numbers::least(c[7], 19),
+        numbers::least(c[8], 19),
+        shown,
+    );
+}
+
+fn stability(
+    envelope: &[f64],
+    rate: u32,
+    opts: TempoOpts,
+    whole_lag: usize,
+    c: usize,
+    w: usize,
+    k: usize,
+    shown: usize,
+)
+    requires { ⌜ (c ≤ 19) × (w ≤ 19) × (k ≤ 19) ⌝ }
+{
+    let mut clarity = [9.0f64; 19];
+    let mut weight = [8.0f64; 19];
+    let mut work = [7.0f64; 19];
+    answer(stability::stability_of(
+        envelope,
+        rate,
+        opts,
+        whole_lag,
+        &mut clarity[0..c],
+        &mut weight[0..w],
+        &mut work[0..k],
+    ));
+    left(&clarity, &weight, &work, shown);
+}
+
+// The bounds of a case: 0 are the defaults.
+fn bounds_of(k: usize) -> TempoOpts {
+    if k == 1 {
+        return TempoOpts::between(299.0, 300.0);
+    }
+    if k == 2 {
+        return TempoOpts::between(30.0, 1.0 / 0.0);
+    }
+    if k == 3 {
+        return TempoOpts::between(0.0 / 0.0, 300.0);
+    }
+    TempoOpts::new()
+}
+
+// The numbers in the columns of a line. Column 0, the label, means nothing.
+fn columns(line: &[u8]) -> [usize; 10] {
+    let mut c = [0usize; 10];
+    let mut k = 0;
+    let mut i = 0;
+    while i < line.len() {
+        k = column_at(k, line[i]);
+        c[k] = with_digit(c[k], line[i]);
+        i += 1;
+    }
+    c
+}
+
+// The column of a byte after column k: the next where it is a bar.
+fn column_at(k: usize, byte: u8) -> usize
+    ensures { λ r. ⌜ r ≤ 9 ⌝ }
+{
+    if byte == b'|' {
+        return numbers::least(k, 8) + 1;
+    }
+    numbers::least(k, 9)
+}
+
+// The number with a digit more, and the largest of all where that comes near it or above it. Other bytes leave it.
+fn with_digit(n: usize, byte: u8) -> usize {
+    let digit = std::num::wrapping_sub_u8(byte, b'0');
+    if digit > 9 {
+        return n;
+    }
+    if n > 1844674407370955160 {
+        return 18446744073709551615;
+    }
+    n * 10 + digit as usize
+}
+
+// The number as a u32, or the largest of them.
+fn small(n: usize) -> u32 {
+    numbers::least(n, 4294967295) as u32
+}
+
+// The slots of a lent slice that a table shows.
+fn slots(name: &[u8], slots: &[f64], shown: usize) {
+    if shown == ALL_FIVE {
+        show::words(name);
+    }
+    let end = numbers::least(5, slots.len());
+    show::floats(&slots[numbers::least(shown, end)..end]);
+}
+
+fn left(clarity: &[f64; 19], weight: &[f64; 19], work: &[f64; 19], shown: usize) {
+    if shown == PAST_LAGS {
+        show::words(b", past the lags");
+    }
+    slots(b", clarity", clarity, shown);
+    slots(b", weight", weight, shown);
+    slots(b", work", work, shown);
+    show::end();
+}
 
 fn stability_is(s: Stability) {
     match s {
@@ -24,660 +318,4 @@ fn answer(a: Steadiness) {
     show::small(a.number);
     let s = a.stability;
     stability_is(s);
-}
-
-// One line of a call that is lent five slots a slice at rate 512, defaults: lags 1 to 4. The first four hold anything afterwards.
-fn four_lags(label: &[u8], envelope: &[f64], whole_lag: usize) {
-    let mut clarity = [9.0f64; 5];
-    let mut weight = [8.0f64; 5];
-    let mut work = [7.0f64; 5];
-    show::words(label);
-    answer(stability::stability_of(
-        envelope,
-        512,
-        TempoOpts::new(),
-        whole_lag,
-        &mut clarity,
-        &mut weight,
-        &mut work,
-    ));
-    show::words(b", past the lags");
-    show::float(clarity[4]);
-    show::float(weight[4]);
-    show::float(work[4]);
-    show::end();
-}
-
-fn windows() {
-    let mut e = [0.0f64; 30];
-    e[1] = 3.0;
-    e[3] = 1.0;
-    e[5] = 3.0;
-    e[7] = 1.0;
-    e[9] = 3.0;
-    e[11] = 1.0;
-    e[13] = 3.0;
-    e[14] = 1.0;
-    e[16] = 3.0;
-    e[19] = 3.0;
-    e[22] = 3.0;
-    e[25] = 3.0;
-    e[28] = 3.0;
-    four_lags(b"no slots:", &e[0..0], 4);
-    four_lags(b"eleven slots, one window:", &e[0..11], 4);
-    four_lags(b"twelve slots, two windows:", &e[0..12], 4);
-    four_lags(b"seventeen slots, two windows of eight:", &e[0..17], 4);
-    four_lags(b"eighteen slots, three windows:", &e[0..18], 4);
-    four_lags(b"23 slots, three windows of seven:", &e[0..23], 4);
-    four_lags(b"24 slots, four windows:", &e[0..24], 4);
-    four_lags(b"thirty slots, four windows of seven:", &e, 4);
-    four_lags(b"whole lag 3:", &e, 3);
-    four_lags(b"whole lag 2:", &e, 2);
-    four_lags(b"whole lag 1:", &e, 1);
-    four_lags(b"whole lag 0:", &e, 0);
-    four_lags(b"whole lag 6:", &e, 6);
-    four_lags(b"whole lag 45,000:", &e, 45000);
-}
-
-fn contents() {
-    let zeros = [0.0f64; 24];
-    let constant = [2.5f64; 24];
-    let mut half = [0.0f64; 24];
-    half[1] = 1.0;
-    half[3] = 1.0;
-    half[5] = 1.0;
-    half[7] = 1.0;
-    half[9] = 1.0;
-    half[11] = 1.0;
-    let mut signed = [-0.0f64; 24];
-    signed[1] = 1.0;
-    signed[3] = 1.0;
-    signed[5] = 1.0;
-    signed[19] = 1.0;
-    signed[21] = 1.0;
-    signed[23] = 1.0;
-    four_lags(b"all zero:", &zeros, 2);
-    four_lags(b"constant:", &constant, 2);
-    four_lags(b"two windows flat:", &half, 2);
-    four_lags(b"two windows of -0:", &signed, 4);
-}
-
-// One line of a call at rate 512 or another, with so many of five slots lent; all of them are shown.
-fn lent(
-    label: &[u8],
-    envelope: &[f64],
-    rate: u32,
-    opts: TempoOpts,
-    whole_lag: usize,
-    room: usize,
-    clarity: &mut [f64],
-    weight: &mut [f64],
-    work: &mut [f64],
-)
-    requires { ⌜ (room ≤ length (now clarity)) × (room ≤ length (now weight)) × (room ≤ length (now work)) ⌝ }
-{
-    show::words(label);
-    answer(stability::stability_of(
-        envelope,
-        rate,
-        opts,
-        whole_lag,
-        &mut clarity[0..room],
-        &mut weight[0..room],
-        &mut work[0..room],
-    ));
-    show::words(b", clarity");
-    show::floats(clarity);
-    show::words(b", weight");
-    show::floats(weight);
-    show::words(b", work");
-    show::floats(work);
-    show::end();
-}
-
-fn refused(
-    label: &[u8],
-    envelope: &[f64],
-    rate: u32,
-    opts: TempoOpts,
-    whole_lag: usize,
-    room: usize,
-)
-    requires { ⌜ room ≤ 5 ⌝ }
-{
-    let mut clarity = [9.0f64; 5];
-    let mut weight = [8.0f64; 5];
-    let mut work = [7.0f64; 5];
-    lent(
-        label,
-        envelope,
-        rate,
-        opts,
-        whole_lag,
-        room,
-        &mut clarity,
-        &mut weight,
-        &mut work,
-    );
-}
-
-fn bounds() {
-    let e = [
-        0.0f64,
-        3.0,
-        0.0,
-        1.0,
-        0.0,
-        3.0,
-        0.0,
-        1.0,
-        0.0,
-        3.0,
-        0.0,
-        1.0,
-    ];
-    let nan = 0.0f64 / 0.0;
-    let infinity = 1.0f64 / 0.0;
-    refused(b"whole lag 45,001:", &e, 512, TempoOpts::new(), 45001, 5);
-    refused(
-        b"whole lag 18,446,744,073,709,551,615:",
-        &e,
-        512,
-        TempoOpts::new(),
-        18446744073709551615,
-        5,
-    );
-    refused(b"rate 0:", &e, 0, TempoOpts::new(), 4, 5);
-    refused(
-        b"rate 192,001:",
-        &e,
-        192001,
-        TempoOpts::between(299.0, 300.0),
-        4,
-        5,
-    );
-    refused(
-        b"rate 192,000, lags 150 to 151, no windows:",
-        &e,
-        192000,
-        TempoOpts::between(299.0, 300.0),
-        4,
-        5,
-    );
-    refused(
-        b"upper bound infinite:",
-        &e,
-        512,
-        TempoOpts::between(30.0, infinity),
-        4,
-        5,
-    );
-    refused(
-        b"lower bound a NaN:",
-        &e,
-        512,
-        TempoOpts::between(nan, 300.0),
-        4,
-        5,
-    );
-}
-
-fn values() {
-    let nan = 0.0f64 / 0.0;
-    let infinity = 1.0f64 / 0.0;
-    let n = [
-        0.0f64,
-        3.0,
-        0.0,
-        1.0,
-        0.0,
-        3.0,
-        0.0,
-        1.0,
-        0.0,
-        3.0,
-        0.0,
-        nan,
-    ];
-    let i = [
-        -infinity,
-        3.0,
-        0.0,
-        1.0,
-        0.0,
-        3.0,
-        0.0,
-        1.0,
-        0.0,
-        3.0,
-        0.0,
-        1.0,
-    ];
-    let above = [
-        0.0f64,
-        3.0,
-        0.0,
-        1.0,
-        0.0,
-        3.0,
-        0.0,
-        1.0,
-        0.0,
-        3.0,
-        0.0,
-        1427247692705960198167543979640382187474485248.0,
-    ];
-    refused(b"a NaN:", &n, 512, TempoOpts::new(), 4, 5);
-    refused(b"a NaN, whole lag 0:", &n, 512, TempoOpts::new(), 0, 5);
-    refused(b"a NaN alone:", &n[11..12], 512, TempoOpts::new(), 4, 5);
-    refused(b"minus infinity:", &i, 512, TempoOpts::new(), 4, 5);
-    refused(
-        b"the next above 2^150:",
-        &above,
-        512,
-        TempoOpts::new(),
-        4,
-        5,
-    );
-    refused(
-        b"too little room and a NaN:",
-        &n,
-        512,
-        TempoOpts::new(),
-        4,
-        3,
-    );
-    refused(
-        b"too little room and whole lag 45,001:",
-        &n,
-        512,
-        TempoOpts::new(),
-        45001,
-        3,
-    );
-}
-
-// One line of a call that is lent c, w and k slots.
-fn room(label: &[u8], envelope: &[f64], c: &mut [f64], w: &mut [f64], k: &mut [f64]) {
-    show::words(label);
-    answer(stability::stability_of(envelope, 512, TempoOpts::new(), 4, c, w, k));
-    show::end();
-}
-
-fn rooms() {
-    let e = [
-        0.0f64,
-        3.0,
-        0.0,
-        1.0,
-        0.0,
-        3.0,
-        0.0,
-        1.0,
-        0.0,
-        3.0,
-        0.0,
-        1.0,
-    ];
-    let mut four = [9.0f64; 4];
-    let mut more = [8.0f64; 4];
-    let mut most = [7.0f64; 4];
-    let mut three = [6.0f64; 3];
-    room(b"just enough room:", &e, &mut four, &mut more, &mut most);
-    room(b"clarity one short:", &e, &mut three, &mut more, &mut most);
-    room(b"weight one short:", &e, &mut four, &mut three, &mut most);
-    room(b"work one short:", &e, &mut four, &mut more, &mut three);
-    room(
-        b"work one short for no slots:",
-        &e[0..0],
-        &mut four,
-        &mut more,
-        &mut three,
-    );
-}
-
-// rate 2,560, defaults: lags 2 to 20
-fn more_lags(label: &[u8], envelope: &[f64], whole_lag: usize) {
-    let mut clarity = [9.0f64; 19];
-    let mut weight = [8.0f64; 19];
-    let mut work = [7.0f64; 19];
-    show::words(label);
-    answer(stability::stability_of(
-        envelope,
-        2560,
-        TempoOpts::new(),
-        whole_lag,
-        &mut clarity,
-        &mut weight,
-        &mut work,
-    ));
-    show::end();
-}
-
-fn envelope_1() {
-    let e = [
-        1.0f64,
-        7.0,
-        1.0,
-        0.0,
-        0.0,
-        1.0,
-        6.0,
-        0.0,
-        1.0,
-        1.0,
-        0.0,
-        6.0,
-        0.0,
-        1.0,
-        1.0,
-        0.0,
-        6.0,
-        0.0,
-        0.0,
-        0.0,
-        0.0,
-        6.0,
-        0.0,
-        1.0,
-        7.0,
-        1.0,
-        0.0,
-        0.0,
-        1.0,
-        7.0,
-        0.0,
-        0.0,
-        1.0,
-        1.0,
-        7.0,
-        0.0,
-        1.0,
-        1.0,
-        0.0,
-        7.0,
-        0.0,
-        0.0,
-        0.0,
-        1.0,
-        6.0,
-        1.0,
-        1.0,
-        6.0,
-        0.0,
-        0.0,
-        0.0,
-        0.0,
-        0.0,
-        1.0,
-        1.0,
-        1.0,
-        1.0,
-        6.0,
-        0.0,
-        1.0,
-        1.0,
-        0.0,
-        1.0,
-        1.0,
-        0.0,
-        1.0,
-        0.0,
-        6.0,
-        0.0,
-        0.0,
-        6.0,
-        0.0,
-        1.0,
-        1.0,
-        0.0,
-        0.0,
-        1.0,
-        6.0,
-        0.0,
-        1.0,
-        1.0,
-        0.0,
-        1.0,
-        1.0,
-        6.0,
-        0.0,
-        1.0,
-        1.0,
-        0.0,
-        0.0,
-        0.0,
-        7.0,
-    ];
-    more_lags(b"periods 5, 5, 10 and 7, whole lag 5:", &e, 5);
-    more_lags(b"periods 5, 5, 10 and 7, whole lag 10:", &e, 10);
-    more_lags(b"periods 5, 5, 10 and 7, whole lag 20:", &e, 20);
-    more_lags(b"periods 5, 5, 10 and 7, whole lag 3:", &e, 3);
-    more_lags(b"periods 5, 5, 10 and 7, whole lag 2:", &e, 2);
-    more_lags(b"periods 5, 5, 10 and 7, whole lag 7:", &e, 7);
-    more_lags(b"periods 5, 5, 10 and 7, whole lag 14:", &e, 14);
-    more_lags(b"periods 5, 5, 10 and 7, whole lag 4:", &e, 4);
-}
-
-fn envelope_2() {
-    let e = [
-        0.0f64,
-        0.0,
-        7.0,
-        0.0,
-        0.0,
-        0.0,
-        0.0,
-        0.0,
-        0.0,
-        0.0,
-        7.0,
-        0.0,
-        0.0,
-        0.0,
-        0.0,
-        0.0,
-        0.0,
-        0.0,
-        7.0,
-        0.0,
-        0.0,
-        0.0,
-        0.0,
-        0.0,
-        7.0,
-        0.0,
-        0.0,
-        0.0,
-        0.0,
-        0.0,
-        0.0,
-        0.0,
-        0.0,
-        0.0,
-        0.0,
-        0.0,
-        0.0,
-        0.0,
-        0.0,
-        0.0,
-        7.0,
-        0.0,
-        0.0,
-        0.0,
-        0.0,
-        0.0,
-        7.0,
-        0.0,
-        0.0,
-        0.0,
-        7.0,
-        0.0,
-        0.0,
-        0.0,
-        7.0,
-        0.0,
-        0.0,
-        0.0,
-        7.0,
-        0.0,
-        0.0,
-        0.0,
-        7.0,
-        0.0,
-        0.0,
-        0.0,
-        0.0,
-        0.0,
-        7.0,
-        0.0,
-        0.0,
-        0.0,
-        0.0,
-        0.0,
-        0.0,
-        0.0,
-        0.0,
-        7.0,
-        0.0,
-        0.0,
-        0.0,
-        0.0,
-        0.0,
-        0.0,
-        0.0,
-        0.0,
-        7.0,
-        0.0,
-    ];
-    more_lags(b"periods 8, 16, 4 and 9, whole lag 8:", &e, 8);
-    more_lags(b"periods 8, 16, 4 and 9, whole lag 16:", &e, 16);
-    more_lags(b"periods 8, 16, 4 and 9, whole lag 2:", &e, 2);
-    more_lags(b"periods 8, 16, 4 and 9, whole lag 4:", &e, 4);
-    more_lags(b"periods 8, 16, 4 and 9, whole lag 9:", &e, 9);
-    more_lags(b"periods 8, 16, 4 and 9, whole lag 18:", &e, 18);
-    more_lags(b"periods 8, 16, 4 and 9, whole lag 17:", &e, 17);
-    more_lags(b"periods 8, 16, 4 and 9, whole lag 19:", &e, 19);
-    more_lags(b"periods 8, 16, 4 and 9, whole lag 32:", &e, 32);
-}
-
-fn envelope_3() {
-    let e = [
-        7.0f64,
-        8.0,
-        5.0,
-        0.0,
-        2.0,
-        5.0,
-        5.0,
-        1.0,
-        7.0,
-        1.0,
-        6.0,
-        0.0,
-        7.0,
-        9.0,
-        0.0,
-        9.0,
-        6.0,
-        6.0,
-        9.0,
-        0.0,
-        9.0,
-        1.0,
-        1.0,
-        1.0,
-        1.0,
-        4.0,
-        6.0,
-        5.0,
-        6.0,
-        9.0,
-        7.0,
-        7.0,
-        7.0,
-        8.0,
-        1.0,
-        8.0,
-        8.0,
-        0.0,
-        4.0,
-        9.0,
-        1.0,
-        7.0,
-        0.0,
-        3.0,
-        1.0,
-        7.0,
-        9.0,
-        7.0,
-        4.0,
-        0.0,
-        5.0,
-        4.0,
-        2.0,
-        9.0,
-        3.0,
-        8.0,
-        2.0,
-        5.0,
-        7.0,
-        7.0,
-        3.0,
-        5.0,
-        6.0,
-        4.0,
-        3.0,
-        6.0,
-        3.0,
-        3.0,
-        6.0,
-        3.0,
-        9.0,
-        5.0,
-        3.0,
-        2.0,
-        2.0,
-        7.0,
-        5.0,
-        0.0,
-        1.0,
-        4.0,
-        2.0,
-        1.0,
-        7.0,
-        7.0,
-        4.0,
-        3.0,
-        6.0,
-        6.0,
-        8.0,
-        7.0,
-        5.0,
-        9.0,
-        7.0,
-        5.0,
-        1.0,
-        0.0,
-        4.0,
-        9.0,
-        0.0,
-        4.0,
-    ];
-    more_lags(b"noise, whole lag 5:", &e, 5);
-    more_lags(b"noise, whole lag 10:", &e, 10);
-    more_lags(b"noise, whole lag 11:", &e, 11);
-    more_lags(b"noise, whole lag 12:", &e, 12);
-    more_lags(b"noise, whole lag 13:", &e, 13);
-}
-
-fn main() {
-    windows();
-    contents();
-    bounds();
-    values();
-    rooms();
-    envelope_1();
-    envelope_2();
-    envelope_3();
 }
