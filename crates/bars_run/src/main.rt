@@ -1,129 +1,272 @@
 // Runs the calls of `bars` on both sides of each boundary and prints what they answer; the file stdout holds what must come out.
 ghost use Prim.Native.Nat.{_≤_};
-ghost use lib.ListN.{length};
 use bars::BarBeat;
 
-// A line: what is answered where the first `room` slots of `frames` are lent, and all of them afterwards.
-fn part_lent(envelope: &[f64], beats: &[u32], frames: &mut [u32], room: usize)
-    requires { ⌜ room ≤ length (now frames) ⌝ }
+// The cases of `downbeats`, each up to its colon: the envelope, by its letter, and the values of it from one number up to the next; the beats
+// likewise; how many of twelve slots are lent; and what the line begins with. Those of `downbeats_in` begin with m and have the meter instead: their
+// envelope and beats are b09 and b09, and all twelve slots are lent.
+fn grids() {
+    each_case(
+        b"\
+          a06 a03 3 M11:\
+          b09 b09 9 nine beats:\
+          b09 b08 8 the fourth phase:\
+          b09 b56 c one beat:\
+          b09 b00 0 no beats, no room:\
+          b09 c06 c not ascending, twice the same:\
+          a01 b19 8 a tie of all four:\
+          b04 d06 6 beats past the envelope:\
+          b00 d06 6 no envelope:\
+          c06 b03 4 negative, an empty phase wins:\
+          c06 b04 4 negative, no phase is empty:\
+          c06 e04 4 -0 is as great as +0:\
+          c02 b04 4 a beat past the envelope beats a negative one:\
+          b02 f02 2 frame 1,048,575:\
+          b02 g02 2 frame 1,048,576:\
+          b02 h02 2 frame 4,294,967,295, first:\
+          b02 g02 1 1 before 3:\
+          b04 i05 5 a slot for each of five beats:\
+          b04 i05 4 one slot too few:\
+          b04 i01 0 no room:\
+          d02 b02 2 size 2^150:\
+          e02 b02 2 the next float above 2^150:\
+          k02 b01 2 a NaN that no beat reads:\
+          k23 b02 2 an infinity:\
+          k34 b02 2 minus infinity:\
+          k12 b00 0 a NaN and no beats:\
+          k04 b02 1 3 before 4:\
+          m       0 meter 0:\
+          m       1 meter 1:\
+          m       2 meter 2:\
+          m       3 meter 3:\
+          m       g meter 16:\
+          m       h meter 17:",
+    );
+}
+
+// The cases of `bar_beat_at`, each up to its colon: the time, as a letter and the value's place; the downbeats, by their letter, and the values from
+// one number up to the next; the beats likewise; and what the line begins with.
+fn places() {
+    each_case(
+        b"\
+          t l0 g02 f08 before the first bar:\
+          t l1 g02 f08 on the first downbeat:\
+          t l2 g02 f08 between beats:\
+          t l3 g02 f08 on a beat:\
+          t l4 g02 f08 on the second downbeat:\
+          t l5 g02 f08 past the last beat:\
+          t l2 g00 f08 no downbeats:\
+          t l2 g02 f00 no beats:\
+          t l2 g00 f00 neither:\
+          t i0 h01 h02 a slack before:\
+          t i1 h01 h02 more than a slack before:\
+          t i2 i34 h02 a downbeat a slack late:\
+          t i2 i45 h02 a downbeat later than that:\
+          t i2 h01 i05 beats at both slacks:\
+          t i2 h12 j02 a beat a slack before its bar:\
+          t i2 h12 i13 a beat earlier than that:\
+          t k1 k06 k06 time NaN:\
+          t k2 k06 k06 time infinity:\
+          t k3 k06 k06 time minus infinity:\
+          t l6 k06 k06 time 2.5:\
+          t l6 k12 k06 a downbeat NaN alone:\
+          t k2 k23 k06 a downbeat infinity alone:\
+          t l8 k34 k06 a downbeat minus infinity alone:\
+          t l7 k04 k06 not ascending, the last that is reached:",
+    );
+}
+
+// 2^150, and the next float above it.
+const TOP: f64 = 1427247692705959881058285969449495136382746624.0;
+
+const ABOVE: f64 = 1427247692705960197970935322542740166810075136.0;
+
+// The slack, and the next float above it.
+const SLACK: f64 = 0.000001;
+
+const MORE: f64 = 0.0000010000000000000002;
+
+// Envelopes and times by their letters; k is no constant.
+const VALUES: [[f64; 9]; 12] = [
+    [0.0, 4.0, 0.0, 4.0, 0.0, 4.0, 0.0, 0.0, 0.0], // a: M11
+    [1.0, 2.0, 3.0, 4.0, 5.0, 6.0, 7.0, 8.0, 9.0], // b: ascending
+    [-1.0, -2.0, -3.0, -4.0, -0.0, -0.0, 0.0, 0.0, 0.0], // c: none above zero
+    [TOP, -TOP, 0.0, 0.0, 0.0, 0.0, 0.0, 0.0, 0.0], // d: size 2^150
+    [1.0, ABOVE, 0.0, 0.0, 0.0, 0.0, 0.0, 0.0, 0.0], // e: the next float above 2^150
+    [100.0, 200.0, 300.0, 400.0, 500.0, 600.0, 700.0, 800.0, 0.0], // f: beats
+    [100.0, 500.0, 0.0, 0.0, 0.0, 0.0, 0.0, 0.0, 0.0], // g: their downbeats
+    [0.0, -0.0, 0.0, 0.0, 0.0, 0.0, 0.0, 0.0, 0.0], // h: zeros
+    [-SLACK, -MORE, 0.0, SLACK, MORE, 0.0, 0.0, 0.0, 0.0], // i: a slack from zero and more
+    [-SLACK, 0.0, 0.0, 0.0, 0.0, 0.0, 0.0, 0.0, 0.0], // j: a slack before zero
+    [0.0, 0.0, 0.0, 0.0, 0.0, 0.0, 0.0, 0.0, 0.0], // k: below
+    [99.0, 100.0, 350.0, 400.0, 500.0, 9000.0, 2.5, 1.5, 1.0], // l: times
+];
+
+fn values_of(byte: u8) -> [f64; 9] {
+    let k = letter(byte);
+    if k != 10 && k < 12 {
+        return VALUES[k];
+    }
+    // k: not ascending, a NaN and the infinities
+    [
+        1.0,
+        0.0 / 0.0,
+        1.0 / 0.0,
+        -1.0 / 0.0,
+        3.0,
+        2.0,
+        0.0,
+        0.0,
+        0.0,
+    ]
+}
+
+// Beats by their letters.
+const FRAMES: [[u32; 9]; 9] = [
+    [1, 3, 5, 0, 0, 0, 0, 0, 0], // a: M11
+    [0, 1, 2, 3, 4, 5, 6, 7, 8], // b: ascending
+    [8, 2, 2, 0, 1, 7, 0, 0, 0], // c: not ascending, twice the same
+    [4, 2, 1048575, 3, 0, 9, 0, 0, 0], // d: past the envelope
+    [1, 4, 2, 5, 0, 0, 0, 0, 0], // e: at -0
+    [1048575, 1, 0, 0, 0, 0, 0, 0, 0], // f: the last frame
+    [0, 1048576, 0, 0, 0, 0, 0, 0, 0], // g: one more
+    [4294967295, 1, 0, 0, 0, 0, 0, 0, 0], // h: the largest number
+    [0, 1, 2, 3, 0, 0, 0, 0, 0], // i: five beats
+];
+
+fn frames_of(byte: u8) -> [u32; 9] {
+    let k = letter(byte);
+    if k < 9 {
+        return FRAMES[k];
+    }
+    [0; 9]
+}
+
+// The place of a letter from a on.
+fn letter(byte: u8) -> usize {
+    (byte % 97) as usize
+}
+
+// The value of a digit, at most so much.
+fn digit(byte: u8, most: usize) -> usize
+    ensures { λ r. ⌜ r ≤ most ⌝ }
 {
-    let r = bars::downbeats(envelope, beats, &mut frames[0..room]);
-    show::small(r.number);
-    show::count(r.count);
+    numbers::least((byte % 48) as usize, most)
+}
+
+// The value of a digit, or of a letter from ten on.
+fn size(byte: u8) -> usize {
+    if byte < 97 {
+        return (byte % 48) as usize;
+    }
+    (byte - 87) as usize
+}
+
+// Runs each case of a text.
+fn each_case(text: &[u8]) {
+    let mut from = 0;
+    let mut i = 0;
+    while i < text.len() {
+        let past = i + 1;
+        if text[i] == 58 {
+            case(&text[from..past]);
+            from = past;
+        }
+        i = past;
+    }
+}
+
+fn case(c: &[u8]) {
+    if c.len() < 13 {
+        return;
+    }
+    if c[0] == 109 {
+        in_meter(size(c[8]), &c[10..]);
+        return;
+    }
+    if c[0] == 116 {
+        at(c);
+        return;
+    }
+    in_room(c);
+}
+
+fn in_room(c: &[u8]) {
+    if c.len() < 10 {
+        return;
+    }
+    show::words(&c[10..]);
+    let past = digit(c[2], 9);
+    let from = digit(c[1], past);
+    let envelope = values_of(c[0]);
+    with_beats(&envelope[from..past], c);
+}
+
+fn with_beats(envelope: &[f64], c: &[u8]) {
+    if c.len() < 10 {
+        return;
+    }
+    let room = size(c[8]);
+    let past = digit(c[6], 9);
+    let from = digit(c[5], past);
+    let beats = frames_of(c[4]);
+    lent(envelope, &beats[from..past], room);
+}
+
+// What is answered where the first `room` slots are lent, and all of them afterwards.
+fn lent(envelope: &[f64], beats: &[u32], room: usize) {
+    let mut frames = [77u32; 12];
+    let r = bars::downbeats(envelope, beats, &mut frames[0..numbers::least(room, 12)]);
+    told(r.number, r.count, &frames);
+}
+
+fn told(number: u32, count: usize, frames: &[u32; 12]) {
+    show::small(number);
+    show::count(count);
     show::words(b", frames");
     show::smalls(frames);
     show::end();
 }
 
-fn in_room(label: &[u8], envelope: &[f64], beats: &[u32], room: usize)
-    requires { ⌜ room ≤ 12 ⌝ }
+fn in_meter(meter: usize, label: &[u8]) {
+    let envelope = values_of(98);
+    let beats = frames_of(98);
+    let mut frames = [77u32; 12];
+    show::words(label);
+    let r = bars::downbeats_in(&envelope, &beats, meter, &mut frames);
+    told(r.number, r.count, &frames);
+}
+
+fn at(c: &[u8]) {
+    if c.len() < 13 {
+        return;
+    }
+    show::words(&c[13..]);
+    let time = value_of(c[2], digit(c[3], 8));
+    let past = digit(c[7], 9);
+    let from = digit(c[6], past);
+    let downbeats = values_of(c[5]);
+    among_beats(time, &downbeats[from..past], c);
+}
+
+fn value_of(byte: u8, i: usize) -> f64
+    requires { ⌜ i ≤ 8 ⌝ }
 {
-    let mut frames = [77u32; 12];
-    show::words(label);
-    part_lent(envelope, beats, &mut frames, room);
+    let values = values_of(byte);
+    values[i]
 }
 
-fn in_meter(label: &[u8], envelope: &[f64], beats: &[u32], meter: usize) {
-    let mut frames = [77u32; 12];
-    show::words(label);
-    let r = bars::downbeats_in(envelope, beats, meter, &mut frames);
-    show::small(r.number);
-    show::count(r.count);
-    show::words(b", frames");
-    show::smalls(&frames);
-    show::end();
+fn among_beats(time: f64, downbeats: &[f64], c: &[u8]) {
+    if c.len() < 13 {
+        return;
+    }
+    let past = digit(c[11], 9);
+    let from = digit(c[10], past);
+    let beats = values_of(c[9]);
+    place(bars::bar_beat_at(time, downbeats, &beats[from..past]));
 }
 
-fn phases() {
-    let m11 = [0.0f64, 4.0, 0.0, 4.0, 0.0, 4.0];
-    let flux = [1.0f64, 2.0, 3.0, 4.0, 5.0, 6.0, 7.0, 8.0, 9.0];
-    let beats = [1u32, 3, 5];
-    let run = [0u32, 1, 2, 3, 4, 5, 6, 7, 8];
-    let turned = [8u32, 2, 2, 0, 1, 7];
-    in_room(b"M11:", &m11, &beats, 3);
-    in_room(b"nine beats:", &flux, &run, 9);
-    in_room(b"the fourth phase:", &flux, &run[0..8], 8);
-    in_room(b"one beat:", &flux, &run[5..6], 12);
-    in_room(b"no beats, no room:", &flux, &run[0..0], 0);
-    in_room(b"not ascending, twice the same:", &flux, &turned, 12);
-    in_room(b"a tie of all four:", &m11[0..1], &run[1..9], 8);
-}
-
-fn past_the_envelope() {
-    let flux = [1.0f64, 2.0, 3.0, 4.0];
-    let far = [4u32, 2, 1048575, 3, 0, 9];
-    let none = [0.0f64; 1];
-    in_room(b"beats past the envelope:", &flux, &far, 6);
-    in_room(b"no envelope:", &none[0..0], &far, 6);
-}
-
-fn below_zero() {
-    let low = [-1.0f64, -2.0, -3.0, -4.0, -0.0, -0.0];
-    let beats = [0u32, 1, 2, 3];
-    let zeros = [1u32, 4, 2, 5];
-    in_room(b"negative, an empty phase wins:", &low, &beats[0..3], 4);
-    in_room(b"negative, no phase is empty:", &low, &beats, 4);
-    in_room(b"-0 is as great as +0:", &low, &zeros, 4);
-    in_room(
-        b"a beat past the envelope beats a negative one:",
-        &low[0..2],
-        &beats,
-        4,
-    );
-}
-
-fn frames_at_the_limit() {
-    let flux = [1.0f64, 2.0];
-    let last = [1048575u32, 1];
-    let over = [0u32, 1048576];
-    let most = [4294967295u32, 1];
-    in_room(b"frame 1,048,575:", &flux, &last, 2);
-    in_room(b"frame 1,048,576:", &flux, &over, 2);
-    in_room(b"frame 4,294,967,295, first:", &flux, &most, 2);
-    in_room(b"1 before 3:", &flux, &over, 1);
-}
-
-fn room() {
-    let flux = [1.0f64, 2.0, 3.0, 4.0];
-    let beats = [0u32, 1, 2, 3, 0];
-    in_room(b"a slot for each of five beats:", &flux, &beats, 5);
-    in_room(b"one slot too few:", &flux, &beats, 4);
-    in_room(b"no room:", &flux, &beats[0..1], 0);
-}
-
-fn values() {
-    let nan = 0.0f64 / 0.0;
-    let infinity = 1.0f64 / 0.0;
-    let top = [
-        1427247692705959881058285969449495136382746624.0f64,
-        -1427247692705959881058285969449495136382746624.0,
-    ];
-    let above = [1.0f64, 1427247692705960197970935322542740166810075136.0];
-    let odd = [1.0f64, nan, infinity, -infinity];
-    let beats = [0u32, 1];
-    in_room(b"size 2^150:", &top, &beats, 2);
-    in_room(b"the next float above 2^150:", &above, &beats, 2);
-    in_room(b"a NaN that no beat reads:", &odd[0..2], &beats[0..1], 2);
-    in_room(b"an infinity:", &odd[2..3], &beats, 2);
-    in_room(b"minus infinity:", &odd[3..4], &beats, 2);
-    in_room(b"a NaN and no beats:", &odd[1..2], &beats[0..0], 0);
-    in_room(b"3 before 4:", &odd, &beats, 1);
-}
-
-fn meters() {
-    let flux = [1.0f64, 2.0, 3.0, 4.0, 5.0, 6.0, 7.0, 8.0, 9.0];
-    let beats = [0u32, 1, 2, 3, 4, 5, 6, 7, 8];
-    in_meter(b"meter 0:", &flux, &beats, 0);
-    in_meter(b"meter 1:", &flux, &beats, 1);
-    in_meter(b"meter 2:", &flux, &beats, 2);
-    in_meter(b"meter 3:", &flux, &beats, 3);
-    in_meter(b"meter 16:", &flux, &beats, 16);
-    in_meter(b"meter 17:", &flux, &beats, 17);
-}
-
-fn at(label: &[u8], time: f64, downbeats: &[f64], beats: &[f64]) {
-    show::words(label);
-    let a = bars::bar_beat_at(time, downbeats, beats);
+fn place(a: BarBeat) {
     match a {
         BarBeat::Nowhere => show::words(b" nowhere"),
         BarBeat::At { bar, beat } => {
@@ -136,87 +279,7 @@ fn at(label: &[u8], time: f64, downbeats: &[f64], beats: &[f64]) {
     show::end();
 }
 
-fn times() {
-    let beats = [100.0f64, 200.0, 300.0, 400.0, 500.0, 600.0, 700.0, 800.0];
-    let downbeats = [100.0f64, 500.0];
-    at(b"before the first bar:", 99.0, &downbeats, &beats);
-    at(b"on the first downbeat:", 100.0, &downbeats, &beats);
-    at(b"between beats:", 350.0, &downbeats, &beats);
-    at(b"on a beat:", 400.0, &downbeats, &beats);
-    at(b"on the second downbeat:", 500.0, &downbeats, &beats);
-    at(b"past the last beat:", 9000.0, &downbeats, &beats);
-    at(b"no downbeats:", 350.0, &downbeats[0..0], &beats);
-    at(b"no beats:", 350.0, &downbeats, &beats[0..0]);
-    at(b"neither:", 350.0, &downbeats[0..0], &beats[0..0]);
-}
-
-fn slack() {
-    let bar = [0.0f64];
-    let late = [0.000001f64];
-    let later = [0.0000010000000000000002f64];
-    let beats = [
-        -0.000001f64,
-        -0.0000010000000000000002,
-        0.0,
-        0.000001,
-        0.0000010000000000000002,
-    ];
-    let zeros = [0.0f64, -0.0];
-    at(b"a slack before:", -0.000001, &bar, &zeros);
-    at(
-        b"more than a slack before:",
-        -0.0000010000000000000002,
-        &bar,
-        &zeros,
-    );
-    at(b"a downbeat a slack late:", 0.0, &late, &zeros);
-    at(b"a downbeat later than that:", 0.0, &later, &zeros);
-    at(b"beats at both slacks:", 0.0, &bar, &beats);
-}
-
-fn early_beats() {
-    let bar = [-0.0f64];
-    let early = [-0.000001f64, 0.0];
-    let earlier = [-0.0000010000000000000002f64, 0.0];
-    at(b"a beat a slack before its bar:", 0.0, &bar, &early);
-    at(b"a beat earlier than that:", 0.0, &bar, &earlier);
-}
-
-fn any_float() {
-    let nan = 0.0f64 / 0.0;
-    let infinity = 1.0f64 / 0.0;
-    let bars = [1.0f64, nan, infinity, -infinity, 3.0, 2.0];
-    let beats = [1.0f64, nan, infinity, -infinity, 3.0, 2.0];
-    at(b"time NaN:", nan, &bars, &beats);
-    at(b"time infinity:", infinity, &bars, &beats);
-    at(b"time minus infinity:", -infinity, &bars, &beats);
-    at(b"time 2.5:", 2.5, &bars, &beats);
-    at(b"a downbeat NaN alone:", 2.5, &bars[1..2], &beats);
-    at(b"a downbeat infinity alone:", infinity, &bars[2..3], &beats);
-    at(
-        b"a downbeat minus infinity alone:",
-        1.0,
-        &bars[3..4],
-        &beats,
-    );
-    at(
-        b"not ascending, the last that is reached:",
-        1.5,
-        &bars[0..4],
-        &beats,
-    );
-}
-
 fn main() {
-    phases();
-    past_the_envelope();
-    below_zero();
-    frames_at_the_limit();
-    room();
-    values();
-    meters();
-    times();
-    slack();
-    early_beats();
-    any_float();
+    grids();
+    places();
 }

@@ -1,243 +1,368 @@
 // Runs `beats::beat_grid` on both sides of each boundary and prints what it answers; the file stdout holds what must come out.
 ghost use Prim.Native.Nat.{_≤_};
-ghost use lib.ListN.{length};
 
-// A line: what is answered where the first slots of three lists of eight are lent, and all of their slots afterwards.
-fn part_lent(
-    envelope: &[f64],
-    period: usize,
-    score: &mut [f64],
-    back: &mut [u32],
-    beats: &mut [u32],
-    rooms: [usize; 3],
-)
-    requires { ⌜ (8 ≤ length (now score)) × (8 ≤ length (now back)) × (8 ≤ length (now beats)) ⌝ }
-{
-    let a = numbers::least(rooms[0], 8);
-    let b = numbers::least(rooms[1], 8);
-    let c = numbers::least(rooms[2], 8);
-    let r = beats::beat_grid(
-        envelope,
-        period,
-        &mut score[0..a],
-        &mut back[0..b],
-        &mut beats[0..c],
+// The cases, each up to its colon: the envelope, by its letter, and the frames of it from one number up to the next; so many slots lent of score, of
+// back and of beats; the period, a digit or its letter; and what the line begins with. Envelopes s and t are taken whole, with fifty slots of each.
+fn grids() {
+    each_grid(
+        b"\
+          a06 888 2 M11:\
+          b04 888 2 M12:\
+          b00 888 2 no frames:\
+          a12 888 2 one frame:\
+          a02 888 2 two frames:\
+          a16 888 2 M11 from its second frame:\
+          c08 888 0 period 0:\
+          c08 888 1 period 1:\
+          c08 888 2 period 2:\
+          c08 888 3 period 3:\
+          c08 888 4 period 4:\
+          c08 888 5 period 5:\
+          c08 888 8 period 8, the envelope's length:\
+          c08 888 9 period 9:\
+          d06 888 d period 2,048:\
+          d06 888 e period 2,049:\
+          d06 888 f period 45,000:\
+          c08 888 g period 45,001:\
+          c08 888 h period 18,446,744,073,709,551,615:\
+          e08 888 4 frame 0 for t below half:\
+          e08 888 1 period 1, two earlier frames:\
+          e08 888 2 period 2, equal extensions:\
+          e08 888 3 period 3:\
+          e08 888 7 period 7:\
+          e08 888 c period 100:\
+          f04 888 a the first frame alone:\
+          g06 888 2 the first frame, then below zero:\
+          h06 888 c a plateau:\
+          h06 888 1 a plateau, period 1:\
+          h06 888 2 a plateau, period 2:\
+          i06 888 b two ends with one score:\
+          j06 888 2 -0 and values below zero:\
+          k04 888 2 zeros alone:\
+          l04 888 2 variance below 2^-52:\
+          m04 888 2 variance above 2^-52:\
+          n04 888 2 variance 2^-52:\
+          o04 888 2 the next variance:\
+          c06 666 2 exactly full:\
+          c06 566 2 score one short:\
+          c06 656 2 back one short:\
+          c06 665 2 beats one short:\
+          c06 787 2 more room than frames:\
+          c00 000 2 no room, no frames:\
+          c06 000 0 no room, period 0:\
+          c06 665 0 room asked where nothing is answered:\
+          c06 665 g 1 before 3:\
+          p03 888 2 size 2^150:\
+          q03 888 2 the next float above 2^150:\
+          r02 888 2 a NaN:\
+          r23 888 2 an infinity:\
+          r34 888 2 minus infinity:\
+          r02 888 0 a NaN, period 0:\
+          r04 388 2 3 before 4:\
+          r04 888 g 1 before 4:\
+          s.. ... 6 pulses, period 6:\
+          s.. ... 7 pulses, period 7:\
+          s.. ... 8 pulses, period 8:\
+          s.. ... i pulses, period 12:\
+          s.. ... j pulses, period 20:\
+          t.. ... k ties, period 16:\
+          t.. ... l ties, period 24:\
+          t.. ... m ties, period 30:",
     );
-    show::small(r.number);
-    show::count(r.count);
-    show::words(b", beats");
-    show::smalls(beats);
-    show::words(b", back");
-    show::smalls(back);
-    show::words(b", score");
-    show::floats(score);
-    show::end();
 }
 
-fn in_rooms(label: &[u8], envelope: &[f64], period: usize, rooms: [usize; 3]) {
-    let mut score = [7.5f64; 8];
-    let mut back = [77u32; 8];
-    let mut beats = [88u32; 8];
-    show::words(label);
-    part_lent(envelope, period, &mut score, &mut back, &mut beats, rooms);
-}
-
-fn grid(label: &[u8], envelope: &[f64], period: usize) {
-    in_rooms(label, envelope, period, [8, 8, 8]);
-}
-
-fn marked() {
-    let m11 = [0.0f64, 4.0, 0.0, 4.0, 0.0, 4.0];
-    let m12 = [4.0f64, 4.0, 4.0, 4.0];
-    grid(b"M11:", &m11, 2);
-    grid(b"M12:", &m12, 2);
-    grid(b"no frames:", &m12[0..0], 2);
-    grid(b"one frame:", &m11[1..2], 2);
-    grid(b"two frames:", &m11[0..2], 2);
-    grid(b"M11 from its second frame:", &m11[1..6], 2);
-}
-
-fn periods() {
-    let e = [1.0f64, 0.0, 3.0, 1.0, 0.0, 2.0, 5.0, 0.0];
-    grid(b"period 0:", &e, 0);
-    grid(b"period 1:", &e, 1);
-    grid(b"period 2:", &e, 2);
-    grid(b"period 3:", &e, 3);
-    grid(b"period 4:", &e, 4);
-    grid(b"period 5:", &e, 5);
-    grid(b"period 8, the envelope's length:", &e, 8);
-    grid(b"period 9:", &e, 9);
-}
-
-fn long_periods() {
-    let e = [1.0f64, 0.0, 3.0, 1.0, 0.0, 2.0, 5.0, 0.0];
-    let high = [
-        1000000.0f64,
+// The envelopes by their letters; r is no constant. Values far from 0 with little between them, as in d and e, are large when scaled, so that every
+// extension counts.
+const ENVELOPES: [[f64; 8]; 17] = [
+    [0.0, 4.0, 0.0, 4.0, 0.0, 4.0, 0.0, 0.0], // a: M11
+    [4.0, 4.0, 4.0, 4.0, 0.0, 0.0, 0.0, 0.0], // b: M12
+    [1.0, 0.0, 3.0, 1.0, 0.0, 2.0, 5.0, 0.0], // c: unlike frames
+    [
+        1000000.0,
         1000001.0,
         1000000.0,
         1000001.0,
         1000000.0,
         1000002.0,
-    ];
-    grid(b"period 2,048:", &high, 2048);
-    grid(b"period 2,049:", &high, 2049);
-    grid(b"period 45,000:", &high, 45000);
-    grid(b"period 45,001:", &e, 45001);
-    grid(
-        b"period 18,446,744,073,709,551,615:",
-        &e,
-        18446744073709551615,
+        0.0,
+        0.0,
+    ], // d: farther from 0
+    [
+        1000.0,
+        1001.0,
+        1000.0,
+        1001.0,
+        1000.0,
+        1001.0,
+        1000.0,
+        1001.0,
+    ], // e: far from 0
+    [9.0, 0.0, 0.0, 0.0, 0.0, 0.0, 0.0, 0.0], // f: the first frame alone
+    [9.0, -1.0, -2.0, -1.0, -2.0, -1.0, 0.0, 0.0], // g: the first frame, then below zero
+    [0.0, 4.0, 4.0, 4.0, 0.0, 0.0, 0.0, 0.0], // h: a plateau
+    [5.0, 1.0, 1.0, 5.0, 1.0, 1.0, 0.0, 0.0], // i: two ends with one score
+    [-0.0, 4.0, -0.0, -4.0, -0.0, 4.0, 0.0, 0.0], // j: -0 and values below zero
+    [0.0, -0.0, 0.0, -0.0, 0.0, 0.0, 0.0, 0.0], // k: zeros
+    [0.00000001, 0.0, 0.00000001, 0.0, 0.0, 0.0, 0.0, 0.0], // l: variance below 2^-52
+    [0.0000001, 0.0, 0.0000001, 0.0, 0.0, 0.0, 0.0, 0.0], // m: variance above 2^-52
+    [FLAT, 0.0, FLAT, 0.0, 0.0, 0.0, 0.0, 0.0], // n: variance 2^-52
+    [UNFLAT, 0.0, UNFLAT, 0.0, 0.0, 0.0, 0.0, 0.0], // o: the next variance
+    [TOP, -TOP, 0.0, 0.0, 0.0, 0.0, 0.0, 0.0], // p: size 2^150
+    [1.0, ABOVE, 0.0, 0.0, 0.0, 0.0, 0.0, 0.0], // q: the next float above 2^150
+];
+
+// Of four values, two of them 2^-25 and two 0, a variance of exactly 2^-52; and the next above it that such values have.
+const FLAT: f64 = 0.0000000298023223876953125;
+
+const UNFLAT: f64 = 0.00000002980232238769532;
+
+// 2^150, and the next float above it.
+const TOP: f64 = 1427247692705959881058285969449495136382746624.0;
+
+const ABOVE: f64 = 1427247692705960197970935322542740166810075136.0;
+
+// The place of a letter from a on; the value of a digit.
+fn letter(byte: u8) -> usize {
+    (byte % 97) as usize
+}
+
+fn digit(byte: u8) -> usize {
+    (byte % 48) as usize
+}
+
+fn envelope_of(byte: u8) -> [f64; 8] {
+    let k = letter(byte);
+    if k < 17 {
+        return ENVELOPES[k];
+    }
+    // r: a NaN, an infinity, minus infinity
+    [1.0, 0.0 / 0.0, 1.0 / 0.0, -1.0 / 0.0, 0.0, 0.0, 0.0, 0.0]
+}
+
+// The periods above 9 by their letters.
+const LONG_PERIODS: [usize; 13] = [
+    10, // a
+    50, // b
+    100, // c
+    2048, // d
+    2049, // e
+    45000, // f
+    45001, // g
+    18446744073709551615, // h
+    12, // i
+    20, // j
+    16, // k
+    24, // l
+    30, // m
+];
+
+fn period_of(byte: u8) -> usize {
+    if byte < 97 {
+        return digit(byte);
+    }
+    let k = letter(byte);
+    if k < 13 {
+        return LONG_PERIODS[k];
+    }
+    0
+}
+
+// Runs each case of a text.
+fn each_grid(text: &[u8]) {
+    let mut from = 0;
+    let mut i = 0;
+    while i < text.len() {
+        let past = i + 1;
+        if text[i] == 58 {
+            grid(&text[from..past]);
+            from = past;
+        }
+        i = past;
+    }
+}
+
+fn grid(c: &[u8]) {
+    if c.len() < 10 {
+        return;
+    }
+    if 115 <= c[0] {
+        long_grid(c);
+        return;
+    }
+    let e = envelope_of(c[0]);
+    let past = numbers::least(digit(c[2]), 8);
+    let from = numbers::least(digit(c[1]), past);
+    show::words(&c[10..]);
+    run(
+        &e[from..past],
+        period_of(c[8]),
+        digit(c[4]),
+        digit(c[5]),
+        digit(c[6]),
+        8,
     );
 }
 
-// Values far from 0 with little between them are large when scaled, so that every extension counts.
-fn far_from_zero() {
-    let high = [
-        1000.0f64,
-        1001.0,
-        1000.0,
-        1001.0,
-        1000.0,
-        1001.0,
-        1000.0,
-        1001.0,
-    ];
-    grid(b"frame 0 for t below half:", &high, 4);
-    grid(b"period 1, two earlier frames:", &high, 1);
-    grid(b"period 2, equal extensions:", &high, 2);
-    grid(b"period 3:", &high, 3);
-    grid(b"period 7:", &high, 7);
-    grid(b"period 100:", &high, 100);
-}
-
-fn ends() {
-    let first = [9.0f64, 0.0, 0.0, 0.0];
-    let low = [9.0f64, -1.0, -2.0, -1.0, -2.0, -1.0];
-    let plateau = [0.0f64, 4.0, 4.0, 4.0, 0.0, 0.0];
-    let twice = [5.0f64, 1.0, 1.0, 5.0, 1.0, 1.0];
-    grid(b"the first frame alone:", &first, 10);
-    grid(b"the first frame, then below zero:", &low, 2);
-    grid(b"a plateau:", &plateau, 100);
-    grid(b"a plateau, period 1:", &plateau, 1);
-    grid(b"a plateau, period 2:", &plateau, 2);
-    grid(b"two ends with one score:", &twice, 50);
-}
-
-fn zeros() {
-    let minus = [-0.0f64, 4.0, -0.0, -4.0, -0.0, 4.0];
-    let none = [0.0f64, -0.0, 0.0, -0.0];
-    let tiny = [0.00000001f64, 0.0, 0.00000001, 0.0];
-    let small = [0.0000001f64, 0.0, 0.0000001, 0.0];
-    grid(b"-0 and values below zero:", &minus, 2);
-    grid(b"zeros alone:", &none, 2);
-    grid(b"variance below 2^-52:", &tiny, 2);
-    grid(b"variance above 2^-52:", &small, 2);
-}
-
-// Of four values, two of them 2^-25 and two 0, a variance of exactly 2^-52; and the next above it that such values have.
-fn flatness() {
-    let flat = [
-        0.0000000298023223876953125f64,
-        0.0,
-        0.0000000298023223876953125,
-        0.0,
-    ];
-    let above = [
-        0.00000002980232238769532f64,
-        0.0,
-        0.00000002980232238769532,
-        0.0,
-    ];
-    grid(b"variance 2^-52:", &flat, 2);
-    grid(b"the next variance:", &above, 2);
-}
-
-fn rooms() {
-    let e = [1.0f64, 0.0, 3.0, 1.0, 0.0, 2.0];
-    in_rooms(b"exactly full:", &e, 2, [6, 6, 6]);
-    in_rooms(b"score one short:", &e, 2, [5, 6, 6]);
-    in_rooms(b"back one short:", &e, 2, [6, 5, 6]);
-    in_rooms(b"beats one short:", &e, 2, [6, 6, 5]);
-    in_rooms(b"more room than frames:", &e, 2, [7, 8, 7]);
-    in_rooms(b"no room, no frames:", &e[0..0], 2, [0, 0, 0]);
-    in_rooms(b"no room, period 0:", &e, 0, [0, 0, 0]);
-    in_rooms(b"room asked where nothing is answered:", &e, 0, [6, 6, 5]);
-    in_rooms(b"1 before 3:", &e, 45001, [6, 6, 5]);
-}
-
-fn values() {
-    let nan = 0.0f64 / 0.0;
-    let infinity = 1.0f64 / 0.0;
-    let top = [
-        1427247692705959881058285969449495136382746624.0f64,
-        -1427247692705959881058285969449495136382746624.0,
-        0.0,
-    ];
-    let above = [
-        1.0f64,
-        1427247692705960197970935322542740166810075136.0,
-        0.0,
-    ];
-    let odd = [1.0f64, nan, infinity, -infinity];
-    grid(b"size 2^150:", &top, 2);
-    grid(b"the next float above 2^150:", &above, 2);
-    grid(b"a NaN:", &odd[0..2], 2);
-    grid(b"an infinity:", &odd[2..3], 2);
-    grid(b"minus infinity:", &odd[3..4], 2);
-    grid(b"a NaN, period 0:", &odd[0..2], 0);
-    in_rooms(b"3 before 4:", &odd, 2, [3, 8, 8]);
-    grid(b"1 before 4:", &odd, 45001);
-}
-
-// A line for forty-eight frames, where windows are long enough to be searched eight frames at a time.
-fn long_grid(label: &[u8], envelope: &[f64], period: usize) {
+// The rest of a line: what is answered where the first slots of three lists are lent, so many of score, of back and of beats, and the first slots of
+// each afterwards, lent or not.
+fn run(envelope: &[f64], period: usize, scores: usize, links: usize, frames: usize, shown: usize) {
     let mut score = [7.5f64; 50];
     let mut back = [77u32; 50];
     let mut beats = [88u32; 50];
-    show::words(label);
-    let r = beats::beat_grid(envelope, period, &mut score, &mut back, &mut beats);
+    let r = beats::beat_grid(
+        envelope,
+        period,
+        &mut score[0..numbers::least(scores, 50)],
+        &mut back[0..numbers::least(links, 50)],
+        &mut beats[0..numbers::least(frames, 50)],
+    );
     show::small(r.number);
     show::count(r.count);
+    left(&score, &back, &beats, numbers::least(shown, 50));
+}
+
+// The first n slots of each list.
+fn left(score: &[f64; 50], back: &[u32; 50], beats: &[u32; 50], n: usize)
+    requires { ⌜ n ≤ 50 ⌝ }
+{
     show::words(b", beats");
-    show::smalls(&beats);
+    let frames = &beats[..];
+    show::smalls(&frames[0..n]);
     show::words(b", back");
-    show::smalls(&back);
+    let links = &back[..];
+    show::smalls(&links[0..n]);
     show::words(b", score");
-    show::floats(&score);
+    let scores = &score[..];
+    show::floats(&scores[0..n]);
     show::end();
 }
 
-fn pulses() {
-    let mut e = [0.0f64; 48];
-    e[1] = 3.0;
-    e[5] = 1.0;
-    e[9] = 4.0;
-    e[14] = 1.5;
-    e[17] = 3.5;
-    e[18] = 3.25;
-    e[25] = 4.0;
-    e[33] = -2.0;
-    e[34] = 2.0;
-    e[41] = 4.0;
-    e[42] = 4.0;
-    long_grid(b"pulses, period 6:", &e, 6);
-    long_grid(b"pulses, period 7:", &e, 7);
-    long_grid(b"pulses, period 8:", &e, 8);
-    long_grid(b"pulses, period 12:", &e, 12);
-    long_grid(b"pulses, period 20:", &e, 20);
+// A line for forty-eight frames, where windows are long enough to be searched eight frames at a time.
+fn long_grid(c: &[u8]) {
+    if c.len() < 10 {
+        return;
+    }
+    let e = long_envelope(c[0]);
+    show::words(&c[10..]);
+    run(&e, period_of(c[8]), 50, 50, 50, 50);
 }
 
-// So far from 0 that small penalties are lost in rounding: many extensions are equal, and the first is linked.
-fn ties() {
-    let mut e = [1152921504606846976.0f64; 48];
-    e[3] = 1152921504606847232.0;
-    e[20] = 1152921504606847232.0;
-    e[21] = 1152921504606847232.0;
-    e[30] = 1152921504606847488.0;
-    long_grid(b"ties, period 16:", &e, 16);
-    long_grid(b"ties, period 24:", &e, 24);
-    long_grid(b"ties, period 30:", &e, 30);
+fn long_envelope(byte: u8) -> [f64; 48] {
+    if byte == 115 {
+        return PULSES;
+    }
+    TIES
 }
+
+const PULSES: [f64; 48] = [
+    0.0,
+    3.0,
+    0.0,
+    0.0,
+    0.0,
+    1.0,
+    0.0,
+    0.0,
+    0.0,
+    4.0,
+    0.0,
+    0.0,
+    0.0,
+    0.0,
+    1.5,
+    0.0,
+    0.0,
+    3.5,
+    3.25,
+    0.0,
+    0.0,
+    0.0,
+    0.0,
+    0.0,
+    0.0,
+    4.0,
+    0.0,
+    0.0,
+    0.0,
+    0.0,
+    0.0,
+    0.0,
+    0.0,
+    -2.0,
+    2.0,
+    0.0,
+    0.0,
+    0.0,
+    0.0,
+    0.0,
+    0.0,
+    4.0,
+    4.0,
+    0.0,
+    0.0,
+    0.0,
+    0.0,
+    0.0,
+];
+
+// 2^60, and the next two floats above it.
+const FAR: f64 = 1152921504606846976.0;
+
+const FARTHER: f64 = 1152921504606847232.0;
+
+const FARTHEST: f64 = 1152921504606847488.0;
+
+// So far from 0 that small penalties are lost in rounding: many extensions are equal, and the first is linked.
+const TIES: [f64; 48] = [
+    FAR,
+    FAR,
+    FAR,
+    FARTHER,
+    FAR,
+    FAR,
+    FAR,
+    FAR,
+    FAR,
+    FAR,
+    FAR,
+    FAR,
+    FAR,
+    FAR,
+    FAR,
+    FAR,
+    FAR,
+    FAR,
+    FAR,
+    FAR,
+    FARTHER,
+    FARTHER,
+    FAR,
+    FAR,
+    FAR,
+    FAR,
+    FAR,
+    FAR,
+    FAR,
+    FAR,
+    FARTHEST,
+    FAR,
+    FAR,
+    FAR,
+    FAR,
+    FAR,
+    FAR,
+    FAR,
+    FAR,
+    FAR,
+    FAR,
+    FAR,
+    FAR,
+    FAR,
+    FAR,
+    FAR,
+    FAR,
+    FAR,
+];
 
 // Intervals of 36 and 49 frames have one penalty at period 42: frame 49 may follow frames 0 and 13 alike, and follows the first.
 fn equal_extensions() {
@@ -258,16 +383,6 @@ fn equal_extensions() {
 }
 
 fn main() {
-    marked();
-    periods();
-    long_periods();
-    far_from_zero();
-    ends();
-    zeros();
-    flatness();
-    rooms();
-    values();
-    pulses();
-    ties();
+    grids();
     equal_extensions();
 }

@@ -1,8 +1,180 @@
 // Runs median_of and mad_of on both sides of each boundary of document 01 and prints what they answer, and the slots of the work slice
 // that must not have changed: all five at a refusal, else those past the values. The file stdout holds what must come out.
 ghost use Prim.Native.Nat.{_≤_};
-ghost use lib.ListN.{length};
 use median::Answer;
+
+// The cases, each up to its colon: a dot for median_of, or for mad_of the median by its letter; the values by their letter, from one number up to the
+// next; how many of five slots are lent; and what the line begins with.
+fn main() {
+    each_case(
+        b"\
+          . a04 4 median of 4, 1, 3, 2 in 4 slots:\
+          . a04 5 in 5 slots:\
+          . a04 3 in 3 slots:\
+          . a03 3 of the first 3 in 3 slots:\
+          . a02 2 of the first 2 in 2 slots:\
+          . a01 1 of the first in 1 slot:\
+          . a01 0 of the first in no slot:\
+          . a00 5 of none in 5 slots:\
+          . a00 0 of none in no slot:\
+          . b03 3 median of 2^150, -2^150, 2^150:\
+          . c02 2 of 1 and the next above 2^150:\
+          . d02 2 of the next below -2^150 and 1:\
+          . h03 3 of 1, 2, nan:\
+          . h03 2 of 1, 2, nan in 2 slots:\
+          . h34 1 of infinity:\
+          . h45 1 of -infinity:\
+          . e02 2 median of 0, -0:\
+          . e14 3 of -0, -0, 0:\
+          . e25 3 of -0, 0, 0:\
+          . e05 5 of 0, -0, -0, 0, 0:\
+          . f05 5 of 5, -1, -7, -2.5, 0.5:\
+          . f15 4 of -1, -7, -2.5, 0.5:\
+          a a04 4 distances of 4, 1, 3, 2 from 3 in 4 slots:\
+          a a04 5 in 5 slots:\
+          a a04 3 in 3 slots:\
+          a a01 1 of the first in 1 slot:\
+          a a01 0 of the first in no slot:\
+          a a00 5 of none in 5 slots:\
+          b b12 1 distance of -2^150 from 2^150:\
+          c c12 1 of the next above 2^150 from 1:\
+          d b12 1 of -2^150 from the next above 2^150:\
+          e b12 1 from its negative:\
+          i b12 1 from nan:\
+          j b12 1 from infinity:\
+          i b12 0 from nan in no slot:\
+          i b00 0 of none from nan:\
+          f e12 1 distance of -0 from 0:\
+          g e01 1 of 0 from -0:\
+          a a23 1 of 3 from 3:\
+          a e01 1 of 0 from 3:\
+          h g02 2 of 0.5, -0.5 from 0.25:",
+    );
+}
+
+// 2^150, and the next float above it.
+const TOP: f64 = 1427247692705959881058285969449495136382746624.0;
+
+const ABOVE: f64 = 1427247692705960197970936026506845510558547968.0;
+
+// The values by their letters; h is no constant.
+const VALUES: [[f64; 5]; 7] = [
+    [4.0, 1.0, 3.0, 2.0, 0.0], // a
+    [TOP, -TOP, TOP, 0.0, 0.0], // b: size 2^150
+    [1.0, ABOVE, 0.0, 0.0, 0.0], // c: the next above
+    [-ABOVE, 1.0, 0.0, 0.0, 0.0], // d: the next below
+    [0.0, -0.0, -0.0, 0.0, 0.0], // e: zeros
+    [5.0, -1.0, -7.0, -2.5, 0.5], // f: of both signs
+    [0.5, -0.5, 0.0, 0.0, 0.0], // g: halves
+];
+
+fn values_of(byte: u8) -> [f64; 5] {
+    let k = (byte % 97) as usize;
+    if k < 7 {
+        return VALUES[k];
+    }
+    // h: a NaN and the infinities
+    [1.0, 2.0, 0.0 / 0.0, 1.0 / 0.0, -1.0 / 0.0]
+}
+
+// The medians by their letters; i and j are no constants.
+const MEDIANS: [f64; 8] = [
+    3.0, // a
+    TOP, // b
+    1.0, // c
+    ABOVE, // d
+    -ABOVE, // e
+    0.0, // f
+    -0.0, // g
+    0.25, // h
+];
+
+fn median_from(byte: u8) -> f64 {
+    let k = (byte % 97) as usize;
+    if k < 8 {
+        return MEDIANS[k];
+    }
+    if k == 8 {
+        return 0.0 / 0.0;
+    }
+    1.0 / 0.0
+}
+
+fn least(n: usize, most: usize) -> usize
+    ensures { λ r. ⌜ r ≤ most ⌝ }
+{
+    if n < most {
+        return n;
+    }
+    most
+}
+
+// The value of a digit, at most so much.
+fn digit(byte: u8, most: usize) -> usize
+    ensures { λ r. ⌜ r ≤ most ⌝ }
+{
+    least((byte % 48) as usize, most)
+}
+
+// Runs each case of a text.
+fn each_case(text: &[u8]) {
+    let mut from = 0;
+    let mut i = 0;
+    while i < text.len() {
+        let past = i + 1;
+        if text[i] == 58 {
+            case(&text[from..past]);
+            from = past;
+        }
+        i = past;
+    }
+}
+
+fn case(c: &[u8]) {
+    if c.len() < 8 {
+        return;
+    }
+    show::words(&c[8..]);
+    let kind = c[0];
+    let room = digit(c[6], 5);
+    let past = digit(c[4], 5);
+    let from = digit(c[3], past);
+    let values = values_of(c[2]);
+    line(kind, &values[from..past], room);
+}
+
+fn line(kind: u8, values: &[f64], room: usize) {
+    if kind == 46 {
+        median_line(values, room);
+        return;
+    }
+    mad_line(values, median_from(kind), room);
+}
+
+// The median with the first `room` of five slots lent.
+fn median_line(values: &[f64], room: usize) {
+    let mut work = [9.0f64; 5];
+    let a = median::median_of(values, &mut work[0..least(room, 5)]);
+    told(a, least(values.len(), 5), &work);
+}
+
+fn mad_line(values: &[f64], median: f64, room: usize) {
+    let mut work = [9.0f64; 5];
+    let a = median::mad_of(values, median, &mut work[0..least(room, 5)]);
+    told(a, least(values.len(), 5), &work);
+}
+
+// The end of a line: the answer, and the slots that must not have changed.
+fn told(a: Answer, n: usize, work: &[f64; 5])
+    requires { ⌜ n ≤ 5 ⌝ }
+{
+    answer(a);
+    show::words(b", kept");
+    let open = open_slots(a, n);
+    let all = &work[..];
+    show::floats(&all[open..]);
+    show::end();
+}
 
 fn answer(a: Answer) {
     match a {
@@ -22,139 +194,4 @@ fn open_slots(a: Answer, n: usize) -> usize
         Answer::Value(_) => n,
         Answer::Refused(_) => 0,
     }
-}
-
-// The end of a line: the answer, and the slots that must not have changed.
-fn told(a: Answer, n: usize, work: &[f64])
-    requires { ⌜ n ≤ length (now work) ⌝ }
-{
-    answer(a);
-    show::words(b", kept");
-    let open = open_slots(a, n);
-    show::floats(&work[open..]);
-    show::end();
-}
-
-fn median_part(values: &[f64], work: &mut [f64], room: usize)
-    requires { ⌜ (room ≤ length (now work)) × (length (now values) ≤ length (now work)) ⌝ }
-{
-    let a = median::median_of(values, &mut work[0..room]);
-    told(a, values.len(), work);
-}
-
-// One line: the median with the first `room` of five slots lent.
-fn median_line(label: &[u8], values: &[f64], room: usize)
-    requires { ⌜ (room ≤ 5) × (length (now values) ≤ 5) ⌝ }
-{
-    let mut work = [9.0f64; 5];
-    show::words(label);
-    median_part(values, &mut work, room);
-}
-
-fn mad_part(values: &[f64], median: f64, work: &mut [f64], room: usize)
-    requires { ⌜ (room ≤ length (now work)) × (length (now values) ≤ length (now work)) ⌝ }
-{
-    let a = median::mad_of(values, median, &mut work[0..room]);
-    told(a, values.len(), work);
-}
-
-fn mad_line(label: &[u8], values: &[f64], median: f64, room: usize)
-    requires { ⌜ (room ≤ 5) × (length (now values) ≤ 5) ⌝ }
-{
-    let mut work = [9.0f64; 5];
-    show::words(label);
-    mad_part(values, median, &mut work, room);
-}
-
-fn main() {
-    median_lengths();
-    median_values();
-    median_signs();
-    mad_lengths();
-    mad_medians();
-    mad_signs();
-}
-
-fn median_lengths() {
-    let four = [4.0f64, 1.0, 3.0, 2.0];
-    median_line(b"median of 4, 1, 3, 2 in 4 slots:", &four, 4);
-    median_line(b"in 5 slots:", &four, 5);
-    median_line(b"in 3 slots:", &four, 3);
-    median_line(b"of the first 3 in 3 slots:", &four[0..3], 3);
-    median_line(b"of the first 2 in 2 slots:", &four[0..2], 2);
-    median_line(b"of the first in 1 slot:", &four[0..1], 1);
-    median_line(b"of the first in no slot:", &four[0..1], 0);
-    median_line(b"of none in 5 slots:", &four[0..0], 5);
-    median_line(b"of none in no slot:", &four[0..0], 0);
-}
-
-fn median_values() {
-    let top = 1427247692705959881058285969449495136382746624.0f64;
-    let above = 1427247692705960197970936026506845510558547968.0f64;
-    let nan = 0.0f64 / 0.0;
-    let infinity = 1.0f64 / 0.0;
-    let sized = [top, -top, top];
-    median_line(b"median of 2^150, -2^150, 2^150:", &sized, 3);
-    let larger = [1.0f64, above];
-    median_line(b"of 1 and the next above 2^150:", &larger, 2);
-    let smaller = [-above, 1.0f64];
-    median_line(b"of the next below -2^150 and 1:", &smaller, 2);
-    let nans = [1.0f64, 2.0, nan];
-    median_line(b"of 1, 2, nan:", &nans, 3);
-    median_line(b"of 1, 2, nan in 2 slots:", &nans, 2);
-    let infinities = [infinity, -infinity];
-    median_line(b"of infinity:", &infinities[0..1], 1);
-    median_line(b"of -infinity:", &infinities[1..2], 1);
-}
-
-fn median_signs() {
-    let zeros = [0.0f64, -0.0, -0.0, 0.0, 0.0];
-    median_line(b"median of 0, -0:", &zeros[0..2], 2);
-    median_line(b"of -0, -0, 0:", &zeros[1..4], 3);
-    median_line(b"of -0, 0, 0:", &zeros[2..5], 3);
-    median_line(b"of 0, -0, -0, 0, 0:", &zeros, 5);
-    let mixed = [5.0f64, -1.0, -7.0, -2.5, 0.5];
-    median_line(b"of 5, -1, -7, -2.5, 0.5:", &mixed, 5);
-    median_line(b"of -1, -7, -2.5, 0.5:", &mixed[1..5], 4);
-}
-
-fn mad_lengths() {
-    let four = [4.0f64, 1.0, 3.0, 2.0];
-    mad_line(b"distances of 4, 1, 3, 2 from 3 in 4 slots:", &four, 3.0, 4);
-    mad_line(b"in 5 slots:", &four, 3.0, 5);
-    mad_line(b"in 3 slots:", &four, 3.0, 3);
-    mad_line(b"of the first in 1 slot:", &four[0..1], 3.0, 1);
-    mad_line(b"of the first in no slot:", &four[0..1], 3.0, 0);
-    mad_line(b"of none in 5 slots:", &four[0..0], 3.0, 5);
-}
-
-fn mad_medians() {
-    let top = 1427247692705959881058285969449495136382746624.0f64;
-    let above = 1427247692705960197970936026506845510558547968.0f64;
-    let nan = 0.0f64 / 0.0;
-    let infinity = 1.0f64 / 0.0;
-    let sized = [-top, above];
-    mad_line(b"distance of -2^150 from 2^150:", &sized[0..1], top, 1);
-    mad_line(b"of the next above 2^150 from 1:", &sized[1..2], 1.0, 1);
-    mad_line(
-        b"of -2^150 from the next above 2^150:",
-        &sized[0..1],
-        above,
-        1,
-    );
-    mad_line(b"from its negative:", &sized[0..1], -above, 1);
-    mad_line(b"from nan:", &sized[0..1], nan, 1);
-    mad_line(b"from infinity:", &sized[0..1], infinity, 1);
-    mad_line(b"from nan in no slot:", &sized[0..1], nan, 0);
-    mad_line(b"of none from nan:", &sized[0..0], nan, 0);
-}
-
-fn mad_signs() {
-    let zeros = [-0.0f64, 0.0, 3.0];
-    mad_line(b"distance of -0 from 0:", &zeros[0..1], 0.0, 1);
-    mad_line(b"of 0 from -0:", &zeros[1..2], -0.0, 1);
-    mad_line(b"of 3 from 3:", &zeros[2..3], 3.0, 1);
-    mad_line(b"of 0 from 3:", &zeros[1..2], 3.0, 1);
-    let half = [0.5f64, -0.5];
-    mad_line(b"of 0.5, -0.5 from 0.25:", &half, 0.25, 2);
 }

@@ -30,13 +30,6 @@ fn fill(values: &mut [f64], seed: u32)
     }
 }
 
-fn fresh(features: &[f64], similarity: &mut [f64], novelty: &mut [f64])
-    requires { ⌜ 612 ≤ length (now similarity) ⌝ }
-{
-    similarities::similarity(features, 36, similarity);
-    novelties::novelty(&similarity[0..612], 36, novelty);
-}
-
 // The last slot of each is no number: slots beyond the curves are not read.
 fn lent_similarity() -> [f64; 614] {
     let mut curve = [9.0f64; 614];
@@ -50,12 +43,24 @@ fn lent_novelty() -> [f64; 38] {
     curve
 }
 
-fn analysed() -> State {
-    let mut features = [0.0f64; 576];
-    fill(&mut features, 0);
+// An analysis from nothing: the similarity of the rows, and the novelty of it.
+fn similarity_of(features: &[f64; 576]) -> [f64; 614] {
     let mut similarity = lent_similarity();
+    similarities::similarity(features, 36, &mut similarity);
+    similarity
+}
+
+fn novelty_of(similarity: &[f64; 614]) -> [f64; 38] {
+    let pairs = &similarity[..];
     let mut novelty = lent_novelty();
-    fresh(&features, &mut similarity, &mut novelty);
+    novelties::novelty(&pairs[0..612], 36, &mut novelty);
+    novelty
+}
+
+fn analysed() -> State {
+    let features = new_rows(0);
+    let similarity = similarity_of(&features);
+    let novelty = novelty_of(&similarity);
     State {
         features,
         similarity,
@@ -153,9 +158,8 @@ fn told(
 
 // How many slots of each curve differ from an analysis from nothing.
 fn compared(features: &[f64; 576], similarity: &[f64; 614], novelty: &[f64; 38]) {
-    let mut fresh_similarity = lent_similarity();
-    let mut fresh_novelty = lent_novelty();
-    fresh(features, &mut fresh_similarity, &mut fresh_novelty);
+    let fresh_similarity = similarity_of(features);
+    let fresh_novelty = novelty_of(&fresh_similarity);
     show::words(b", not fresh");
     show::count(changed(&fresh_similarity, similarity, 0, 0));
     show::count(changed(&fresh_novelty, novelty, 0, 0));
@@ -198,7 +202,7 @@ fn step(was: State, start: usize, new: &[f64], a: usize, b: usize) -> State
 }
 
 // The rows of a step: 100: zeros, 101: a NaN before zeros, else the features of that seed.
-fn new_rows(seed: u32) -> [f64; 576] {
+fn new_rows(seed: usize) -> [f64; 576] {
     let mut rows = [0.0f64; 576];
     if seed == 100 {
         return rows;
@@ -207,81 +211,60 @@ fn new_rows(seed: u32) -> [f64; 576] {
         rows[0] = 0.0f64 / 0.0;
         return rows;
     }
-    fill(&mut rows, seed % 100);
+    fill(&mut rows, (seed % 100) as u32);
     rows
 }
 
-// A step: where it starts, so many new slots, and the rows from a up to b that it should replace.
+// A step: where it starts, so many new slots, the rows from a up to b that it should replace, and the seed of the new rows.
+const STEPS: [[usize; 5]; 24] = [
+    [0, 16, 0, 1, 1], // 0: row 0
+    [35, 16, 35, 36, 2], // 1: row 35
+    [18, 16, 18, 19, 3], // 2: row 18
+    [10, 48, 10, 13, 4], // 3: rows 10 to 12
+    [0, 576, 0, 36, 5], // 4: whole track
+    [20, 256, 20, 36, 6], // 5: rows 20 to 35
+    [0, 0, 0, 0, 0], // 6: none at 0
+    [18, 0, 0, 0, 0], // 7: none at 18
+    [36, 0, 0, 0, 0], // 8: none at 36
+    [37, 0, 0, 0, 0], // 9: none at 37
+    [3, 32, 3, 5, 7], // 10: rows 3 and 4
+    [5, 32, 5, 7, 8], // 11: rows 5 and 6
+    [5, 64, 5, 9, 9], // 12: rows 5 to 8
+    [7, 64, 7, 11, 10], // 13: rows 7 to 10
+    [7, 64, 7, 11, 10], // 14: rows 7 to 10 again
+    [1, 16, 1, 2, 11], // 15: row 1
+    [37, 16, 0, 0, 1], // 16: start 37
+    [2, 16, 2, 3, 12], // 17: row 2
+    [5, 24, 0, 0, 13], // 18: half a row
+    [35, 32, 0, 0, 14], // 19: past the end
+    [20, 16, 20, 21, 100], // 20: row 20 of zeros
+    [36, 16, 0, 0, 15], // 21: at the row count
+    [8, 16, 0, 0, 101], // 22: no number
+    [33, 16, 33, 34, 16], // 23: row 33
+];
+
+fn step_at(k: usize) -> [usize; 5] {
+    STEPS[numbers::least(k, 23)]
+}
+
 fn steps(was: State) -> State {
-    let cases = [
-        [0usize, 16, 0, 1], // 0: row 0
-        [35, 16, 35, 36], // 1: row 35
-        [18, 16, 18, 19], // 2: row 18
-        [10, 48, 10, 13], // 3: rows 10 to 12
-        [0, 576, 0, 36], // 4: whole track
-        [20, 256, 20, 36], // 5: rows 20 to 35
-        [0, 0, 0, 0], // 6: none at 0
-        [18, 0, 0, 0], // 7: none at 18
-        [36, 0, 0, 0], // 8: none at 36
-        [37, 0, 0, 0], // 9: none at 37
-        [3, 32, 3, 5], // 10: rows 3 and 4
-        [5, 32, 5, 7], // 11: rows 5 and 6
-        [5, 64, 5, 9], // 12: rows 5 to 8
-        [7, 64, 7, 11], // 13: rows 7 to 10
-        [7, 64, 7, 11], // 14: rows 7 to 10 again
-        [1, 16, 1, 2], // 15: row 1
-        [37, 16, 0, 0], // 16: start 37
-        [2, 16, 2, 3], // 17: row 2
-        [5, 24, 0, 0], // 18: half a row
-        [35, 32, 0, 0], // 19: past the end
-        [20, 16, 20, 21], // 20: row 20 of zeros
-        [36, 16, 0, 0], // 21: at the row count
-        [8, 16, 0, 0], // 22: no number
-        [33, 16, 33, 34], // 23: row 33
-    ];
-    let seeds = [
-        1u32,
-        2,
-        3,
-        4,
-        5,
-        6,
-        0,
-        0,
-        0,
-        0,
-        7,
-        8,
-        9,
-        10,
-        10,
-        11,
-        1,
-        12,
-        13,
-        14,
-        100,
-        15,
-        101,
-        16,
-    ];
     let mut state = was;
     let mut k = 0;
     while k < 24 {
         show::words(b"step");
         show::count(k);
         show::words(b":");
-        state = step_of(state, cases[k], seeds[k]);
+        state = step_of(state, step_at(k));
         k += 1;
     }
     state
 }
 
-fn step_of(was: State, c: [usize; 4], seed: u32) -> State {
-    let rows = new_rows(seed);
+fn step_of(was: State, c: [usize; 5]) -> State {
     let b = numbers::least(c[3], 36);
     let a = numbers::least(c[2], b);
     let n = numbers::least(c[1], 576);
+    let rows = new_rows(c[4]);
     step(was, c[0], &rows[0..n], a, b)
 }
 
@@ -365,26 +348,39 @@ fn told_alone(answer: PatchedFeatures) {
 // start, so many new slots, and so many slots of each curve. Shown are the answer, how many features changed, and the novelty with its slot
 // that is not lent.
 fn line(c: [usize; 5], x: [f64; 4]) {
-    let mut was = [1.0f64; 16];
-    was[0] = x[0];
+    let slots = numbers::least(c[2], 16);
+    let room = numbers::least(c[3], 18);
+    let curve = numbers::least(c[4], 2);
+    let was = row(x[0]);
+    let new = row(x[1]);
     let mut features = was;
-    let mut new = [1.0f64; 16];
-    new[0] = x[1];
-    let mut similarity = [0.0f64; 18];
-    similarity[0] = x[2];
-    similarity[17] = 9.0;
-    let mut novelty = [0.0f64; 2];
-    novelty[0] = x[3];
+    let mut similarity = pairs(x[2]);
+    let mut novelty = [x[3], 0.0];
     let answer = patch_features::patch_features(
         &mut features,
         c[0],
         c[1],
-        &new[0..numbers::least(c[2], 16)],
-        &mut similarity[0..numbers::least(c[3], 18)],
-        &mut novelty[0..numbers::least(c[4], 2)],
+        &new[0..slots],
+        &mut similarity[0..room],
+        &mut novelty[0..curve],
     );
     told_alone(answer);
     left(&was, &features, &novelty);
+}
+
+// A row of ones but for its first value.
+fn row(first: f64) -> [f64; 16] {
+    let mut values = [1.0f64; 16];
+    values[0] = first;
+    values
+}
+
+// The similarity's slots but for the first, and one more.
+fn pairs(first: f64) -> [f64; 18] {
+    let mut values = [0.0f64; 18];
+    values[0] = first;
+    values[17] = 9.0;
+    values
 }
 
 fn left(was: &[f64; 16], features: &[f64; 16], novelty: &[f64; 2]) {
@@ -395,61 +391,88 @@ fn left(was: &[f64; 16], features: &[f64; 16], novelty: &[f64; 2]) {
     show::end();
 }
 
-fn rooms() {
-    let cases = [
-        [1usize, 0, 16, 17, 1], // 0: one row
-        [1, 0, 16, 18, 2], // 1: more room
-        [1, 0, 16, 16, 1], // 2: short similarity
-        [1, 0, 16, 17, 0], // 3: short novelty
-        [1, 0, 0, 17, 0], // 4: short novelty, no rows
-        [50001, 0, 16, 17, 1], // 5: 50,001 rows
-        [50000, 0, 16, 17, 1], // 6: 50,000 rows
-        [1, 2, 0, 17, 1], // 7: no rows at 2
-        [1, 1, 16, 17, 1], // 8: a row at 1
-        [1, 1, 0, 17, 1], // 9: no rows at 1
-    ];
+const ROOMS: [[usize; 5]; 10] = [
+    [1, 0, 16, 17, 1], // 0: one row
+    [1, 0, 16, 18, 2], // 1: more room
+    [1, 0, 16, 16, 1], // 2: short similarity
+    [1, 0, 16, 17, 0], // 3: short novelty
+    [1, 0, 0, 17, 0], // 4: short novelty, no rows
+    [50001, 0, 16, 17, 1], // 5: 50,001 rows
+    [50000, 0, 16, 17, 1], // 6: 50,000 rows
+    [1, 2, 0, 17, 1], // 7: no rows at 2
+    [1, 1, 16, 17, 1], // 8: a row at 1
+    [1, 1, 0, 17, 1], // 9: no rows at 1
+];
+
+fn room_at(k: usize) -> [usize; 5] {
+    ROOMS[numbers::least(k, 9)]
+}
+
+// 2^150, and the next float above it.
+const MOST: f64 = 1427247692705959881058285969449495136382746624.0;
+
+const ABOVE: f64 = 1427247692705960197970936026506845510558547968.0;
+
+// The values, in the room of case 0; 7 stands for no number.
+const VALUES: [f64; 13] = [
+    1.0, // 0: similarity 1
+    1.0000000000000002, // 1: similarity above 1
+    -1.0000000000000002, // 2: similarity below -1
+    7.0, // 3: similarity no number
+    MOST, // 4: novelty 2^150
+    ABOVE, // 5: novelty above 2^150
+    7.0, // 6: novelty no number
+    7.0, // 7: old no number
+    -MOST, // 8: old -2^150
+    -ABOVE, // 9: old below -2^150
+    7.0, // 10: new no number
+    MOST, // 11: new 2^150
+    ABOVE, // 12: new above 2^150
+];
+
+fn value_at(k: usize) -> f64 {
+    let x = VALUES[numbers::least(k, 12)];
+    if x == 7.0 {
+        return 0.0 / 0.0;
+    }
+    x
+}
+
+// Their places among the four: 0: the old feature, 1: the new one, 2: the similarity, 3: the novelty.
+const PLACES: [usize; 13] = [2, 2, 2, 2, 3, 3, 3, 0, 0, 0, 1, 1, 1];
+
+fn values_at(k: usize) -> [f64; 4] {
+    let mut x = [1.0, 1.0, 0.0, 0.5];
+    x[numbers::least(PLACES[numbers::least(k, 12)], 3)] = value_at(k);
+    x
+}
+
+// The rooms, then the values.
+fn lines() {
     let mut k = 0;
-    while k < 10 {
-        show::words(b"room");
-        show::count(k);
-        show::words(b":");
-        line(cases[k], [1.0, 1.0, 0.0, 0.5]);
+    while k < 23 {
+        one_line(k);
         k += 1;
     }
 }
 
-fn values() {
-    let nan = 0.0f64 / 0.0;
-    let most = 1427247692705959881058285969449495136382746624.0f64; // 2^150
-    let above = 1427247692705960197970936026506845510558547968.0f64;
-    let cases = [
-        [1.0, 1.0, 1.0, 0.5], // 0: similarity 1
-        [1.0, 1.0, 1.0000000000000002, 0.5], // 1: similarity above 1
-        [1.0, 1.0, -1.0000000000000002, 0.5], // 2: similarity below -1
-        [1.0, 1.0, nan, 0.5], // 3: similarity no number
-        [1.0, 1.0, 0.0, most], // 4: novelty 2^150
-        [1.0, 1.0, 0.0, above], // 5: novelty above 2^150
-        [1.0, 1.0, 0.0, nan], // 6: novelty no number
-        [nan, 1.0, 0.0, 0.5], // 7: old no number
-        [-most, 1.0, 0.0, 0.5], // 8: old -2^150
-        [-above, 1.0, 0.0, 0.5], // 9: old below -2^150
-        [1.0, nan, 0.0, 0.5], // 10: new no number
-        [1.0, most, 0.0, 0.5], // 11: new 2^150
-        [1.0, above, 0.0, 0.5], // 12: new above 2^150
-    ];
-    let mut k = 0;
-    while k < 13 {
-        show::words(b"value");
+fn one_line(k: usize) {
+    if k < 10 {
+        show::words(b"room");
         show::count(k);
         show::words(b":");
-        line([1, 0, 16, 17, 1], cases[k]);
-        k += 1;
+        line(room_at(k), [1.0, 1.0, 0.0, 0.5]);
+        return;
     }
+    let v = k - 10;
+    show::words(b"value");
+    show::count(v);
+    show::words(b":");
+    line(room_at(0), values_at(v));
 }
 
 fn main() {
     let s = steps(analysed());
     none_anywhere(s);
-    rooms();
-    values();
+    lines();
 }

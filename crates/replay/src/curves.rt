@@ -62,9 +62,8 @@ fn times(s: u64, rate: u32) {
 }
 
 fn fluxes(s: u64) {
-    let mut slab = [0.0f32; 40];
+    let slab = inputs::slab(s);
     let mut flux = [0.0f64; 40];
-    inputs::fill_magnitudes(&mut slab, s);
     let number = flux::spectral_flux(&slab, 40, 1, &mut flux);
     lines::floats(b"flux of one bin", number, &flux);
     let number = flux::spectral_flux(&slab, 8, 5, &mut flux);

@@ -61,8 +61,7 @@ fn given(s: u64) {
 }
 
 pub fn round(s: u64) {
-    let mut features = [0.0f64; 320];
-    inputs::fill(&mut features, s);
+    let features = inputs::features(s);
     let rows = inputs::up_to_twenty(inputs::next(s));
     similar(&features[0..16 * rows], rows, s);
     given(s);

@@ -37,6 +37,13 @@ pub fn fill(curve: &mut [f64], s: u64) {
     }
 }
 
+// Sixteen values for each of twenty rows, filled so.
+pub fn features(s: u64) -> [f64; 320] {
+    let mut values = [0.0f64; 320];
+    fill(&mut values, s);
+    values
+}
+
 // A magnitude.
 fn magnitude(s: u64) -> f32 {
     ((s % 50) as u16) as f32
@@ -51,6 +58,13 @@ pub fn fill_magnitudes(slab: &mut [f32], s: u64) {
         slab[t] = magnitude(x);
         t += 1;
     }
+}
+
+// A slab of forty magnitudes with the numbers that follow s.
+pub fn slab(s: u64) -> [f32; 40] {
+    let mut slab = [0.0f32; 40];
+    fill_magnitudes(&mut slab, s);
+    slab
 }
 
 // Entry t of a list of up to twelve ascending frames.

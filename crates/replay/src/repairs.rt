@@ -28,29 +28,42 @@ fn wrote(p: Patched) {
     show::end();
 }
 
-// Rows from start on are replaced by up to twenty others; the curves were those of the rows before.
-fn magnitudes(s: u64, start: usize) {
-    let mut slab = [0.0f32; 40];
-    let mut new = [0.0f32; 20];
+fn flux_of(slab: &[f32; 40]) -> [f64; 40] {
     let mut flux = [0.0f64; 40];
+    flux::spectral_flux(slab, 40, 1, &mut flux);
+    flux
+}
+
+fn threshold_of(flux: &[f64; 40]) -> [f64; 40] {
     let mut threshold = [0.0f64; 40];
     let mut work = [0.0f64; 21];
-    inputs::fill_magnitudes(&mut slab, s);
-    inputs::fill_magnitudes(&mut new, inputs::next(s));
-    flux::spectral_flux(&slab, 40, 1, &mut flux);
-    threshold::adaptive_threshold(&flux, &mut threshold, &mut work);
+    threshold::adaptive_threshold(flux, &mut threshold, &mut work);
+    threshold
+}
+
+// Rows from start on are replaced by up to twenty others; the curves were those of the rows before.
+fn magnitudes(s: u64, start: usize) {
+    let mut slab = inputs::slab(s);
+    let new = inputs::slab(inputs::next(s));
+    let mut flux = flux_of(&slab);
+    let mut threshold = threshold_of(&flux);
+    let mut work = [0.0f64; 21];
     wrote(patch_magnitudes::patch_magnitudes(
         &mut slab,
         40,
         1,
         start,
-        &new,
+        &new[0..20],
         &mut flux,
         &mut threshold,
         &mut work,
     ));
-    lines::slots(b"patched flux", &flux);
-    lines::slots(b"patched threshold", &threshold);
+    patched(&flux, &threshold);
+}
+
+fn patched(flux: &[f64; 40], threshold: &[f64; 40]) {
+    lines::slots(b"patched flux", flux);
+    lines::slots(b"patched threshold", threshold);
 }
 
 fn wrote_features(p: PatchedFeatures) {
@@ -75,20 +88,28 @@ fn wrote_features(p: PatchedFeatures) {
     show::end();
 }
 
-fn features(s: u64, start: usize) {
-    let mut lent = [0.0f64; 320];
-    let mut new = [0.0f64; 48];
+fn similarity_of(features: &[f64; 320]) -> [f64; 340] {
     let mut similarity = [0.0f64; 340];
+    similarities::similarity(features, 20, &mut similarity);
+    similarity
+}
+
+fn novelty_of(similarity: &[f64; 340]) -> [f64; 20] {
     let mut novelty = [0.0f64; 20];
-    inputs::fill(&mut lent, s);
-    inputs::fill(&mut new, inputs::next(s));
-    similarities::similarity(&lent, 20, &mut similarity);
-    novelties::novelty(&similarity, 20, &mut novelty);
+    novelties::novelty(similarity, 20, &mut novelty);
+    novelty
+}
+
+fn features(s: u64, start: usize) {
+    let mut lent = inputs::features(s);
+    let new = inputs::features(inputs::next(s));
+    let mut similarity = similarity_of(&lent);
+    let mut novelty = novelty_of(&similarity);
     wrote_features(patch_features::patch_features(
         &mut lent,
         20,
         start,
-        &new,
+        &new[0..48],
         &mut similarity,
         &mut novelty,
     ));

@@ -1,6 +1,7 @@
 // Lags, tempo, stability, beats and bars of envelopes of sixty slots, at rates that have few lags.
 use crate::inputs;
 use crate::lines;
+ghost use Prim.Native.Nat.{_≤_};
 use bars::BarBeat;
 use lags::TempoOpts;
 use stability::Stability;
@@ -107,10 +108,19 @@ fn beats_of(envelope: &[f64], period: usize) {
     let mut back = [0u32; 60];
     let mut beats = [0u32; 60];
     let r = beats::beat_grid(envelope, period, &mut score, &mut back, &mut beats);
-    let count = lines::first(r.count);
-    lines::frames(b"beats", r.number, &beats, count);
-    lines::slots(b"last score", &score[59..60]);
-    bars_of(envelope, &beats[0..count]);
+    grid_told(envelope, r.number, lines::first(r.count), &beats, score[59]);
+}
+
+// The beats, the last score, and the bars of the beats.
+fn grid_told(envelope: &[f64], number: u32, count: usize, beats: &[u32; 60], score: f64)
+    requires { ⌜ count ≤ 60 ⌝ }
+{
+    let frames = &beats[..];
+    lines::frames(b"beats", number, frames, count);
+    show::words(b"last score");
+    show::float(score);
+    show::end();
+    bars_of(envelope, &frames[0..count]);
 }
 
 fn bars_of(envelope: &[f64], beats: &[u32]) {

@@ -1,131 +1,200 @@
 // Runs similarity and novelty on both sides of each boundary of document 01, and prints what they answer and the slots afterwards: those past the
 // formula, and all of them at a refusal, must be as they were (9). The file stdout holds what must come out.
 ghost use Prim.Native.Nat.{_≤_};
-ghost use lib.ListN.{length};
 
-// The end of a line: the number, and the slots.
-fn told(number: u32, slots: &[f64]) {
-    show::small(number);
-    show::words(b", slots");
-    show::floats(slots);
+// The cases of the refusals, each up to its colon: s for similarity or n for novelty; what is lent to it, which is the first digit in every slot,
+// but one in slot 17 and, in the slot that is told, the value by its letter; how many slots of that are lent; the rows; how many slots are lent to
+// be written, of eighteen for similarity and of three for novelty; and what the line begins with. Letters from a on are numbers from ten on, and
+// rows y and z 50,000 and 50,001. A lower number goes before a higher one; a slot that the kernel never reads, 16, is judged too.
+fn refusals() {
+    each_case(
+        b"\
+          s 10a 0 z 0 similarity, 50001 rows:\
+          s 10a 0 y 0 similarity, 50000 rows without values:\
+          s 10a f 1 i similarity, 15 values:\
+          s 10a h 1 i similarity, 17 values:\
+          s 10a g 1 g similarity, 16 slots:\
+          s 10a g 1 h similarity, 17 slots:\
+          s 10a g 1 i similarity, 18 slots:\
+          s 10a 0 0 i similarity, no rows:\
+          s 07e g 1 h 2^150:\
+          s 07f g 1 h -2^150:\
+          s 07g g 1 h above 2^150:\
+          s 07h g 1 h NaN:\
+          s 07i g 1 h infinity:\
+          s 10h f 1 g NaN and 15 values and 16 slots:\
+          s 10h g 1 g NaN and 16 slots:\
+          n 00a 0 z 0 novelty, 50001 rows:\
+          n 00a 0 y 0 novelty, 50000 rows without slots:\
+          n 00a x 2 3 novelty, 33 similarities:\
+          n 00a z 2 3 novelty, 35 similarities:\
+          n 00a y 2 1 novelty, 1 slot:\
+          n 00a y 2 2 novelty, 2 slots:\
+          n 00a y 2 3 novelty, 3 slots:\
+          n 00a 0 0 3 novelty, no rows:\
+          n 00a h 1 1 1:\
+          n 00b h 1 1 -1:\
+          n 00c h 1 1 above 1:\
+          n 00d h 1 1 below -1:\
+          n 00h h 1 1 NaN:\
+          n 0ga h 1 1 unread 1:\
+          n 0gc h 1 1 unread above 1:",
+    );
+}
+
+// Values by their letters; h and i are no constants.
+const VALUES: [f64; 7] = [
+    1.0, // a
+    -1.0, // b
+    1.0000000000000002, // c
+    -1.0000000000000002, // d
+    1427247692705959881058285969449495136382746624.0, // e: 2^150
+    -1427247692705959881058285969449495136382746624.0, // f
+    1427247692705960197971075569830217498126155776.0, // g
+];
+
+fn value_of(byte: u8) -> f64 {
+    let k = (byte % 97) as usize;
+    if k < 7 {
+        return VALUES[k];
+    }
+    if k == 7 {
+        return 0.0 / 0.0;
+    }
+    1.0 / 0.0
+}
+
+fn least(n: usize, most: usize) -> usize
+    ensures { λ r. ⌜ r ≤ most ⌝ }
+{
+    if n < most {
+        return n;
+    }
+    most
+}
+
+// The value of a digit, or of a letter from ten on, at most so much.
+fn number(byte: u8, most: usize) -> usize
+    ensures { λ r. ⌜ r ≤ most ⌝ }
+{
+    if byte < 97 {
+        return least((byte % 48) as usize, most);
+    }
+    least((byte - 87) as usize, most)
+}
+
+fn rows_of(byte: u8) -> usize {
+    if byte == 121 {
+        return 50000;
+    }
+    if byte == 122 {
+        return 50001;
+    }
+    number(byte, 9)
+}
+
+// Runs each case of a text.
+fn each_case(text: &[u8]) {
+    let mut from = 0;
+    let mut i = 0;
+    while i < text.len() {
+        let past = i + 1;
+        if text[i] == 58 {
+            case(&text[from..past]);
+            from = past;
+        }
+        i = past;
+    }
+}
+
+fn case(c: &[u8]) {
+    if c.len() < 12 {
+        return;
+    }
+    show::words(&c[12..]);
+    let kind = c[0];
+    let n = number(c[6], 35);
+    let rows = rows_of(c[8]);
+    let room = number(c[10], 18);
+    let lent = values_lent(c[2], number(c[3], 34), value_of(c[4]));
+    refusal(kind, &lent[0..n], rows, room);
+}
+
+fn values_lent(all: u8, at: usize, value: f64) -> [f64; 35]
+    requires { ⌜ at ≤ 34 ⌝ }
+{
+    let mut values = [0.0f64; 35];
+    if all == 49 {
+        values = [1.0f64; 35];
+    }
+    values[17] = 1.0;
+    values[at] = value;
+    values
+}
+
+fn refusal(kind: u8, values: &[f64], rows: usize, room: usize) {
+    if kind == 115 {
+        let s = similarity_of(values, rows, room);
+        let slots = s.slots;
+        show::small(s.number);
+        show::words(b", slots");
+        similarity_slots(&slots, 0, 18);
+        return;
+    }
+    told(novelty_of(values, rows, room), 3);
+}
+
+struct Similar {
+    number: u32,
+    slots: [f64; 2210],
+}
+
+// The answer of similarity where the first `room` slots are lent, and all of them afterwards.
+fn similarity_of(features: &[f64], rows: usize, room: usize) -> Similar {
+    let mut slots = [9.0f64; 2210];
+    let number = similarities::similarity(features, rows, &mut slots[0..least(room, 2210)]);
+    Similar { number, slots }
+}
+
+fn similarity_slots(slots: &[f64; 2210], from: usize, past: usize)
+    requires { ⌜ (from ≤ past) × (past ≤ 2210) ⌝ }
+{
+    let all = &slots[..];
+    show::floats(&all[from..past]);
     show::end();
 }
 
-fn similarity_part(features: &[f64], rows: usize, slots: &mut [f64], room: usize)
-    requires { ⌜ room ≤ length (now slots) ⌝ }
+struct Novel {
+    number: u32,
+    slots: [f64; 131],
+}
+
+fn novelty_of(similarity: &[f64], rows: usize, room: usize) -> Novel {
+    let mut slots = [9.0f64; 131];
+    let number = novelties::novelty(similarity, rows, &mut slots[0..least(room, 131)]);
+    Novel { number, slots }
+}
+
+// The end of a line: the number, and the first n slots.
+fn told(novelty: Novel, n: usize)
+    requires { ⌜ n ≤ 131 ⌝ }
 {
-    let number = similarities::similarity(features, rows, &mut slots[0..room]);
-    told(number, slots);
+    let slots = novelty.slots;
+    show::small(novelty.number);
+    show::words(b", slots");
+    novelty_slots(&slots, n);
 }
 
-// One line: the similarity with the first `room` of eighteen slots lent.
-fn similarity_line(label: &[u8], features: &[f64], rows: usize, room: usize)
-    requires { ⌜ room ≤ 18 ⌝ }
+fn novelty_slots(slots: &[f64; 131], n: usize)
+    requires { ⌜ n ≤ 131 ⌝ }
 {
-    let mut slots = [9.0f64; 18];
-    show::words(label);
-    similarity_part(features, rows, &mut slots, room);
-}
-
-fn novelty_part(similarity: &[f64], rows: usize, slots: &mut [f64], room: usize)
-    requires { ⌜ room ≤ length (now slots) ⌝ }
-{
-    let number = novelties::novelty(similarity, rows, &mut slots[0..room]);
-    told(number, slots);
-}
-
-// One line: the novelty with the first `room` of three slots lent.
-fn novelty_line(label: &[u8], similarity: &[f64], rows: usize, room: usize)
-    requires { ⌜ room ≤ 3 ⌝ }
-{
-    let mut slots = [9.0f64; 3];
-    show::words(label);
-    novelty_part(similarity, rows, &mut slots, room);
-}
-
-// Numbers 1 to 3 of similarity.
-fn similarity_sizes() {
-    let row = [1.0f64; 17];
-    similarity_line(b"similarity, 50001 rows:", &row[0..0], 50001, 0);
-    similarity_line(
-        b"similarity, 50000 rows without values:",
-        &row[0..0],
-        50000,
-        0,
-    );
-    similarity_line(b"similarity, 15 values:", &row[0..15], 1, 18);
-    similarity_line(b"similarity, 17 values:", &row[0..17], 1, 18);
-    similarity_line(b"similarity, 16 slots:", &row[0..16], 1, 16);
-    similarity_line(b"similarity, 17 slots:", &row[0..16], 1, 17);
-    similarity_line(b"similarity, 18 slots:", &row[0..16], 1, 18);
-    similarity_line(b"similarity, no rows:", &row[0..0], 0, 18);
-}
-
-fn similarity_value(label: &[u8], x: f64) {
-    let mut row = [0.0f64; 16];
-    row[7] = x;
-    similarity_line(label, &row, 1, 17);
-}
-
-// Number 4 of similarity, and that a lower number goes before it.
-fn similarity_values() {
-    similarity_value(b"2^150:", 1427247692705959881058285969449495136382746624.0);
-    similarity_value(
-        b"-2^150:",
-        -1427247692705959881058285969449495136382746624.0,
-    );
-    similarity_value(
-        b"above 2^150:",
-        1427247692705960197971075569830217498126155776.0,
-    );
-    similarity_value(b"NaN:", 0.0 / 0.0);
-    similarity_value(b"infinity:", 1.0 / 0.0);
-    let mut row = [1.0f64; 17];
-    row[0] = 0.0 / 0.0;
-    similarity_line(b"NaN and 15 values and 16 slots:", &row[0..15], 1, 16);
-    similarity_line(b"NaN and 16 slots:", &row[0..16], 1, 16);
-}
-
-// Numbers 1 to 3 of novelty.
-fn novelty_sizes() {
-    let mut ones = [0.0f64; 35];
-    ones[0] = 1.0;
-    ones[17] = 1.0;
-    novelty_line(b"novelty, 50001 rows:", &ones[0..0], 50001, 0);
-    novelty_line(b"novelty, 50000 rows without slots:", &ones[0..0], 50000, 0);
-    novelty_line(b"novelty, 33 similarities:", &ones[0..33], 2, 3);
-    novelty_line(b"novelty, 35 similarities:", &ones[0..35], 2, 3);
-    novelty_line(b"novelty, 1 slot:", &ones[0..34], 2, 1);
-    novelty_line(b"novelty, 2 slots:", &ones[0..34], 2, 2);
-    novelty_line(b"novelty, 3 slots:", &ones[0..34], 2, 3);
-    novelty_line(b"novelty, no rows:", &ones[0..0], 0, 3);
-}
-
-fn novelty_value(label: &[u8], x: f64) {
-    let mut ones = [0.0f64; 17];
-    ones[0] = x;
-    novelty_line(label, &ones, 1, 1);
-}
-
-fn novelty_unread(label: &[u8], x: f64) {
-    let mut ones = [0.0f64; 17];
-    ones[16] = x;
-    novelty_line(label, &ones, 1, 1);
-}
-
-// Number 4 of novelty; a slot that the kernel never reads is judged too.
-fn novelty_values() {
-    novelty_value(b"1:", 1.0);
-    novelty_value(b"-1:", -1.0);
-    novelty_value(b"above 1:", 1.0000000000000002);
-    novelty_value(b"below -1:", -1.0000000000000002);
-    novelty_value(b"NaN:", 0.0 / 0.0);
-    novelty_unread(b"unread 1:", 1.0);
-    novelty_unread(b"unread above 1:", 1.0000000000000002);
+    let all = &slots[..];
+    show::floats(&all[0..n]);
+    show::end();
 }
 
 // A value from -128 to 127.99609375.
-fn value_of(seed: u32) -> f64 {
+fn value_at(seed: u32) -> f64 {
     seed as f64 / 256.0 - 128.0
 }
 
@@ -135,7 +204,7 @@ fn fill(values: &mut [f64], from: usize, past: usize) {
     let mut k = 0;
     while k < values.len() {
         seed = (seed * 1103 + 12345) % 65536;
-        let x = value_of(seed);
+        let x = value_at(seed);
         values[k] = if k < from {
             x
         } else if k < past {
@@ -147,127 +216,16 @@ fn fill(values: &mut [f64], from: usize, past: usize) {
     }
 }
 
-// The similarity of some rows, then the novelty of it; of the similarity the slots from `from` up to `past` are printed.
-fn both(
-    label: &[u8],
-    features: &[f64],
-    rows: usize,
-    similarity: &mut [f64],
-    novelty: &mut [f64],
-    from: usize,
-    past: usize,
-)
-    requires { ⌜ (from ≤ past) × (past ≤ length (now similarity)) ⌝ }
-{
-    show::words(label);
-    show::small(similarities::similarity(features, rows, similarity));
-    show::words(b", similarity");
-    show::floats(&similarity[from..past]);
-    show::end();
-    show::words(b"  novelty");
-    told(novelties::novelty(similarity, rows, novelty), novelty);
-}
-
-fn one_row() {
-    let mut features = [0.0f64; 16];
-    fill(&mut features, 0, 0);
-    let mut similarity = [9.0f64; 17];
-    let mut novelty = [9.0f64; 2];
-    both(
-        b"1 row:",
-        &features,
-        1,
-        &mut similarity,
-        &mut novelty,
-        0,
-        17,
-    );
-}
-
-fn fifteen_rows() {
-    let mut features = [0.0f64; 240];
-    fill(&mut features, 0, 0);
-    let mut similarity = [9.0f64; 255];
-    let mut novelty = [9.0f64; 16];
-    both(
-        b"15 rows:",
-        &features,
-        15,
-        &mut similarity,
-        &mut novelty,
-        0,
-        34,
-    );
-}
-
-fn sixteen_rows() {
-    let mut features = [0.0f64; 256];
-    fill(&mut features, 0, 0);
-    let mut similarity = [9.0f64; 272];
-    let mut novelty = [9.0f64; 17];
-    both(
-        b"16 rows:",
-        &features,
-        16,
-        &mut similarity,
-        &mut novelty,
-        0,
-        34,
-    );
-}
-
-fn seventeen_rows() {
-    let mut features = [0.0f64; 272];
-    fill(&mut features, 0, 0);
-    let mut similarity = [9.0f64; 289];
-    let mut novelty = [9.0f64; 18];
-    both(
-        b"17 rows:",
-        &features,
-        17,
-        &mut similarity,
-        &mut novelty,
-        0,
-        34,
-    );
-}
-
-// Rows 5 and 6 are zeros; the slots of rows 4 to 6.
-fn zero_rows() {
-    let mut features = [0.0f64; 368];
-    fill(&mut features, 80, 112);
-    let mut similarity = [9.0f64; 391];
-    let mut novelty = [9.0f64; 24];
-    both(
-        b"23 rows, two of zeros:",
-        &features,
-        23,
-        &mut similarity,
-        &mut novelty,
-        68,
-        119,
-    );
-}
-
-// Every row the same: one novelty, not 0, wherever the kernel lies inside.
-fn same_rows() {
-    let features = [3.0f64; 320];
-    let mut similarity = [9.0f64; 340];
-    let mut novelty = [9.0f64; 21];
-    both(
-        b"20 rows of threes:",
-        &features,
-        20,
-        &mut similarity,
-        &mut novelty,
-        0,
-        17,
-    );
+// Chance, with zeros from slot `from` up to `past`.
+fn chance(from: usize, past: usize) -> [f64; 2080] {
+    let mut features = [0.0f64; 2080];
+    fill(&mut features, from, past);
+    features
 }
 
 // Exactly -1 and 1, a minus zero that is kept, and rows whose squares underflow, all or not.
-fn small_rows() {
-    let mut features = [0.0f64; 96];
+fn small_rows() -> [f64; 2080] {
+    let mut features = [0.0f64; 2080];
     features[0] = 2.0;
     features[16] = -2.0;
     features[32] = 1e-156;
@@ -276,47 +234,43 @@ fn small_rows() {
     features[65] = 1e40;
     features[80] = -5e-162;
     features[82] = 1e40;
-    let mut similarity = [9.0f64; 102];
-    let mut novelty = [9.0f64; 7];
-    both(
-        b"6 rows:",
-        &features,
-        6,
-        &mut similarity,
-        &mut novelty,
-        0,
-        102,
-    );
+    features
 }
 
-// More rows than one block: the slots of rows 110 to 113.
-fn many_rows() {
-    let mut features = [0.0f64; 2080];
-    fill(&mut features, 0, 0);
-    let mut similarity = [9.0f64; 2210];
-    let mut novelty = [9.0f64; 131];
-    both(
-        b"130 rows:",
-        &features,
-        130,
-        &mut similarity,
-        &mut novelty,
-        1870,
-        1938,
-    );
+// The similarity of some rows, then the novelty of it; of the similarity the slots from row `from` up to row `past` are printed.
+fn both(label: &[u8], features: [f64; 2080], rows: usize, from: usize, past: usize)
+    requires { ⌜ (rows ≤ 130) × (from ≤ past) × (past ≤ rows) ⌝ }
+{
+    show::words(label);
+    let s = similarity_of(&features[0..16 * rows], rows, 17 * rows);
+    let slots = s.slots;
+    show::small(s.number);
+    show::words(b", similarity");
+    similarity_slots(&slots, 17 * from, 17 * past);
+    novelty_line(&slots, rows);
+}
+
+fn novelty_line(similarity: &[f64; 2210], rows: usize)
+    requires { ⌜ rows ≤ 130 ⌝ }
+{
+    let all = &similarity[..];
+    show::words(b"  novelty");
+    told(novelty_of(&all[0..17 * rows], rows, rows + 1), rows + 1);
+}
+
+// Rows 5 and 6 of 23 are zeros. Every row the same: one novelty, not 0, wherever the kernel lies inside. 130 rows are more than one block.
+fn some_rows() {
+    both(b"1 row:", chance(0, 0), 1, 0, 1);
+    both(b"15 rows:", chance(0, 0), 15, 0, 2);
+    both(b"16 rows:", chance(0, 0), 16, 0, 2);
+    both(b"17 rows:", chance(0, 0), 17, 0, 2);
+    both(b"23 rows, two of zeros:", chance(80, 112), 23, 4, 7);
+    both(b"20 rows of threes:", [3.0; 2080], 20, 0, 1);
+    both(b"6 rows:", small_rows(), 6, 0, 6);
+    both(b"130 rows:", chance(0, 0), 130, 110, 114);
 }
 
 fn main() {
-    similarity_sizes();
-    similarity_values();
-    novelty_sizes();
-    novelty_values();
-    one_row();
-    fifteen_rows();
-    sixteen_rows();
-    seventeen_rows();
-    zero_rows();
-    same_rows();
-    small_rows();
-    many_rows();
+    refusals();
+    some_rows();
 }

@@ -5,10 +5,10 @@ use Rattle.patch_features_run.proofs.steps.Statement.{statement}
 use Rattle.patch_features_run.proofs.steps.Tie as tie
 
 abbrev Inv-loop : tie.InvT-loop
-Inv-loop cases seeds state₀ k₀ t6 t7 state k = k ≤ 24
+Inv-loop state₀ k₀ t4 t5 state k = k ≤ 24
 
 abbrev μ-loop : tie.MeasureT-loop
-μ-loop cases seeds state₀ k₀ t6 t7 state k = 24 - k
+μ-loop state₀ k₀ t4 t5 state k = 24 - k
 
 loop-holds : tie.Need-loop-holds Inv-loop μ-loop
 loop-holds c = search needs
@@ -28,17 +28,8 @@ slice-aggregate-words-2 c = search needs
 words-requires-2 : tie.Need-words-requires-2 Inv-loop μ-loop
 words-requires-2 c κs = search needs
 
-mul-step-of : tie.Need-mul-step-of Inv-loop μ-loop
-mul-step-of c = search needs
-
-array-copy-out-step-of : tie.Need-array-copy-out-step-of Inv-loop μ-loop
-array-copy-out-step-of c = search needs
-
-mul-step-of-2 : tie.Need-mul-step-of-2 Inv-loop μ-loop
-mul-step-of-2 c = search needs
-
-array-read-step-of : tie.Need-array-read-step-of Inv-loop μ-loop
-array-read-step-of c = search needs
+step-at-requires : tie.Need-step-at-requires Inv-loop μ-loop
+step-at-requires c κs = search needs
 
 step-of-requires : tie.Need-step-of-requires Inv-loop μ-loop
 step-of-requires c κs = search needs
@@ -67,10 +58,7 @@ steps-spec =
     count-requires
     slice-aggregate-words-2
     words-requires-2
-    mul-step-of
-    array-copy-out-step-of
-    mul-step-of-2
-    array-read-step-of
+    step-at-requires
     step-of-requires
     add-k
     loop-less

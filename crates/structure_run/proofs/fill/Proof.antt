@@ -22,8 +22,8 @@ mul-seed c = omega arith
 add-seed : tie.Need-add-seed Inv-loop μ-loop
 add-seed c = omega arith
 
-value-of-requires : tie.Need-value-of-requires Inv-loop μ-loop
-value-of-requires c κs = search needs
+value-at-requires : tie.Need-value-at-requires Inv-loop μ-loop
+value-at-requires c κs = search needs
 
 mul-values : tie.Need-mul-values Inv-loop μ-loop
 mul-values c = omega arith
@@ -55,7 +55,7 @@ fill-spec =
     loop-holds
     mul-seed
     add-seed
-    value-of-requires
+    value-at-requires
     mul-values
     slice-write-values
     add-k
