@@ -13,7 +13,7 @@ use lib.Ieee.{Float, nan, binary64}
 use lib.ListN.{length, getD, drop, drop-of-length-le, length-take}
 use lib.Seq.{drop-cons}
 use Rattle.numbers.proofs.Everys.{every-tab}
-use Rattle.numbers.proofs.Overs.{row-over}
+use Rattle.numbers.proofs.Overs.{row-over, length-row}
 use Rattle.numbers.proofs.Tabs.{local-curve, filled-all}
 use Rattle.numbers.proofs.Tests.{and-left, and-right, and-both, lowest-zero, lowest-0}
 use Rattle.numbers.specs.Limits.{mostRows, mostBins, between, magnitudeFine, valueFine}
@@ -24,7 +24,7 @@ use Rattle.sizes.proofs.Sizes.{within-weaken, sub-within, positivePart-most, no
 use Rattle.sizes.proofs.Sums.{sum-within}
 use Rattle.sizes.proofs.Tests.{within-value}
 use Rattle.sizes.specs.Sizes.{Within, Each, none, more}
-use Rattle.flux.specs.Flux.{rises, riseAt, fluxAt, fluxRefusal}
+use Rattle.flux.specs.Flux.{rises, riseAt, partBins, partOf, restOf, fluxAt, fluxRefusal}
 
 -- ---- a row's sum
 
@@ -101,6 +101,15 @@ flux-from s b t (suc u) e =
 pub flux-first : (s : List Float) (b : ℕ) → fluxAt s b 0 ≡ sumOf []
 unfolding fluxAt sumFrom
 flux-first s b = refl
+
+-- slot t is the sum of all its row's bins, and a part of them more takes it on
+pub rest-all : (s : List Float) (b t : ℕ) → 1 ≤ t → sumOf (restOf s b t 0) ≡ fluxAt s b t
+rest-all s b t h = sym (flux-from s b (t - 1) t (omega arith))
+
+pub rest-more : (s : List Float) (n b t i : ℕ) (acc next : Float) {whole : Float} → length s ≡ n * b → 1 ≤ t → t < n → i + partBins ≤ b
+    → next ≡ sumFrom acc (partOf s b t i) → sumFrom acc (restOf s b t i) ≡ whole → sumFrom next (restOf s b t (i + partBins)) ≡ whole
+rest-more s n b t i acc next l h k m e r =
+    part-more acc next (row s b (t - 1)) (row s b t) (partOf s b t i) i partBins (omega (arith, length-row s n b (t - 1) l (omega arith))) (omega (arith, length-row s n b t l k)) refl e r
 
 -- a slot whose row, and the row before it, are the same in both slabs is the same
 pub flux-same : (s s′ : List Float) (b t : ℕ) → row s′ b (t - 1) ≡ row s b (t - 1) → row s′ b t ≡ row s b t → fluxAt s′ b t ≡ fluxAt s b t

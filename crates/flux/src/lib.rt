@@ -1,18 +1,18 @@
 // Onset strength: how much each frame rises over the one before it.
 //
 // Document 01, Onsets. The Rust: onsets.rs `spectral_flux`. Four rows go side by side, thirty-two bins of each at a time: first their positive parts,
-// where no bin waits for another, then the sums. That takes less time; each row's sum still runs in its own ascending order, so the bits are those
-// of one row after the other.
+// where no bin waits for another, then the sums. The four lie a quarter of the rows apart, so that each is read on from where the row before it
+// ended. That takes less time; each row's sum still runs in its own ascending order, so the bits are those of one row after the other.
 ghost use mathlib.Core.Path.{_≡_};
 ghost use mathlib.Core.Bool.{true};
-ghost use Prim.Native.Nat.{_+_, _*_, _≤_, _<_};
+ghost use Prim.Native.Nat.{_+_, _-_, _*_, _≤_, _<_};
 ghost use lib.ListN.{length, getD, set, drop};
 ghost use lib.Ieee.{nan};
-ghost use Rattle.numbers.specs.Rounded.{_⊕_, _⊖_, positivePart, sumFrom, sumOf};
+ghost use Rattle.numbers.specs.Rounded.{positivePart, sumFrom};
 ghost use Rattle.numbers.specs.Limits.{magnitudeFine};
 ghost use Rattle.numbers.specs.Lists.{tab, filled, row, every};
 ghost use Rattle.numbers.specs.Outcomes.{Written};
-ghost use Rattle.flux.specs.Flux.{rises, riseAt, partBins, fluxAt, fluxRefusal};
+ghost use Rattle.flux.specs.Flux.{rises, riseAt, partBins, partOf, restOf, fluxAt, fluxRefusal};
 
 // Writes flux[0..rows], the onset strength of each row of magnitudes; slots past them stay. Room: rows slots.
 // Refuses: 1 rows above 1,048,576 or bins outside 1 to 4,096; 2 magnitudes that aren't rows times bins; 3 flux shorter than rows;
@@ -70,18 +70,25 @@ pub fn fill_flux(slab: &[f32], rows: usize, bins: usize, from: usize, past: usiz
     fill_four(slab, rows, bins, from, past, out);
 }
 
+// Four quarters of the slots side by side, and then what is left.
 fn fill_four(slab: &[f32], rows: usize, bins: usize, from: usize, past: usize, out: &mut [f64])
     requires { ⌜ length (now slab) ≡ rows * bins ⌝ }
     requires { ⌜ every magnitudeFine (now slab) ≡ true ⌝ }
     requires { ⌜ (1 ≤ from) × (from ≤ past) × (past ≤ rows) × (past ≤ length (now out)) ⌝ }
     ensures { λ _. ⌜ now (out .exit) ≡ filled (fluxAt (now (slab .entry)) bins) (now (out .entry)) from past ⌝ }
 {
-    let mut t = from;
-    while 4 <= past - t {
-        put_four(out, t, flux_four(slab, rows, bins, t));
-        t += 4;
+    let quarter = (past - from) / 4;
+    let mut k = 0;
+    while k < quarter {
+        put_four(
+            out,
+            from + k,
+            quarter,
+            flux_four(slab, rows, bins, from + k, quarter),
+        );
+        k += 1;
     }
-    fill_each(slab, rows, bins, t, past, out);
+    fill_each(slab, rows, bins, from + 4 * quarter, past, out);
 }
 
 fn fill_each(slab: &[f32], rows: usize, bins: usize, from: usize, past: usize, out: &mut [f64])
@@ -107,7 +114,7 @@ pub fn flux_slot(slab: &[f32], rows: usize, bins: usize, t: usize) -> f64
     if t == 0 {
         return 0.0;
     }
-    rise(row_at(slab, rows, bins, t - 1), row_at(slab, rows, bins, t))
+    rise_at(slab, rows, bins, t, 0, 0.0)
 }
 
 // Row t, by the frame reader.
@@ -119,19 +126,32 @@ fn row_at(slab: &[f32], rows: usize, bins: usize, t: usize) -> &[f32]
     frames::row_of(slab, bins, t)
 }
 
-// One row over the row before it.
-fn rise(prev: &[f32], cur: &[f32]) -> f64
+// The sum of a row over the row before it, run on from bin `from`.
+fn rise(prev: &[f32], cur: &[f32], from: usize, sum: f64) -> f64
     requires { ⌜ length (now cur) ≡ length (now prev) ⌝ }
     requires { ⌜ (every magnitudeFine (now prev) ≡ true) × (every magnitudeFine (now cur) ≡ true) ⌝ }
-    ensures { λ r. ⌜ r ≡ sumOf (rises (now (prev .entry)) (now (cur .entry))) ⌝ }
+    requires { ⌜ from ≤ length (now prev) ⌝ }
+    ensures { λ r. ⌜ r ≡ sumFrom sum (rises (drop from (now (prev .entry))) (drop from (now (cur .entry)))) ⌝ }
 {
-    let mut sum = 0.0;
-    let mut i = 0;
+    let mut total = sum;
+    let mut i = from;
     while i < prev.len() {
-        sum = sum + positive_part(wide(cur, i) - wide(prev, i));
+        total = total + positive_part(wide(cur, i) - wide(prev, i));
         i += 1;
     }
-    sum
+    total
+}
+
+// The sum of row t over the row before it, run on from bin `from`.
+fn rise_at(slab: &[f32], rows: usize, bins: usize, t: usize, from: usize, sum: f64) -> f64
+    requires { ⌜ length (now slab) ≡ rows * bins ⌝ }
+    requires { ⌜ every magnitudeFine (now slab) ≡ true ⌝ }
+    requires { ⌜ (1 ≤ t) × (t < rows) × (from ≤ bins) ⌝ }
+    ensures { λ r. ⌜ r ≡ sumFrom sum (restOf (now (slab .entry)) bins t from) ⌝ }
+{
+    let prev = row_at(slab, rows, bins, t - 1);
+    let cur = row_at(slab, rows, bins, t);
+    rise(prev, cur, from, sum)
 }
 
 fn positive_part(x: f64) -> f64
@@ -162,20 +182,6 @@ struct Four {
     b: f64,
     c: f64,
     d: f64,
-}
-
-fn flux_four(slab: &[f32], rows: usize, bins: usize, t: usize) -> Four
-    requires { ⌜ length (now slab) ≡ rows * bins ⌝ }
-    requires { ⌜ every magnitudeFine (now slab) ≡ true ⌝ }
-    requires { ⌜ (1 ≤ t) × (t + 4 ≤ rows) ⌝ }
-    ensures { λ r. ⌜ (r .a ≡ fluxAt (now (slab .entry)) bins t) × (r .b ≡ fluxAt (now (slab .entry)) bins (t + 1)) × (r .c ≡ fluxAt (now (slab .entry)) bins (t + 2)) × (r .d ≡ fluxAt (now (slab .entry)) bins (t + 3)) ⌝ }
-{
-    let p = row_at(slab, rows, bins, t - 1);
-    let q = row_at(slab, rows, bins, t);
-    let r = row_at(slab, rows, bins, t + 1);
-    let s = row_at(slab, rows, bins, t + 2);
-    let u = row_at(slab, rows, bins, t + 3);
-    rise_four(p, q, r, s, u)
 }
 
 // The positive parts of a row over the row before it, for as many bins as there are slots, from bin `from` on. No bin waits for another here.
@@ -211,37 +217,51 @@ fn add_parts(f: Four, a: &[f64], b: &[f64], c: &[f64], d: &[f64]) -> Four
     sums
 }
 
-// Four sums that run on over a part of their rows, from bin `from` on.
+// The positive parts of row t over the row before it, from bin `from` on.
+fn lift_at(slab: &[f32], rows: usize, bins: usize, t: usize, from: usize, part: &mut [f64])
+    requires { ⌜ length (now slab) ≡ rows * bins ⌝ }
+    requires { ⌜ every magnitudeFine (now slab) ≡ true ⌝ }
+    requires { ⌜ (1 ≤ t) × (t < rows) × (from + length (now part) ≤ bins) ⌝ }
+    ensures { λ _. ⌜ now (part .exit) ≡ tab (riseAt (row (now (slab .entry)) bins (t - 1)) (row (now (slab .entry)) bins t)) from (length (now (part .entry))) ⌝ }
+{
+    let prev = row_at(slab, rows, bins, t - 1);
+    let cur = row_at(slab, rows, bins, t);
+    lift(prev, cur, from, part);
+}
+
+// The sums of four rows, so many rows apart, that run on over a part of them, from bin `from` on.
 fn rise_part(
     f: Four,
+    slab: &[f32],
+    rows: usize,
+    bins: usize,
+    t: usize,
+    apart: usize,
     from: usize,
-    p: &[f32],
-    q: &[f32],
-    r: &[f32],
-    s: &[f32],
-    u: &[f32],
     a: &mut [f64],
     b: &mut [f64],
     c: &mut [f64],
     d: &mut [f64],
 ) -> Four
-    requires { ⌜ (length (now q) ≡ length (now p)) × (length (now r) ≡ length (now p)) × (length (now s) ≡ length (now p)) × (length (now u) ≡ length (now p)) ⌝ }
-    requires { ⌜ (every magnitudeFine (now p) ≡ true) × (every magnitudeFine (now q) ≡ true) × (every magnitudeFine (now r) ≡ true) × (every magnitudeFine (now s) ≡ true) × (every magnitudeFine (now u) ≡ true) ⌝ }
-    requires { ⌜ (length (now a) ≡ partBins) × (length (now b) ≡ partBins) × (length (now c) ≡ partBins) × (length (now d) ≡ partBins) × (from + partBins ≤ length (now p)) ⌝ }
-    ensures { λ z. ⌜ (z .a ≡ sumFrom (f .a) (tab (riseAt (now (p .entry)) (now (q .entry))) from partBins)) × (z .b ≡ sumFrom (f .b) (tab (riseAt (now (q .entry)) (now (r .entry))) from partBins)) × (z .c ≡ sumFrom (f .c) (tab (riseAt (now (r .entry)) (now (s .entry))) from partBins)) × (z .d ≡ sumFrom (f .d) (tab (riseAt (now (s .entry)) (now (u .entry))) from partBins)) ⌝ }
+    requires { ⌜ length (now slab) ≡ rows * bins ⌝ }
+    requires { ⌜ every magnitudeFine (now slab) ≡ true ⌝ }
+    requires { ⌜ (1 ≤ t) × (t + 3 * apart < rows) × (from + partBins ≤ bins) ⌝ }
+    requires { ⌜ (length (now a) ≡ partBins) × (length (now b) ≡ partBins) × (length (now c) ≡ partBins) × (length (now d) ≡ partBins) ⌝ }
+    ensures { λ z. ⌜ (z .a ≡ sumFrom (f .a) (partOf (now (slab .entry)) bins t from)) × (z .b ≡ sumFrom (f .b) (partOf (now (slab .entry)) bins (t + apart) from)) × (z .c ≡ sumFrom (f .c) (partOf (now (slab .entry)) bins (t + 2 * apart) from)) × (z .d ≡ sumFrom (f .d) (partOf (now (slab .entry)) bins (t + 3 * apart) from)) ⌝ }
 {
-    lift(p, q, from, a);
-    lift(q, r, from, b);
-    lift(r, s, from, c);
-    lift(s, u, from, d);
+    lift_at(slab, rows, bins, t, from, a);
+    lift_at(slab, rows, bins, t + apart, from, b);
+    lift_at(slab, rows, bins, t + 2 * apart, from, c);
+    lift_at(slab, rows, bins, t + 3 * apart, from, d);
     add_parts(f, a, b, c, d)
 }
 
-// Four rows, each over the row before it.
-fn rise_four(p: &[f32], q: &[f32], r: &[f32], s: &[f32], u: &[f32]) -> Four
-    requires { ⌜ (length (now q) ≡ length (now p)) × (length (now r) ≡ length (now p)) × (length (now s) ≡ length (now p)) × (length (now u) ≡ length (now p)) ⌝ }
-    requires { ⌜ (every magnitudeFine (now p) ≡ true) × (every magnitudeFine (now q) ≡ true) × (every magnitudeFine (now r) ≡ true) × (every magnitudeFine (now s) ≡ true) × (every magnitudeFine (now u) ≡ true) ⌝ }
-    ensures { λ z. ⌜ (z .a ≡ sumOf (rises (now (p .entry)) (now (q .entry)))) × (z .b ≡ sumOf (rises (now (q .entry)) (now (r .entry)))) × (z .c ≡ sumOf (rises (now (r .entry)) (now (s .entry)))) × (z .d ≡ sumOf (rises (now (s .entry)) (now (u .entry)))) ⌝ }
+// Four slots of the flux curve, so many rows apart.
+fn flux_four(slab: &[f32], rows: usize, bins: usize, t: usize, apart: usize) -> Four
+    requires { ⌜ length (now slab) ≡ rows * bins ⌝ }
+    requires { ⌜ every magnitudeFine (now slab) ≡ true ⌝ }
+    requires { ⌜ (1 ≤ t) × (t + 3 * apart < rows) ⌝ }
+    ensures { λ r. ⌜ (r .a ≡ fluxAt (now (slab .entry)) bins t) × (r .b ≡ fluxAt (now (slab .entry)) bins (t + apart)) × (r .c ≡ fluxAt (now (slab .entry)) bins (t + 2 * apart)) × (r .d ≡ fluxAt (now (slab .entry)) bins (t + 3 * apart)) ⌝ }
 {
     let mut a = part_room();
     let mut b = part_room();
@@ -254,54 +274,55 @@ fn rise_four(p: &[f32], q: &[f32], r: &[f32], s: &[f32], u: &[f32]) -> Four
         d: 0.0,
     };
     let mut i = 0;
-    while PART <= p.len() - i {
-        f = rise_part(f, i, p, q, r, s, u, &mut a, &mut b, &mut c, &mut d);
+    while PART <= bins - i {
+        f = rise_part(
+            f,
+            slab,
+            rows,
+            bins,
+            t,
+            apart,
+            i,
+            &mut a,
+            &mut b,
+            &mut c,
+            &mut d,
+        );
         i += PART;
     }
-    rise_on(f, i, p, q, r, s, u)
+    rise_rest(f, slab, rows, bins, t, apart, i)
 }
 
-// Four sums that run on, from bin `from` to the end.
-fn rise_on(f: Four, from: usize, p: &[f32], q: &[f32], r: &[f32], s: &[f32], u: &[f32]) -> Four
-    requires { ⌜ (length (now q) ≡ length (now p)) × (length (now r) ≡ length (now p)) × (length (now s) ≡ length (now p)) × (length (now u) ≡ length (now p)) ⌝ }
-    requires { ⌜ (every magnitudeFine (now p) ≡ true) × (every magnitudeFine (now q) ≡ true) × (every magnitudeFine (now r) ≡ true) × (every magnitudeFine (now s) ≡ true) × (every magnitudeFine (now u) ≡ true) ⌝ }
-    requires { ⌜ from ≤ length (now p) ⌝ }
-    ensures { λ z. ⌜ (z .a ≡ sumFrom (f .a) (rises (drop from (now (p .entry))) (drop from (now (q .entry))))) × (z .b ≡ sumFrom (f .b) (rises (drop from (now (q .entry))) (drop from (now (r .entry))))) × (z .c ≡ sumFrom (f .c) (rises (drop from (now (r .entry))) (drop from (now (s .entry))))) × (z .d ≡ sumFrom (f .d) (rises (drop from (now (s .entry))) (drop from (now (u .entry))))) ⌝ }
-{
-    let mut sums = f;
-    let mut i = from;
-    while i < p.len() {
-        sums = step_four(
-            sums,
-            wide(p, i),
-            wide(q, i),
-            wide(r, i),
-            wide(s, i),
-            wide(u, i),
-        );
-        i += 1;
-    }
-    sums
-}
-
-// One bin of five rows.
-fn step_four(f: Four, p: f64, q: f64, r: f64, s: f64, u: f64) -> Four
-    ensures { λ z. ⌜ (z .a ≡ f .a ⊕ positivePart (q ⊖ p)) × (z .b ≡ f .b ⊕ positivePart (r ⊖ q)) × (z .c ≡ f .c ⊕ positivePart (s ⊖ r)) × (z .d ≡ f .d ⊕ positivePart (u ⊖ s)) ⌝ }
+// The sums of four rows, so many rows apart, that run on from bin `from` to the end.
+fn rise_rest(
+    f: Four,
+    slab: &[f32],
+    rows: usize,
+    bins: usize,
+    t: usize,
+    apart: usize,
+    from: usize,
+) -> Four
+    requires { ⌜ length (now slab) ≡ rows * bins ⌝ }
+    requires { ⌜ every magnitudeFine (now slab) ≡ true ⌝ }
+    requires { ⌜ (1 ≤ t) × (t + 3 * apart < rows) × (from ≤ bins) ⌝ }
+    ensures { λ z. ⌜ (z .a ≡ sumFrom (f .a) (restOf (now (slab .entry)) bins t from)) × (z .b ≡ sumFrom (f .b) (restOf (now (slab .entry)) bins (t + apart) from)) × (z .c ≡ sumFrom (f .c) (restOf (now (slab .entry)) bins (t + 2 * apart) from)) × (z .d ≡ sumFrom (f .d) (restOf (now (slab .entry)) bins (t + 3 * apart) from)) ⌝ }
 {
     Four {
-        a: f.a + positive_part(q - p),
-        b: f.b + positive_part(r - q),
-        c: f.c + positive_part(s - r),
-        d: f.d + positive_part(u - s),
+        a: rise_at(slab, rows, bins, t, from, f.a),
+        b: rise_at(slab, rows, bins, t + apart, from, f.b),
+        c: rise_at(slab, rows, bins, t + 2 * apart, from, f.c),
+        d: rise_at(slab, rows, bins, t + 3 * apart, from, f.d),
     }
 }
 
-fn put_four(out: &mut [f64], t: usize, f: Four)
-    requires { ⌜ t + 4 ≤ length (now out) ⌝ }
-    ensures { λ _. ⌜ now (out .exit) ≡ set (set (set (set (now (out .entry)) t (f .a)) (t + 1) (f .b)) (t + 2) (f .c)) (t + 3) (f .d) ⌝ }
+// Four slots, so many slots apart.
+fn put_four(out: &mut [f64], t: usize, apart: usize, f: Four)
+    requires { ⌜ t + 3 * apart < length (now out) ⌝ }
+    ensures { λ _. ⌜ now (out .exit) ≡ set (set (set (set (now (out .entry)) t (f .a)) (t + apart) (f .b)) (t + 2 * apart) (f .c)) (t + 3 * apart) (f .d) ⌝ }
 {
     out[t] = f.a;
-    out[t + 1] = f.b;
-    out[t + 2] = f.c;
-    out[t + 3] = f.d;
+    out[t + apart] = f.b;
+    out[t + 2 * apart] = f.c;
+    out[t + 3 * apart] = f.d;
 }

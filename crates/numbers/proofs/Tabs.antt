@@ -161,16 +161,6 @@ module _ {A : Type 0} where
   pub filled-to : (f : ℕ → A) (d : List A) (a t u : ℕ) → a ≤ t → A → t < length d → u ≡ t + 1 → set (filled f d a t) t (f t) ≡ filled f d a u
   filled-to f d a t u h z k e = filled-more f d a t h z k ∙ ap (filled f d a) (sym e)
 
-  -- four more slots
-  pub filled-four : (f : ℕ → A) (d : List A) (a t : ℕ) → a ≤ t → A → t + 4 ≤ length d
-      → set (set (set (set (filled f d a t) t (f t)) (t + 1) (f (t + 1))) (t + 2) (f (t + 2))) (t + 3) (f (t + 3)) ≡ filled f d a (t + 4)
-  filled-four f d a t h z k =
-      rw (
-        filled-to f d a t (t + 1) h z (omega arith) (omega arith),
-        filled-to f d a (t + 1) (t + 2) (omega arith) z (omega arith) (omega arith),
-        filled-to f d a (t + 2) (t + 3) (omega arith) z (omega arith) (omega arith),
-      ) (filled-to f d a (t + 3) (t + 4) (omega arith) z (omega arith) (omega arith))
-
   -- A curve whose rule changes from f to g at slots a up to t alone: the old curve with those slots written again is the new curve.
   pub local-curve : (f g : ℕ → A) (n a t : ℕ) (z : A) → a ≤ t → t ≤ n → ((i : ℕ) → i < n → (i < a) ⊎ (t ≤ i) → g i ≡ f i)
       → filled g (curve f n) a t ≡ curve g n

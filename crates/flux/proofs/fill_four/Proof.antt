@@ -1,29 +1,37 @@
--- `flux::fill_four` meets its contract. The invariant is that of `fill_each`, and `filled-four` takes it four slots on; the rest, fewer than four,
--- joins on (`filled-join`). The measure is what is left of the range. Assumes nothing.
-use mathlib.Core.Path.{_≡_, refl, sym, _∙_}
-use Prim.Native.Nat.{_≤_, _-_}
+-- `flux::fill_four` meets its contract. The invariant: k slots of each quarter are written by the rule (`quartered`); the quarters are one run, and the
+-- rest, fewer than four, joins on (`filled-join`). The measure is what is left of a quarter. Assumes nothing.
+use mathlib.Core.List.{List}
+use mathlib.Core.Path.{_≡_, refl, sym, ap, _∙_}
+use Prim.Native.Nat.{ℕ, _≤_, _+_, _-_, _*_, _/_}
 use native.Mathlib.Omega.{arith}
 use denote.Ref.{now}
-use lib.Ieee.{nan}
+use lib.Ieee.{Float, nan}
 use lib.ListN.{length, length-set}
-use Rattle.numbers.proofs.Tabs.{filled-none, filled-four, filled-join}
+use Rattle.numbers.proofs.Tabs.{filled-join}
 use Rattle.numbers.specs.Lists.{filled}
 use Rattle.flux.specs.Flux.{fluxAt}
+use Rattle.flux.proofs.Quarters.{quartered, quartered-none, quartered-more, quartered-all}
 use Rattle.flux.proofs.fill_four.Statement.{statement}
 use Rattle.flux.proofs.fill_four.Tie as tie
 
 abbrev Inv-loop : tie.InvT-loop
-Inv-loop slab rows bins from past out₀ t₀ out t =
-    (from ≤ t) × (t ≤ past) × (length out ≡ length out₀) × (out ≡ filled (fluxAt slab bins) out₀ from t)
+Inv-loop slab rows bins from past out₀ quarter k₀ out k =
+    (k ≤ quarter) × (from + 4 * quarter ≤ past) × (length out ≡ length out₀) × (out ≡ quartered (fluxAt slab bins) nan out₀ from quarter k)
 
 abbrev μ-loop : tie.MeasureT-loop
-μ-loop slab rows bins from past out₀ t₀ out t = past - t
+μ-loop slab rows bins from past out₀ quarter k₀ out k = quarter - k
+
+sub-quarter : tie.Need-sub-quarter Inv-loop μ-loop
+sub-quarter c = omega arith
 
 loop-holds : tie.Need-loop-holds Inv-loop μ-loop
-loop-holds c = (omega arith, omega arith, refl, sym (filled-none _ _ _))
+loop-holds c = (omega arith, omega arith, refl, sym (quartered-none _ nan _ _ _))
 
-sub-loop : tie.Need-sub-loop Inv-loop μ-loop
-sub-loop c = omega arith
+add-put-four : tie.Need-add-put-four Inv-loop μ-loop
+add-put-four c = omega arith
+
+add-flux-four : tie.Need-add-flux-four Inv-loop μ-loop
+add-flux-four c = omega arith
 
 flux-four-requires : tie.Need-flux-four-requires Inv-loop μ-loop
 flux-four-requires c κs =
@@ -33,8 +41,8 @@ flux-four-requires c κs =
 put-four-requires : tie.Need-put-four-requires Inv-loop μ-loop
 put-four-requires c κs = omega arith
 
-add-t : tie.Need-add-t Inv-loop μ-loop
-add-t c = omega arith
+add-k : tie.Need-add-k Inv-loop μ-loop
+add-k c = omega arith
 
 loop-less : tie.Need-loop-less Inv-loop μ-loop
 loop-less c = omega arith
@@ -44,30 +52,43 @@ loop-again c =
     let f = c .before .before .before in
     let l = f .before .before .before in
     let v = l .loop .inv in
-    let e = f .flux-four .ensures in (
+    let e = f .flux-four .ensures in
+    let put = c .before .before .put-four .ensures in (
       omega arith,
-      omega arith,
-      rw (c .before .before .put-four .ensures) (simp length-set (v .2)),
-      rw (c .before .before .put-four .ensures, e .0, e .1, e .2, e .3, v .3) (filled-four _ _ _ _ (omega arith) nan (omega arith)),
+      v .1,
+      rw put (simp length-set (v .2)),
+      rw (put, e .0, e .1, e .2, e .3, v .3) (quartered-more _ nan _ _ _ _ (omega arith) (omega arith)),
     )
+
+mul-fill-each : tie.Need-mul-fill-each Inv-loop μ-loop
+mul-fill-each c = omega arith
+
+add-fill-each : tie.Need-add-fill-each Inv-loop μ-loop
+add-fill-each c = omega arith
 
 fill-each-requires : tie.Need-fill-each-requires Inv-loop μ-loop
 fill-each-requires c κs =
-    let start = c .before .before .before .before .before in
-    (start .pre .0, (start .pre .1 .0, (omega arith, omega arith, omega arith)))
+    let l = c .before .before in
+    let start = l .before .before .before in
+    (start .pre .0, (start .pre .1 .0, (l .loop .inv .1, omega arith, omega arith)))
 
 same-length : tie.Need-same-length Inv-loop μ-loop
 same-length c = omega arith
 
 returns : tie.Need-returns Inv-loop μ-loop
 returns c =
-    let f = c .before .before in
-    let l = f .before .before .before in
+    let l = c .before .before .before .before .before in
     let g = l .before .before .before .args in
     let v = l .loop .inv in
-    f .fill-each .ensures
-    ∙ rw (v .3)
-    (filled-join (fluxAt (now (g .slab)) (g .bins)) (now (g .out)) (g .from) (l .loop .t) (g .past) (omega arith) (omega arith) nan (omega arith))
+    let f : ℕ → Float = fluxAt (now (g .slab)) (g .bins) in
+    let out = now (g .out) in
+    let q = (g .past - g .from) / 4 in
+    let e : l .loop .k ≡ q = omega arith in
+    let all : l .loop .out ≡ filled f out (g .from) (g .from + 4 * q) =
+    v .3 ∙ ap (quartered f nan out (g .from) q) e ∙ quartered-all f nan out (g .from) q (omega arith) in
+    c .before .before .fill-each .ensures
+    ∙ ap (λ (d : List Float). filled f d (g .from + 4 * q) (g .past)) all
+    ∙ filled-join f out (g .from) (g .from + 4 * q) (g .past) (omega arith) (v .1) nan (omega arith)
 
 pub fill-four-spec : {M : Type 1} → statement M
 fill-four-spec =
@@ -75,13 +96,17 @@ fill-four-spec =
     (tie.spec
     Inv-loop
     μ-loop
+    sub-quarter
     loop-holds
-    sub-loop
+    add-put-four
+    add-flux-four
     flux-four-requires
     put-four-requires
-    add-t
+    add-k
     loop-less
     loop-again
+    mul-fill-each
+    add-fill-each
     fill-each-requires
     same-length
     returns)

@@ -1,96 +1,147 @@
--- `flux::flux_four` meets its contract: four slots one behind the other share five rows, all of one length and fine. Assumes nothing.
-use mathlib.Core.Bool.{true}
-use mathlib.Core.Path.{_≡_, sym, _∙_}
-use Prim.Native.Nat.{ℕ, _+_, _-_, _<_}
+-- `flux::flux_four` meets its contract. The invariant: each sum so far, run on over the bins that are left, is its slot; a part stays as long as it is.
+-- The measure is the bins that are left. Assumes nothing.
+use mathlib.Core.Path.{_≡_, _∙_, sym}
+use Prim.Native.Nat.{_≤_, _+_, _-_, _*_}
 use native.Mathlib.Omega.{arith}
 use denote.Ref.{now}
 use borrow.Author.Needs.{needs}
 use lib.ListN.{length}
-use Rattle.numbers.proofs.Overs.{length-row, every-row}
-use Rattle.numbers.specs.Limits.{magnitudeFine}
-use Rattle.numbers.specs.Lists.{row, every}
-use Rattle.flux.proofs.Fluxes.{flux-from}
+use Rattle.numbers.specs.Rounded.{sumFrom}
+use Rattle.flux.specs.Flux.{fluxAt, partBins, restOf}
+use Rattle.flux.proofs.Fluxes.{rest-all, rest-more}
 use Rattle.flux.proofs.flux_four.Statement.{statement}
 use Rattle.flux.proofs.flux_four.Tie as tie
 
-sub-row-at : tie.Need-sub-row-at
-sub-row-at c = search needs
+abbrev Inv-loop : tie.InvT-loop
+Inv-loop slab rows bins t apart a₀ b₀ c₀ d₀ f₀ i₀ a b c d f i =
+    (i ≤ bins)
+    × (length a ≡ partBins)
+    × (length b ≡ partBins)
+    × (length c ≡ partBins)
+    × (length d ≡ partBins)
+    × (sumFrom (f .a) (restOf slab bins t i) ≡ fluxAt slab bins t)
+    × (sumFrom (f .b) (restOf slab bins (t + apart) i) ≡ fluxAt slab bins (t + apart))
+    × (sumFrom (f .c) (restOf slab bins (t + 2 * apart) i) ≡ fluxAt slab bins (t + 2 * apart))
+    × (sumFrom (f .d) (restOf slab bins (t + 3 * apart) i) ≡ fluxAt slab bins (t + 3 * apart))
 
-row-at-requires : tie.Need-row-at-requires
-row-at-requires c κs = search needs
+abbrev μ-loop : tie.MeasureT-loop
+μ-loop slab rows bins t apart a₀ b₀ c₀ d₀ f₀ i₀ a b c d f i = bins - i
 
-row-at-requires-2 : tie.Need-row-at-requires-2
-row-at-requires-2 c κs = search needs
+part-room-requires : tie.Need-part-room-requires Inv-loop μ-loop
+part-room-requires c κs = tt
 
-add-row-at : tie.Need-add-row-at
-add-row-at c = search needs
+part-room-requires-2 : tie.Need-part-room-requires-2 Inv-loop μ-loop
+part-room-requires-2 c κs = tt
 
-row-at-requires-3 : tie.Need-row-at-requires-3
-row-at-requires-3 c κs = search needs
+part-room-requires-3 : tie.Need-part-room-requires-3 Inv-loop μ-loop
+part-room-requires-3 c κs = tt
 
-add-row-at-2 : tie.Need-add-row-at-2
-add-row-at-2 c = search needs
+part-room-requires-4 : tie.Need-part-room-requires-4 Inv-loop μ-loop
+part-room-requires-4 c κs = tt
 
-row-at-requires-4 : tie.Need-row-at-requires-4
-row-at-requires-4 c κs = search needs
-
-add-row-at-3 : tie.Need-add-row-at-3
-add-row-at-3 c = search needs
-
-row-at-requires-5 : tie.Need-row-at-requires-5
-row-at-requires-5 c κs = search needs
-
-rise-four-requires : tie.Need-rise-four-requires
-rise-four-requires c κs =
-    let start = c .before .before .before .before .before .before in
-    let s = now (start .args .slab) in
-    let n = start .args .rows in
-    let b = start .args .bins in
-    let t = start .args .t in
-    let as-long : (u : ℕ) → u < n → length (row s b u) ≡ length (row s b (t - 1)) =
-    λ u h. length-row s n b u (start .pre .0) h ∙ sym (length-row s n b (t - 1) (start .pre .0) (omega arith)) in
-    let fine : (u : ℕ) → every magnitudeFine (row s b u) ≡ true = λ u. every-row magnitudeFine s b u (start .pre .1 .0) in
-    rw (
-      c .before .before .before .before .row-at .ensures,
-      c .before .before .before .row-at2 .ensures,
-      c .before .before .row-at3 .ensures,
-      c .before .row-at4 .ensures,
-      c .row-at5 .ensures,
-    ) (
-      (as-long t (omega arith), as-long (t + 1) (omega arith), as-long (t + 2) (omega arith), as-long (t + 3) (omega arith)),
-      (fine (t - 1), fine t, fine (t + 1), fine (t + 2), fine (t + 3)),
+loop-holds : tie.Need-loop-holds Inv-loop μ-loop
+loop-holds c =
+    let start = c .before .before .before .before .before in
+    let g = start .args in
+    let s = now (g .slab) in
+    let n = g .bins in
+    let t = g .t in
+    let p = g .apart in (
+      omega arith,
+      c .before .before .before .part-room .ensures,
+      c .before .before .part-room2 .ensures,
+      c .before .part-room3 .ensures,
+      c .part-room4 .ensures,
+      rest-all s n t (omega arith),
+      rest-all s n (t + p) (omega arith),
+      rest-all s n (t + 2 * p) (omega arith),
+      rest-all s n (t + 3 * p) (omega arith),
     )
 
-returns : tie.Need-returns
+sub-loop : tie.Need-sub-loop Inv-loop μ-loop
+sub-loop c = c .loop .inv .0
+
+slice-aggregate-rise-part : tie.Need-slice-aggregate-rise-part Inv-loop μ-loop
+slice-aggregate-rise-part c = sym (c .before .before .loop .inv .1)
+
+slice-aggregate-rise-part-2 : tie.Need-slice-aggregate-rise-part-2 Inv-loop μ-loop
+slice-aggregate-rise-part-2 c = sym (c .before .before .before .loop .inv .2)
+
+slice-aggregate-rise-part-3 : tie.Need-slice-aggregate-rise-part-3 Inv-loop μ-loop
+slice-aggregate-rise-part-3 c = sym (c .before .before .before .before .loop .inv .3)
+
+slice-aggregate-rise-part-4 : tie.Need-slice-aggregate-rise-part-4 Inv-loop μ-loop
+slice-aggregate-rise-part-4 c = sym (c .before .before .before .before .before .loop .inv .4)
+
+rise-part-requires : tie.Need-rise-part-requires Inv-loop μ-loop
+rise-part-requires c κs =
+    let l = c .before .before .before .before .before in
+    let start = l .before .before .before .before .before .before in
+    let v = l .loop .inv in
+    (start .pre .0, (start .pre .1 .0, ((omega arith, omega arith, omega arith), (v .1, v .2, v .3, v .4))))
+
+add-i : tie.Need-add-i Inv-loop μ-loop
+add-i c = search needs
+
+loop-less : tie.Need-loop-less Inv-loop μ-loop
+loop-less c = search needs
+
+loop-again : tie.Need-loop-again Inv-loop μ-loop
+loop-again c =
+    let l = c .before .before .before .before .before .before .before .before .before .before in
+    let start = l .before .before .before .before .before .before in
+    let g = start .args in
+    let s = now (g .slab) in
+    let n = g .rows in
+    let m = g .bins in
+    let t = g .t in
+    let p = g .apart in
+    let o = start .pre .0 in
+    let v = l .loop .inv in
+    let z = c .before .before .before .before .rise-part .ensures in
+    let i = l .loop .i in (
+      omega arith,
+      search needs,
+      search needs,
+      search needs,
+      search needs,
+      rest-more s n m t i _ _ o (omega arith) (omega arith) (omega arith) (z .0) (v .5),
+      rest-more s n m (t + p) i _ _ o (omega arith) (omega arith) (omega arith) (z .1) (v .6),
+      rest-more s n m (t + 2 * p) i _ _ o (omega arith) (omega arith) (omega arith) (z .2) (v .7),
+      rest-more s n m (t + 3 * p) i _ _ o (omega arith) (omega arith) (omega arith) (z .3) (v .8),
+    )
+
+rise-rest-requires : tie.Need-rise-rest-requires Inv-loop μ-loop
+rise-rest-requires c κs =
+    let l = c .before in
+    let start = l .before .before .before .before .before .before in
+    (start .pre .0, (start .pre .1 .0, (omega arith, omega arith, l .loop .inv .0)))
+
+returns : tie.Need-returns Inv-loop μ-loop
 returns c =
-    let start = c .before .before .before .before .before .before .before in
-    let s = now (start .args .slab) in
-    let b = start .args .bins in
-    let t = start .args .t in
-    let r1 = c .before .before .before .before .before .row-at .ensures in
-    let r2 = c .before .before .before .before .row-at2 .ensures in
-    let r3 = c .before .before .before .row-at3 .ensures in
-    let r4 = c .before .before .row-at4 .ensures in
-    let r5 = c .before .row-at5 .ensures in
-    let e = c .rise-four .ensures in (
-      e .0 ∙ rw (r1, r2) (sym (flux-from s b (t - 1) t (omega arith))),
-      e .1 ∙ rw (r2, r3) (sym (flux-from s b t (t + 1) (omega arith))),
-      e .2 ∙ rw (r3, r4) (sym (flux-from s b (t + 1) (t + 2) (omega arith))),
-      e .3 ∙ rw (r4, r5) (sym (flux-from s b (t + 2) (t + 3) (omega arith))),
-    )
+    let v = c .before .before .loop .inv in
+    let f = c .rise-rest .ensures in
+    (f .0 ∙ v .5, f .1 ∙ v .6, f .2 ∙ v .7, f .3 ∙ v .8)
 
 pub flux-four-spec : {M : Type 1} → statement M
 flux-four-spec =
     tie.close
     (tie.spec
-    sub-row-at
-    row-at-requires
-    row-at-requires-2
-    add-row-at
-    row-at-requires-3
-    add-row-at-2
-    row-at-requires-4
-    add-row-at-3
-    row-at-requires-5
-    rise-four-requires
+    Inv-loop
+    μ-loop
+    part-room-requires
+    part-room-requires-2
+    part-room-requires-3
+    part-room-requires-4
+    loop-holds
+    sub-loop
+    slice-aggregate-rise-part
+    slice-aggregate-rise-part-2
+    slice-aggregate-rise-part-3
+    slice-aggregate-rise-part-4
+    rise-part-requires
+    add-i
+    loop-less
+    loop-again
+    rise-rest-requires
     returns)

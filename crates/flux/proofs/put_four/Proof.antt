@@ -20,23 +20,29 @@ mul-out-2 c = search needs
 slice-write-out-2 : tie.Need-slice-write-out-2
 slice-write-out-2 c = simp length-set (omega arith)
 
-add-out-2 : tie.Need-add-out-2
-add-out-2 c = search needs
-
 mul-out-3 : tie.Need-mul-out-3
 mul-out-3 c = search needs
 
-slice-write-out-3 : tie.Need-slice-write-out-3
-slice-write-out-3 c = simp length-set (omega arith)
-
-add-out-3 : tie.Need-add-out-3
-add-out-3 c = search needs
+add-out-2 : tie.Need-add-out-2
+add-out-2 c = search needs
 
 mul-out-4 : tie.Need-mul-out-4
 mul-out-4 c = search needs
 
+slice-write-out-3 : tie.Need-slice-write-out-3
+slice-write-out-3 c = simp length-set (omega arith)
+
+mul-out-5 : tie.Need-mul-out-5
+mul-out-5 c = search needs
+
+add-out-3 : tie.Need-add-out-3
+add-out-3 c = search needs
+
+mul-out-6 : tie.Need-mul-out-6
+mul-out-6 c = search needs
+
 slice-write-out-4 : tie.Need-slice-write-out-4
-slice-write-out-4 c = simp length-set (omega arith)
+slice-write-out-4 c = search needs
 
 same-length : tie.Need-same-length
 same-length c = search needs
@@ -53,11 +59,13 @@ put-four-spec =
     add-out
     mul-out-2
     slice-write-out-2
-    add-out-2
     mul-out-3
-    slice-write-out-3
-    add-out-3
+    add-out-2
     mul-out-4
+    slice-write-out-3
+    mul-out-5
+    add-out-3
+    mul-out-6
     slice-write-out-4
     same-length
     returns)
