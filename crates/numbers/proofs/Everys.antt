@@ -21,23 +21,22 @@ module _ {A : Type 0} (p : A → Bool) where
   unfolding every
   every-end s i h = rw drop-of-length-le
 
-  -- the same, with what was found before it
+  -- what is left from slot i on, and what was found before it: the entry goes to what was found
   pub every-step-1 : (s : List A) (i : ℕ) (z : A) (fine : Bool) → i < length s → (every p (drop i s) && fine) ≡ (every p (drop (i + 1) s) && (p (getD s i z) && fine))
   every-step-1 s i z fine h = ap (λ (b : Bool). b && fine) (every-step s i z h) ∙ and-push (p (getD s i z)) (every p (drop (i + 1) s)) fine
 
-  -- four lists side by side
+  -- what is left of four lists from slot i on, and what was found before it
+  abbrev pub every-4 : List A → List A → List A → List A → ℕ → Bool → Bool
+  every-4 a b c d i fine = every p (drop i a) && (every p (drop i b) && (every p (drop i c) && (every p (drop i d) && fine)))
+
   module _ (a b c d : List A) (i : ℕ) (fine : Bool) where
-    pub every-step-4 : (z : A) → i < length a → i < length b → i < length c → i < length d → (every p (drop i a) && (every p (drop i b) && (every p (drop i c) && (every p (drop i d) && fine)))) ≡ (every p (drop (i + 1) a) && (every p (drop (i + 1) b) && (every p (drop (i + 1) c) && (every p (drop (i + 1) d) && (p (getD a i z) && (p (getD b i z) && (p (getD c i z) && (p (getD d i z) && fine))))))))
+    pub every-step-4 : (z : A) → i < length a → i < length b → i < length c → i < length d → every-4 a b c d i fine ≡ every-4 a b c d (i + 1) (p (getD a i z) && (p (getD b i z) && (p (getD c i z) && (p (getD d i z) && fine))))
     every-step-4 z ha hb hc hd =
         let at : List A → Bool = λ s. p (getD s i z) in
         let rest : List A → Bool = λ s. every p (drop (i + 1) s) in
-        let ea = every-step a i z ha in
-        let eb = every-step b i z hb in
-        let ec = every-step c i z hc in
-        let ed = every-step d i z hd in
-        rw (ea, eb, ec, ed) (and-push-4 (at a) (at b) (at c) (at d) (rest a) (rest b) (rest c) (rest d) fine)
+        rw (every-step a i z ha, every-step b i z hb, every-step c i z hc, every-step d i z hd) (and-push-4 (at a) (at b) (at c) (at d) (rest a) (rest b) (rest c) (rest d) fine)
 
-    pub every-end-4 : length a ≤ i → length b ≤ i → length c ≤ i → length d ≤ i → (every p (drop i a) && (every p (drop i b) && (every p (drop i c) && (every p (drop i d) && fine)))) ≡ fine
+    pub every-end-4 : length a ≤ i → length b ≤ i → length c ≤ i → length d ≤ i → every-4 a b c d i fine ≡ fine
     every-end-4 ha hb hc hd = rw (every-end a i ha, every-end b i hb, every-end c i hc, every-end d i hd)
 
   pub every-at : (s : List A) (i : ℕ) (z : A) → every p s ≡ true → i < length s → p (getD s i z) ≡ true
@@ -63,7 +62,7 @@ module _ {A : Type 0} (p : A → Bool) where
   every-split [] (suc i) = refl
   every-split (x ∷ xs) (suc i) = ap (λ (b : Bool). p x && b) (every-split xs i) ∙ sym (and-assoc (p x) (every p (take i xs)) (every p (drop i xs)))
 
-  -- the slots from a up to, not including, e
+  -- the test of the slots from a up to, not including, e
   abbrev pub every-part : List A → ℕ → ℕ → Bool
   every-part s a e = every p (take (e - a) (drop a s))
 

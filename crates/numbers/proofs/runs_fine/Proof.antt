@@ -7,25 +7,20 @@ use mathlib.Core.List.{List}
 use borrow.Author.Needs.{needs}
 use native.Mathlib.Omega.{arith}
 use denote.Ref.{now}
-use lib.ListN.{length, getD, drop}
+use lib.ListN.{length, getD}
 use lib.Ieee.{Float, nan}
 use Rattle.numbers.specs.Limits.{magnitudeFine}
 use Rattle.numbers.specs.Lists.{every}
 use Rattle.numbers.proofs.Tests.{and-true}
-use Rattle.numbers.proofs.Everys.{every-step-4, every-end-4}
+use Rattle.numbers.proofs.Everys.{every-4, every-step-4, every-end-4}
 use Rattle.numbers.proofs.runs_fine.Statement.{statement}
 use Rattle.numbers.proofs.runs_fine.Tie as tie
 
--- what is left of four runs from slot i on, and what was found before
-abbrev left : List Float → List Float → List Float → List Float → ℕ → Bool → Bool
-left a b c d i fine =
-    every magnitudeFine (drop i a) && (every magnitudeFine (drop i b) && (every magnitudeFine (drop i c) && (every magnitudeFine (drop i d) && fine)))
-
-all : (a b c d : List Float) → left a b c d 0 true ≡ (every magnitudeFine a && (every magnitudeFine b && (every magnitudeFine c && every magnitudeFine d)))
+all : (a b c d : List Float) → every-4 magnitudeFine a b c d 0 true ≡ (every magnitudeFine a && (every magnitudeFine b && (every magnitudeFine c && every magnitudeFine d)))
 all a b c d = rw (sym (and-true (every magnitudeFine d)))
 
 abbrev Inv-loop : tie.InvT-loop
-Inv-loop a b c d fine₀ i₀ fine i = (i ≤ length a) × (left a b c d 0 true ≡ left a b c d i fine)
+Inv-loop a b c d fine₀ i₀ fine i = (i ≤ length a) × (every-4 magnitudeFine a b c d 0 true ≡ every-4 magnitudeFine a b c d i fine)
 
 abbrev μ-loop : tie.MeasureT-loop
 μ-loop a b c d fine₀ i₀ fine i = length a - i
@@ -76,29 +71,33 @@ loop-less : tie.Need-loop-less Inv-loop μ-loop
 loop-less c = search needs
 
 loop-again : tie.Need-loop-again Inv-loop μ-loop
-loop-again c =
-    let l = c .before .before .before .before .before .before .before .before .before in
+loop-again k =
+    let l = k .before .before .before .before .before .before .before .before .before in
     let g = l .before .before .before .before .before .args in
     let i = l .loop .i in
     let a = now (g .a) in
     let b = now (g .b) in
-    let d = now (g .c) in
-    let e = now (g .d) in
-    let step = every-step-4 magnitudeFine a b d e i (l .loop .fine) nan (omega arith) (omega arith) (omega arith) (omega arith) in
+    let c = now (g .c) in
+    let d = now (g .d) in
+    let step = every-step-4 magnitudeFine a b c d i (l .loop .fine) nan (omega arith) (omega arith) (omega arith) (omega arith) in
     let test : List Float → Bool → Bool = λ s fine. magnitudeFine (getD s i nan) && fine in
-    let e₁ = c .before .before .before .still-fine .ensures in
-    let e₂ = c .before .before .still-fine2 .ensures ∙ ap (test d) e₁ in
-    let e₃ = c .before .still-fine3 .ensures ∙ ap (test b) e₂ in
-    let e₄ = c .still-fine4 .ensures ∙ ap (test a) e₃ in
-    (omega arith, l .loop .inv .1 ∙ step ∙ ap (left a b d e (i + 1)) (sym e₄))
+    let e₁ = k .before .before .before .still-fine .ensures in
+    let e₂ = k .before .before .still-fine2 .ensures ∙ ap (test c) e₁ in
+    let e₃ = k .before .still-fine3 .ensures ∙ ap (test b) e₂ in
+    let e₄ = k .still-fine4 .ensures ∙ ap (test a) e₃ in
+    (omega arith, l .loop .inv .1 ∙ step ∙ ap (every-4 magnitudeFine a b c d (i + 1)) (sym e₄))
 
 returns : tie.Need-returns Inv-loop μ-loop
-returns c =
-    let l = c .before in
+returns k =
+    let l = k .before in
     let g = l .before .before .before .before .before .args in
-    let h = c .loop-test .left in
-    let end = every-end-4 magnitudeFine (now (g .a)) (now (g .b)) (now (g .c)) (now (g .d)) (l .loop .i) (l .loop .fine) h (omega arith) (omega arith) (omega arith) in
-    sym (l .loop .inv .1 ∙ end) ∙ all (now (g .a)) (now (g .b)) (now (g .c)) (now (g .d))
+    let a = now (g .a) in
+    let b = now (g .b) in
+    let c = now (g .c) in
+    let d = now (g .d) in
+    let h = k .loop-test .left in
+    let end = every-end-4 magnitudeFine a b c d (l .loop .i) (l .loop .fine) h (omega arith) (omega arith) (omega arith) in
+    sym (l .loop .inv .1 ∙ end) ∙ all a b c d
 
 pub runs-fine-spec : {M : Type 1} → statement M
 runs-fine-spec =
