@@ -71,6 +71,47 @@ pub and-true : (b : Bool) → b ≡ (b && true)
 and-true true = refl
 and-true false = refl
 
+pub and-assoc : (a b c : Bool) → ((a && b) && c) ≡ (a && (b && c))
+and-assoc true b c = refl
+and-assoc false b c = refl
+
+pub and-assoc-4 : (a b c d e : Bool) → ((a && (b && (c && d))) && e) ≡ (a && (b && (c && (d && e))))
+and-assoc-4 true true true d e = refl
+and-assoc-4 true true false d e = refl
+and-assoc-4 true false c d e = refl
+and-assoc-4 false b c d e = refl
+
+pub and-false : (b : Bool) → (b && false) ≡ false
+and-false true = refl
+and-false false = refl
+
+pub and-swap : (a b c : Bool) → (a && (b && c)) ≡ (b && (a && c))
+and-swap true b c = refl
+and-swap false b c = sym (and-false b)
+
+-- what is tested here goes to what was found so far
+pub and-push : (here rest fine : Bool) → ((here && rest) && fine) ≡ (rest && (here && fine))
+and-push true rest fine = refl
+and-push false rest fine = sym (and-false rest)
+
+-- the same of four lists side by side
+pub and-push-4 : (ha hb hc hd a b c d fine : Bool) → ((ha && a) && ((hb && b) && ((hc && c) && ((hd && d) && fine)))) ≡ (a && (b && (c && (d && (ha && (hb && (hc && (hd && fine))))))))
+and-push-4 ha hb hc hd a b c d fine =
+    let f₁ = hd && fine in
+    let f₂ = hc && f₁ in
+    let f₃ = hb && f₂ in
+    let d₁ = and-push hd d fine in
+    let c₁ = and-push hc c (d && f₁) in
+    let c₂ = and-swap hc d f₁ in
+    let b₁ = and-push hb b (c && (d && f₂)) in
+    let b₂ = and-swap hb c (d && f₂) in
+    let b₃ = and-swap hb d f₂ in
+    let a₁ = and-push ha a (b && (c && (d && f₃))) in
+    let a₂ = and-swap ha b (c && (d && f₃)) in
+    let a₃ = and-swap ha c (d && f₃) in
+    let a₄ = and-swap ha d f₃ in
+    cc
+
 -- ---- a choice
 
 pub pick-true : {A : Type 0} (b : Bool) (x y : A) → b ≡ true → pick b x y ≡ x

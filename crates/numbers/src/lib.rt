@@ -2,7 +2,9 @@
 //
 // Inner calls: the crates above share them, and no caller of the library needs them. None refuses anything.
 ghost use mathlib.Core.Path.{_≡_};
+ghost use mathlib.Core.Bool.{_&&_};
 ghost use Prim.Native.Nat.{_-_, min, max};
+ghost use lib.ListN.{length};
 ghost use Rattle.numbers.specs.Limits.{magnitudeFine, valueFine, similarityFine, rateFine};
 ghost use Rattle.numbers.specs.Lists.{every};
 
@@ -90,18 +92,54 @@ pub fn similarity_fine(x: f64) -> bool
     x >= -1.0 && x <= 1.0
 }
 
-// Inner: whether every magnitude is fine. One flat pass with no early exit: the compiler runs it on several lanes.
-pub fn magnitudes_fine(s: &[f32]) -> bool
+// Inner: whether a magnitude is fine, and what was found before it.
+fn still_fine(x: f32, fine: bool) -> bool
+    ensures { λ r. ⌜ r ≡ (magnitudeFine x && fine) ⌝ }
+{
+    if magnitude_fine(x) { fine } else { false }
+}
+
+// Inner: whether every magnitude of four runs of one length is fine. One flat pass with no early exit: the compiler runs it on several
+// lanes, and the four runs come from memory side by side.
+fn runs_fine(a: &[f32], b: &[f32], c: &[f32], d: &[f32]) -> bool
+    requires { ⌜ length (now b) ≡ length (now a) ⌝ }
+    requires { ⌜ length (now c) ≡ length (now a) ⌝ }
+    requires { ⌜ length (now d) ≡ length (now a) ⌝ }
+    ensures { λ r. ⌜ r ≡ (every magnitudeFine (now (a .entry)) && (every magnitudeFine (now (b .entry)) && (every magnitudeFine (now (c .entry)) && every magnitudeFine (now (d .entry))))) ⌝ }
+{
+    let mut fine = true;
+    let mut i = 0;
+    while i < a.len() {
+        fine = still_fine(
+            a[i],
+            still_fine(b[i], still_fine(c[i], still_fine(d[i], fine))),
+        );
+        i += 1;
+    }
+    fine
+}
+
+// Inner: whether every magnitude of one run is fine.
+fn run_fine(s: &[f32]) -> bool
     ensures { λ r. ⌜ r ≡ every magnitudeFine (now (s .entry)) ⌝ }
 {
     let mut fine = true;
     let mut i = 0;
     while i < s.len() {
-        let x = s[i];
-        fine = if magnitude_fine(x) { fine } else { false };
+        fine = still_fine(s[i], fine);
         i += 1;
     }
     fine
+}
+
+// Inner: whether every magnitude is fine: four quarters side by side, then the at most three that are left.
+pub fn magnitudes_fine(s: &[f32]) -> bool
+    ensures { λ r. ⌜ r ≡ every magnitudeFine (now (s .entry)) ⌝ }
+{
+    let q = s.len() / 4;
+    let quarters = runs_fine(&s[0..q], &s[q..2 * q], &s[2 * q..3 * q], &s[3 * q..4 * q]);
+    let rest = run_fine(&s[4 * q..]);
+    quarters && rest
 }
 
 // Inner: whether every value is fine.
