@@ -61,12 +61,6 @@ pub and-failed : (a b : Bool) → a ≡ false → a ≡ (a && b)
 and-failed true b e = true-not-false true refl e
 and-failed false b e = refl
 
--- a test carried along a list: what is left, and what was found so far
-pub and-carry : (all rest here fine now : Bool) → all ≡ ((here && rest) && fine) → now ≡ pick here fine false → all ≡ (rest && now)
-and-carry all rest true fine now e h = e ∙ ap (λ (b : Bool). rest && b) (sym h)
-and-carry all true false fine now e h = e ∙ sym h
-and-carry all false false fine now e h = e
-
 pub and-true : (b : Bool) → b ≡ (b && true)
 and-true true = refl
 and-true false = refl

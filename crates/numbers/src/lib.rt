@@ -5,7 +5,7 @@ ghost use mathlib.Core.Path.{_≡_};
 ghost use mathlib.Core.Bool.{_&&_};
 ghost use Prim.Native.Nat.{_-_, min, max};
 ghost use lib.ListN.{length};
-ghost use Rattle.numbers.specs.Limits.{magnitudeFine, valueFine, similarityFine, rateFine};
+ghost use Rattle.numbers.specs.Limits.{sized, magnitudeFine, valueFine, similarityFine, rateFine};
 ghost use Rattle.numbers.specs.Lists.{every};
 
 // samples a second
@@ -24,6 +24,10 @@ pub const FEATURE_WIDTH: usize = 16;
 pub const MOST_LENGTH: u64 = 2_147_483_648;
 // a listed frame
 pub const MOST_FRAME: u32 = 1_048_575;
+// the size of a value of an envelope, curve, median or feature row, 2 ^ 150
+const VALUE_TOP: f64 = 1427247692705959881058285969449495136382746624.0;
+// the size of a similarity
+const SIMILARITY_TOP: f64 = 1.0;
 
 // The numbers of refusal.
 pub const OUT_OF_BOUNDS: u32 = 1;
@@ -77,19 +81,18 @@ pub fn magnitude_fine(x: f32) -> bool
     x >= -85070591730234615865843651857942052864.0 && x <= 85070591730234615865843651857942052864.0
 }
 
+// Inner: whether x is finite and of size at most top.
+fn size_fine(x: f64, top: f64) -> bool
+    ensures { λ r. ⌜ r ≡ sized top x ⌝ }
+{
+    x >= -top && x <= top
+}
+
 // Inner: whether a value of an envelope, curve, median or feature row is finite and of size at most 2 ^ 150.
 pub fn value_fine(x: f64) -> bool
     ensures { λ r. ⌜ r ≡ valueFine x ⌝ }
 {
-    x >= -1427247692705959881058285969449495136382746624.0
-        && x <= 1427247692705959881058285969449495136382746624.0
-}
-
-// Inner: whether a similarity is within -1 to 1.
-pub fn similarity_fine(x: f64) -> bool
-    ensures { λ r. ⌜ r ≡ similarityFine x ⌝ }
-{
-    x >= -1.0 && x <= 1.0
+    size_fine(x, VALUE_TOP)
 }
 
 // Inner: whether a magnitude is fine, and what was found before it.
@@ -142,30 +145,76 @@ pub fn magnitudes_fine(s: &[f32]) -> bool
     quarters && rest
 }
 
-// Inner: whether every value is fine.
-pub fn values_fine(s: &[f64]) -> bool
-    ensures { λ r. ⌜ r ≡ every valueFine (now (s .entry)) ⌝ }
+// Inner: whether the size of a double is fine, and what was found before it.
+fn still_sized(x: f64, top: f64, fine: bool) -> bool
+    ensures { λ r. ⌜ r ≡ (sized top x && fine) ⌝ }
+{
+    if size_fine(x, top) { fine } else { false }
+}
+
+// Inner: the same test of four runs of doubles, which are of one length.
+fn runs_sized(a: &[f64], b: &[f64], c: &[f64], d: &[f64], top: f64) -> bool
+    requires { ⌜ length (now b) ≡ length (now a) ⌝ }
+    requires { ⌜ length (now c) ≡ length (now a) ⌝ }
+    requires { ⌜ length (now d) ≡ length (now a) ⌝ }
+    ensures { λ r. ⌜ r ≡ (every (sized top) (now (a .entry)) && (every (sized top) (now (b .entry)) && (every (sized top) (now (c .entry)) && every (sized top) (now (d .entry))))) ⌝ }
+{
+    let mut fine = true;
+    let mut i = 0;
+    while i < a.len() {
+        fine = still_sized(
+            a[i],
+            top,
+            still_sized(
+                b[i],
+                top,
+                still_sized(c[i], top, still_sized(d[i], top, fine)),
+            ),
+        );
+        i += 1;
+    }
+    fine
+}
+
+// Inner: the same of one run.
+fn run_sized(s: &[f64], top: f64) -> bool
+    ensures { λ r. ⌜ r ≡ every (sized top) (now (s .entry)) ⌝ }
 {
     let mut fine = true;
     let mut i = 0;
     while i < s.len() {
-        let x = s[i];
-        fine = if value_fine(x) { fine } else { false };
+        fine = still_sized(s[i], top, fine);
         i += 1;
     }
     fine
+}
+
+// Inner: whether every double is finite and of size at most top, in quarters likewise.
+fn all_sized(s: &[f64], top: f64) -> bool
+    ensures { λ r. ⌜ r ≡ every (sized top) (now (s .entry)) ⌝ }
+{
+    let q = s.len() / 4;
+    let quarters = runs_sized(
+        &s[0..q],
+        &s[q..2 * q],
+        &s[2 * q..3 * q],
+        &s[3 * q..4 * q],
+        top,
+    );
+    let rest = run_sized(&s[4 * q..], top);
+    quarters && rest
+}
+
+// Inner: whether every value is fine.
+pub fn values_fine(s: &[f64]) -> bool
+    ensures { λ r. ⌜ r ≡ every valueFine (now (s .entry)) ⌝ }
+{
+    all_sized(s, VALUE_TOP)
 }
 
 // Inner: whether every similarity is fine.
 pub fn similarities_fine(s: &[f64]) -> bool
     ensures { λ r. ⌜ r ≡ every similarityFine (now (s .entry)) ⌝ }
 {
-    let mut fine = true;
-    let mut i = 0;
-    while i < s.len() {
-        let x = s[i];
-        fine = if similarity_fine(x) { fine } else { false };
-        i += 1;
-    }
-    fine
+    all_sized(s, SIMILARITY_TOP)
 }

@@ -3,7 +3,7 @@
 use mathlib.Core.Path.{_≡_, sym, ap, _∙_}
 use mathlib.Core.Bool.{Bool, _&&_}
 use mathlib.Core.Logic.{⊎-elim}
-use Prim.Native.Nat.{_≤_, _-_}
+use Prim.Native.Nat.{_+_, _≤_, _-_}
 use borrow.Author.Needs.{needs}
 use borrow.Author.Tests.{le-leb, lt-leb}
 use native.Mathlib.Omega.{arith}
@@ -11,8 +11,8 @@ use denote.Ref.{now}
 use lib.ListN.{length, drop, getD}
 use Rattle.numbers.specs.Limits.{mostFrame}
 use Rattle.numbers.specs.Lists.{every}
-use Rattle.numbers.proofs.Tests.{and-true, and-carry, pick-true, pick-false}
-use Rattle.numbers.proofs.Everys.{every-step, every-end}
+use Rattle.numbers.proofs.Tests.{and-true, and-held, and-failed}
+use Rattle.numbers.proofs.Everys.{every-step-1, every-end}
 use Rattle.bars.specs.Downbeats.{frameFine}
 use Rattle.bars.proofs.frames_fine.Statement.{statement}
 use Rattle.bars.proofs.frames_fine.Tie as tie
@@ -45,10 +45,14 @@ loop-again c =
     let s = now (l .before .args .frames) in
     let i = l .loop .i in
     let x = getD s i 0 in
-    let e = l .loop .inv .1 ∙ ap (λ (b : Bool). b && l .loop .fine) (every-step frameFine s i 0 (omega arith)) in
+    let fine = l .loop .fine in
+    let e = l .loop .inv .1 ∙ every-step-1 frameFine s i 0 fine (omega arith) in
+    let with : Bool → Bool = λ b. every frameFine (drop (i + 1) s) && b in
     ⊎-elim
-    (λ w. (omega arith, and-carry _ _ (frameFine x) (l .loop .fine) _ e (w .1 ∙ sym (pick-true _ _ _ (le-leb x mostFrame (w .0 .taken))))))
-    (λ w. (omega arith, and-carry _ _ (frameFine x) (l .loop .fine) _ e (w .1 ∙ sym (pick-false _ _ _ (lt-leb x mostFrame (w .0 .left))))))
+    (λ w. (omega arith, e ∙ ap with (sym (w .1 ∙ and-held (frameFine x) fine (le-leb x mostFrame (w .0 .taken))))))
+    (λ w.
+    let f = lt-leb x mostFrame (w .0 .left) in
+    (omega arith, e ∙ ap with (sym (w .1 ∙ sym f ∙ and-failed (frameFine x) fine f))))
     (c .if1 .came)
 
 returns : tie.Need-returns Inv-loop μ-loop
