@@ -91,12 +91,12 @@ fn guess(a: u64) -> u64
     bits_of(root) % HIDDEN + HIDDEN
 }
 
-// the whole number nearest to the root of a * 2 ^ 52
-fn nearest_whole(a: u64) -> u64
+// the whole number nearest to the root of a * 2 ^ 52, where any guess will do
+fn nearest_whole(a: u64, guessed: u64) -> u64
     requires { ⌜ (2 ^ 52 ≤ a) × (a + 2 ≤ 2 ^ 54) ⌝ }
     ensures { λ r. ⌜ nearestWhole a r ≡ true ⌝ }
 {
-    let y = guess(a);
+    let y = guessed % 0x20_0000_0000_0000;
     if is_nearest(a, y) {
         return y;
     }
@@ -114,11 +114,11 @@ fn lifted_root_bits(n: u64) -> u64
         a = a * 4;
         power = power - 1;
     }
-    nearest_whole(a) + power * HIDDEN
+    nearest_whole(a, guess(a)) + power * HIDDEN
 }
 
-// the bits of the root of a finite float above zero, from its bits
-fn root_bits(n: u64) -> u64
+// the bits of the root of a finite float above zero, from its bits and a guess at their digits
+fn root_bits(n: u64, guessed: u64) -> u64
     requires { ⌜ (0 < n) × (n < infinite) ⌝ }
     ensures { λ r. ⌜ r ≡ rootBits n ⌝ }
 {
@@ -128,17 +128,29 @@ fn root_bits(n: u64) -> u64
     let power = n / HIDDEN - 1;
     let digits = n % HIDDEN + HIDDEN;
     let a = if power % 2 == 0 { digits } else { digits * 2 };
-    nearest_whole(a) + (power / 2 + 511) * HIDDEN
+    nearest_whole(a, guessed) + (power / 2 + 511) * HIDDEN
 }
 
-// Inner: the square root, correctly rounded: of +0, -0 and the infinity themselves, of anything below zero a NaN.
-pub fn sqrt(x: f64) -> f64
+// Inner: a guess at the digits of x's root, for `sqrt_from`. Nothing is promised of it. It has no branch, so that a loop of guesses runs on
+// several lanes.
+pub fn guess_root(x: f64) -> u64 {
+    let n = bits_of(x);
+    let digits = n % HIDDEN + HIDDEN;
+    guess(if n / HIDDEN % 2 == 0 {
+        digits * 2
+    } else {
+        digits
+    })
+}
+
+// Inner: the square root, correctly rounded, whatever was guessed: of +0, -0 and the infinity themselves, of anything below zero a NaN.
+pub fn sqrt_from(x: f64, guessed: u64) -> f64
     ensures { λ r. ⌜ r ≡ sqrtOf x ⌝ }
 {
     if x > 0.0 {
         let n = bits_of(x);
         if n < INFINITE {
-            return float_of(root_bits(n));
+            return float_of(root_bits(n, guessed));
         }
         return x;
     }
@@ -146,4 +158,11 @@ pub fn sqrt(x: f64) -> f64
         return x;
     }
     0.0 / 0.0
+}
+
+// Inner: the square root, by a guess of its own.
+pub fn sqrt(x: f64) -> f64
+    ensures { λ r. ⌜ r ≡ sqrtOf x ⌝ }
+{
+    sqrt_from(x, guess_root(x))
 }

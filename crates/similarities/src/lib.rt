@@ -9,7 +9,8 @@ use numbers::WRONG_LENGTH;
 use numbers::WRONG_VALUE;
 use numbers::least;
 use numbers::values_fine;
-use roots::sqrt;
+use roots::guess_root;
+use roots::sqrt_from;
 use row_pairs::dot;
 use row_pairs::feature_row;
 use row_pairs::settle;
@@ -102,14 +103,28 @@ fn square_rows(features: &[f64], rows: usize, first: usize, count: usize, square
     }
 }
 
+// guesses at the norms, in a loop of their own: the compiler runs it on several lanes
+fn guess_all(squares: &[f64; 128], guesses: &mut [u64; 128])
+    requires { ⌜ length (now guesses) ≡ 128 ⌝ }
+    ensures { λ _. ⌜ length (now (guesses .exit)) ≡ 128 ⌝ }
+{
+    let mut r = 0;
+    while r < 128 {
+        guesses[r] = guess_root(squares[r]);
+        r += 1;
+    }
+}
+
 // the norms
 fn root_all(squares: &[f64; 128], norms: &mut [f64; 128])
     requires { ⌜ length (now norms) ≡ 128 ⌝ }
     ensures { λ _. ⌜ now (norms .exit) ≡ filled (rootAt (now (squares .entry))) (now (norms .entry)) 0 128 ⌝ }
 {
+    let mut guesses = [0u64; 128];
+    guess_all(squares, &mut guesses);
     let mut r = 0;
     while r < 128 {
-        norms[r] = sqrt(squares[r]);
+        norms[r] = sqrt_from(squares[r], guesses[r]);
         r += 1;
     }
 }

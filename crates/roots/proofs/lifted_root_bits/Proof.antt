@@ -27,6 +27,9 @@ loop-less c = omega arith
 loop-again : tie.Need-loop-again Inv-loop μ-loop
 loop-again c = lift-step _ _ _ (c .before .loop .inv) (c .loop-test .taken)
 
+guess-requires : tie.Need-guess-requires Inv-loop μ-loop
+guess-requires c κs = omega arith
+
 nearest-whole-requires : tie.Need-nearest-whole-requires Inv-loop μ-loop
 nearest-whole-requires c κs = omega arith
 
@@ -35,14 +38,14 @@ mul-result c = omega arith
 
 add-result : tie.Need-add-result Inv-loop μ-loop
 add-result c =
-    let l = c .before .before in
+    let l = c .before .before .before in
     let s = l .loop .inv .split in
-    omega (arith, near-high _ _ (c .before .loop-test .left) (s .high) (near-of _ _ (c .nearest-whole .ensures)))
+    omega (arith, near-high _ _ (c .before .before .loop-test .left) (s .high) (near-of _ _ (c .nearest-whole .ensures)))
 
 returns : tie.Need-returns Inv-loop μ-loop
 returns c =
-    let l = c .before .before in
-    root-is _ _ (l .before .pre .0) (omega arith) (near-nearest _ _ _ _ (c .before .loop-test .left) (l .loop .inv .split) (near-of _ _ (c .nearest-whole .ensures)))
+    let l = c .before .before .before in
+    root-is _ _ (l .before .pre .0) (omega arith) (near-nearest _ _ _ _ (c .before .before .loop-test .left) (l .loop .inv .split) (near-of _ _ (c .nearest-whole .ensures)))
 
 pub lifted-root-bits-spec : {M : Type 1} → statement M
 lifted-root-bits-spec =
@@ -55,6 +58,7 @@ lifted-root-bits-spec =
     sub-power
     loop-less
     loop-again
+    guess-requires
     nearest-whole-requires
     mul-result
     add-result

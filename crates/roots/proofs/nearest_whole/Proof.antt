@@ -6,9 +6,6 @@ use Rattle.roots.proofs.Nearest.{digits-near}
 use Rattle.roots.proofs.nearest_whole.Statement.{statement}
 use Rattle.roots.proofs.nearest_whole.Tie as tie
 
-guess-requires : tie.Need-guess-requires
-guess-requires c κs = search needs
-
 is-nearest-requires : tie.Need-is-nearest-requires
 is-nearest-requires c κs = search needs
 
@@ -22,13 +19,12 @@ add-result : tie.Need-add-result
 add-result c = search needs
 
 returns-2 : tie.Need-returns-2
-returns-2 c = digits-near _ _ (c .before .before .before .before .pre .0) (c .root-by-digits .ensures .0) (c .root-by-digits .ensures .1)
+returns-2 c = digits-near _ _ (c .before .before .before .pre .0) (c .root-by-digits .ensures .0) (c .root-by-digits .ensures .1)
 
 pub nearest-whole-spec : {M : Type 1} → statement M
 nearest-whole-spec =
     tie.close
     (tie.spec
-    guess-requires
     is-nearest-requires
     returns
     root-by-digits-requires
