@@ -41,17 +41,15 @@ unfolding eightRun
 run-step s vs later t i h = rw (add-one t, drop-cons vs t nan)
 
 -- two times a turn
-pub run-two : (s r q : Eight) (vs later : List Float) (at t : ℕ) → t + 1 < length vs
-    → r ≡ eightMore s (getD vs t nan) (eightBy (entry later) (at + t))
-    → q ≡ eightMore r (getD vs (t + 1) nan) (eightBy (entry later) (at + t + 1))
+pub run-two : (s q : Eight) (vs later : List Float) (at t : ℕ) → t + 1 < length vs
+    → q ≡ eightMore (eightMore s (getD vs t nan) (eightBy (entry later) (at + t))) (getD vs (t + 1) nan) (eightBy (entry later) (at + t + 1))
     → eightRun s (drop t vs) later (at + t) ≡ eightRun q (drop (t + 2) vs) later (at + (t + 2))
-run-two s r q vs later at t h e k =
+run-two s q vs later at t h e =
     let two : t + 1 + 1 ≡ t + 2 = omega arith in
     let on : at + t + 1 + 1 ≡ at + (t + 2) = omega arith in
     run-step s vs later t (at + t) (omega arith)
-    ∙ ap (λ (x : Eight). eightRun x (drop (t + 1) vs) later (at + t + 1)) (sym e)
-    ∙ run-step r vs later (t + 1) (at + t + 1) h
-    ∙ ap (λ (x : Eight). eightRun x (drop (t + 1 + 1) vs) later (at + t + 1 + 1)) (sym k)
+    ∙ run-step _ vs later (t + 1) (at + t + 1) h
+    ∙ ap (λ (x : Eight). eightRun x (drop (t + 1 + 1) vs) later (at + t + 1 + 1)) (sym e)
     ∙ ap (λ (n : ℕ). eightRun q (drop n vs) later (at + t + 1 + 1)) two
     ∙ ap (eightRun q (drop (t + 2) vs) later) on
 

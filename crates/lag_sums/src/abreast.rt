@@ -22,6 +22,12 @@ pub struct Eight {
     pub h: f64,
 }
 
+// two times eight, one behind the other
+struct Sixteen {
+    a: Eight,
+    b: Eight,
+}
+
 // Inner: four times eight, one behind the other.
 pub struct ThirtyTwo {
     pub a: Eight,
@@ -63,7 +69,15 @@ fn eight_more(s: Eight, v: f64, later: &[f64], at: usize) -> Eight
     }
 }
 
-// The same, with the envelope's slots centred on the way.
+// The same of two times, v and w: the second with the values one slot further.
+fn two_more(s: Eight, v: f64, w: f64, later: &[f64], at: usize) -> Eight
+    requires { ⌜ at + 9 ≤ length (now later) ⌝ }
+    ensures { λ r. ⌜ r ≡ eightMore (eightMore s v (eightBy (entry (now (later .entry))) at)) w (eightBy (entry (now (later .entry))) (at + 1)) ⌝ }
+{
+    eight_more(eight_more(s, v, later, at), w, later, at + 1)
+}
+
+// One product more, with the envelope's slots centred on the way.
 fn eight_more_centred(s: Eight, v: f64, envelope: &[f64], mean: f64, at: usize) -> Eight
     requires { ⌜ at + 8 ≤ length (now envelope) ⌝ }
     ensures { λ r. ⌜ r ≡ eightMore s v (eightBy (centred (now (envelope .entry)) mean) at) ⌝ }
@@ -116,19 +130,23 @@ fn centre(envelope: &[f64], mean: f64, from: usize, out: &mut [f64])
     }
 }
 
-// Eight sums over a run of centred times, with the centred slots of `later` from slot `at` on. Two times a turn.
-fn eight_run(sums: Eight, times: &[f64], later: &[f64], at: usize) -> Eight
-    requires { ⌜ (length (now times) % 2 ≡ 0) × (at + length (now times) + 7 ≤ length (now later)) ⌝ }
-    ensures { λ r. ⌜ r ≡ eightRun sums (now (times .entry)) (now (later .entry)) at ⌝ }
+// Sixteen sums over a run of centred times, with the centred slots of `later` from slot `at` on. Two times a turn, and two eights side by
+// side: so the additions of one don't wait for those of the other, and each time is spread over the lanes once for both.
+fn sixteen_run(low: Eight, high: Eight, times: &[f64], later: &[f64], at: usize) -> Sixteen
+    requires { ⌜ (length (now times) % 2 ≡ 0) × (at + length (now times) + 15 ≤ length (now later)) ⌝ }
+    ensures { λ r. ⌜ (r .a ≡ eightRun low (now (times .entry)) (now (later .entry)) at) × (r .b ≡ eightRun high (now (times .entry)) (now (later .entry)) (at + 8)) ⌝ }
 {
-    let mut s = sums;
+    let mut s = low;
+    let mut r = high;
     let mut t = 0;
     while t < times.len() {
-        s = eight_more(s, times[t], later, at + t);
-        s = eight_more(s, times[t + 1], later, at + t + 1);
+        let v = times[t];
+        let w = times[t + 1];
+        s = two_more(s, v, w, later, at + t);
+        r = two_more(r, v, w, later, at + 8 + t);
         t += 2;
     }
-    s
+    Sixteen { a: s, b: r }
 }
 
 // Thirty-two sums over a run of centred times.
@@ -140,11 +158,17 @@ fn thirty_two_run(sums: ThirtyTwo, times: &[f64], later: &[f64]) -> ThirtyTwo
     let b = sums.b;
     let c = sums.c;
     let d = sums.d;
+    let low = sixteen_run(a, b, times, later, 0);
+    let high = sixteen_run(c, d, times, later, 16);
+    let e = low.a;
+    let f = low.b;
+    let g = high.a;
+    let h = high.b;
     ThirtyTwo {
-        a: eight_run(a, times, later, 0),
-        b: eight_run(b, times, later, 8),
-        c: eight_run(c, times, later, 16),
-        d: eight_run(d, times, later, 24),
+        a: e,
+        b: f,
+        c: g,
+        d: h,
     }
 }
 
