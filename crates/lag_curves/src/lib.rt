@@ -11,6 +11,7 @@ use lag_sums::lag_rest;
 use lag_sums::lag_sum;
 use lags::bpm_at;
 use lags::float_of;
+use numbers::least;
 ghost use mathlib.Core.Path.{_≡_};
 ghost use Prim.Native.Nat.{_+_, _≤_, _<_};
 ghost use lib.ListN.{length};
@@ -163,7 +164,8 @@ fn fill_eights(
     fill_singly(envelope, mean, ac0, min_lag, i, past, clarity);
 }
 
-// Inner: the clarity curve, one slot a lag from min_lag to max_lag, of an envelope with this mean and this energy about it.
+// Inner: the clarity curve, one slot a lag from min_lag to max_lag, of an envelope with this mean and this energy about it: thirty-two lags at
+// a time. The last of them may begin before the lags that are left and write some again: that takes less than one lag at a time.
 pub fn fill_clarity(
     envelope: &[f64],
     mean: f64,
@@ -176,12 +178,16 @@ pub fn fill_clarity(
     ensures { λ _. ⌜ now (clarity .exit) ≡ filled (clarityFrom (now (envelope .entry)) mean ac0 «min_lag») (now (clarity .entry)) 0 (lagRoom «min_lag» «max_lag») ⌝ }
 {
     let count = max_lag - min_lag + 1;
-    let mut i = 0;
-    while count - i >= 32 {
-        fill_thirty_two(envelope, mean, ac0, min_lag, i, clarity);
-        i += 32;
+    if count < 32 {
+        fill_eights(envelope, mean, ac0, min_lag, 0, count, clarity);
+        return;
     }
-    fill_eights(envelope, mean, ac0, min_lag, i, count, clarity);
+    let mut i = 0;
+    while i < count {
+        let from = least(i, count - 32);
+        fill_thirty_two(envelope, mean, ac0, min_lag, from, clarity);
+        i = from + 32;
+    }
 }
 
 // how likely a tempo is: 1 at 120 beats a minute, less each octave away

@@ -157,6 +157,27 @@ module _ {A : Type 0} where
       let e : u ≡ t + (u - t) = omega arith in
       ap (filled f (filled f d a t) t) e ∙ filled-on f d a t (u - t) h z (omega arith) ∙ ap (filled f d a) (sym e)
 
+  -- two runs of slots, the second of which begins within the first
+  pub filled-over : (f : ℕ → A) (d : List A) (a s t u : ℕ) → a ≤ s → s ≤ t → t ≤ u → A → u ≤ length d → filled f (filled f d a t) s u ≡ filled f d a u
+  filled-over f d a s t u h o g z l =
+      let x = filled f d a t in
+      let m : length x ≡ length d = length-filled f d a t (omega arith) (omega arith) in
+      ext-getD z _ _ (length-filled f x s u (omega arith) (omega arith) ∙ m ∙ sym (length-filled f d a u (omega arith) l))
+      (λ i b.
+      ⊎-elim
+      (λ (p : i < s).
+      getD-filled-low f x s u (omega arith) (omega arith) i z p
+      ∙ ⊎-elim
+      (λ (q : i < a). getD-filled-low f d a t (omega arith) (omega arith) i z q ∙ sym (getD-filled-low f d a u (omega arith) l i z q))
+      (λ (q : a ≤ i). getD-filled-in f d a t (omega arith) (omega arith) i z q (omega arith) ∙ sym (getD-filled-in f d a u (omega arith) l i z q (omega arith)))
+      (lt-or-le i a))
+      (λ (p : s ≤ i).
+      ⊎-elim
+      (λ (q : i < u). getD-filled-in f x s u (omega arith) (omega arith) i z p q ∙ sym (getD-filled-in f d a u (omega arith) l i z (omega arith) q))
+      (λ (q : u ≤ i). getD-filled-high f x s u (omega arith) (omega arith) i z q ∙ getD-filled-high f d a t (omega arith) (omega arith) i z (omega arith) ∙ sym (getD-filled-high f d a u (omega arith) l i z q))
+      (lt-or-le i u))
+      (lt-or-le i s))
+
   -- one more slot, with the next number given
   pub filled-to : (f : ℕ → A) (d : List A) (a t u : ℕ) → a ≤ t → A → t < length d → u ≡ t + 1 → set (filled f d a t) t (f t) ≡ filled f d a u
   filled-to f d a t u h z k e = filled-more f d a t h z k ∙ ap (filled f d a) (sym e)
