@@ -89,6 +89,27 @@ pub fn cell<T: Slot>() -> T {
     T::poison(0x77)
 }
 
+/// A lent number, with a guard before it and one behind.
+#[derive(Clone, Copy)]
+pub struct Number<T: Slot> {
+    slots: [T; 3],
+}
+
+impl<T: Slot> Number<T> {
+    pub fn lent() -> Self {
+        Number { slots: [T::poison(0x76), cell(), T::poison(0x78)] }
+    }
+    pub fn ptr_mut(&mut self) -> *mut T {
+        self.slots[1..].as_mut_ptr()
+    }
+    /// The number as bits, and whether the guards stand.
+    pub fn end(self, harm: &mut bool) -> u64 {
+        let [before, number, after] = self.slots.map(Slot::bits);
+        *harm |= before != T::poison(0x76).bits() || after != T::poison(0x78).bits();
+        number
+    }
+}
+
 pub fn bits_of<T: Slot>(xs: &[T]) -> Vec<u64> {
     xs.iter().map(|x| x.bits()).collect()
 }

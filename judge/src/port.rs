@@ -1,6 +1,6 @@
 //! The port's side: its exported functions, each called with guarded, poisoned memory.
 use crate::cases::Field;
-use crate::lent::{Lent, Slot, cell};
+use crate::lent::{Lent, Number};
 
 /// What a call did: its number, the lent numbers and the lent slots afterwards, and whether it touched memory that it was not lent.
 pub struct Outcome {
@@ -254,19 +254,19 @@ fn ended<const N: usize>(number: u32, answers: Vec<u64>, slots: [Vec<u64>; N], h
 }
 
 pub fn median_of(f: &[Field]) -> Outcome {
-    let (values, mut work, mut median) = (Lent::of(f[0].reals()), Lent::room(f[1].size()), cell::<f64>());
-    let number = unsafe { ph_median_of(values.ptr(), values.len(), work.ptr_mut(), work.len(), &mut median) };
+    let (values, mut work, mut median) = (Lent::of(f[0].reals()), Lent::room(f[1].size()), Number::<f64>::lent());
+    let number = unsafe { ph_median_of(values.ptr(), values.len(), work.ptr_mut(), work.len(), median.ptr_mut()) };
     let mut harm = false;
     values.same(f[0].reals(), &mut harm);
-    ended(number, vec![median.bits()], [work.end(&mut harm)], harm)
+    ended(number, vec![median.end(&mut harm)], [work.end(&mut harm)], harm)
 }
 
 pub fn mad_of(f: &[Field]) -> Outcome {
-    let (values, mut work, mut mad) = (Lent::of(f[0].reals()), Lent::room(f[2].size()), cell::<f64>());
-    let number = unsafe { ph_mad_of(values.ptr(), values.len(), f[1].real(), work.ptr_mut(), work.len(), &mut mad) };
+    let (values, mut work, mut mad) = (Lent::of(f[0].reals()), Lent::room(f[2].size()), Number::<f64>::lent());
+    let number = unsafe { ph_mad_of(values.ptr(), values.len(), f[1].real(), work.ptr_mut(), work.len(), mad.ptr_mut()) };
     let mut harm = false;
     values.same(f[0].reals(), &mut harm);
-    ended(number, vec![mad.bits()], [work.end(&mut harm)], harm)
+    ended(number, vec![mad.end(&mut harm)], [work.end(&mut harm)], harm)
 }
 
 pub fn spectral_flux(f: &[Field]) -> Outcome {
@@ -287,26 +287,44 @@ pub fn adaptive_threshold(f: &[Field]) -> Outcome {
 
 pub fn pick_onsets(f: &[Field]) -> Outcome {
     let (flux, threshold) = (Lent::of(f[0].reals()), Lent::of(f[1].reals()));
-    let (mut frames, mut count) = (Lent::<u32>::room(f[3].size()), cell::<usize>());
+    let (mut frames, mut count) = (Lent::<u32>::room(f[3].size()), Number::<usize>::lent());
     let number = unsafe {
-        ph_pick_onsets(flux.ptr(), flux.len(), threshold.ptr(), threshold.len(), f[2].small(), frames.ptr_mut(), frames.len(), &mut count)
+        ph_pick_onsets(
+            flux.ptr(),
+            flux.len(),
+            threshold.ptr(),
+            threshold.len(),
+            f[2].small(),
+            frames.ptr_mut(),
+            frames.len(),
+            count.ptr_mut(),
+        )
     };
     let mut harm = false;
     flux.same(f[0].reals(), &mut harm);
     threshold.same(f[1].reals(), &mut harm);
-    ended(number, vec![count.bits()], [frames.end(&mut harm)], harm)
+    ended(number, vec![count.end(&mut harm)], [frames.end(&mut harm)], harm)
 }
 
 pub fn suppress_close_peaks(f: &[Field]) -> Outcome {
     let (peaks, curve) = (Lent::of(f[0].frames()), Lent::of(f[1].reals()));
-    let (mut frames, mut count) = (Lent::<u32>::room(f[3].size()), cell::<usize>());
+    let (mut frames, mut count) = (Lent::<u32>::room(f[3].size()), Number::<usize>::lent());
     let number = unsafe {
-        ph_suppress_close_peaks(peaks.ptr(), peaks.len(), curve.ptr(), curve.len(), f[2].size(), frames.ptr_mut(), frames.len(), &mut count)
+        ph_suppress_close_peaks(
+            peaks.ptr(),
+            peaks.len(),
+            curve.ptr(),
+            curve.len(),
+            f[2].size(),
+            frames.ptr_mut(),
+            frames.len(),
+            count.ptr_mut(),
+        )
     };
     let mut harm = false;
     peaks.same(f[0].frames(), &mut harm);
     curve.same(f[1].reals(), &mut harm);
-    ended(number, vec![count.bits()], [frames.end(&mut harm)], harm)
+    ended(number, vec![count.end(&mut harm)], [frames.end(&mut harm)], harm)
 }
 
 pub fn frame_times(f: &[Field]) -> Outcome {
@@ -318,15 +336,17 @@ pub fn frame_times(f: &[Field]) -> Outcome {
 }
 
 pub fn lag_range(f: &[Field]) -> Outcome {
-    let (mut min_lag, mut max_lag) = (cell::<usize>(), cell::<usize>());
-    let number = unsafe { ph_lag_range(f[0].small(), f[1].real(), f[2].real(), &mut min_lag, &mut max_lag) };
-    ended(number, vec![min_lag.bits(), max_lag.bits()], [], false)
+    let (mut min_lag, mut max_lag) = (Number::<usize>::lent(), Number::<usize>::lent());
+    let number = unsafe { ph_lag_range(f[0].small(), f[1].real(), f[2].real(), min_lag.ptr_mut(), max_lag.ptr_mut()) };
+    let mut harm = false;
+    ended(number, vec![min_lag.end(&mut harm), max_lag.end(&mut harm)], [], harm)
 }
 
 pub fn estimate(f: &[Field]) -> Outcome {
     let envelope = Lent::of(f[0].reals());
     let mut room = [5, 6, 7].map(|k| Lent::<f64>::room(f[k].size()));
-    let (mut found, mut bpm, mut clarity, mut count) = (cell::<u32>(), cell::<f64>(), cell::<f64>(), cell::<usize>());
+    let (mut found, mut bpm, mut clarity, mut count) =
+        (Number::<u32>::lent(), Number::<f64>::lent(), Number::<f64>::lent(), Number::<usize>::lent());
     let (mut lags, mut saliences) = (Lent::<usize>::room(3), Lent::<f64>::room(3));
     let [clarities, weights, work] = &mut room;
     let number = unsafe {
@@ -343,17 +363,17 @@ pub fn estimate(f: &[Field]) -> Outcome {
             weights.len(),
             work.ptr_mut(),
             work.len(),
-            &mut found,
-            &mut bpm,
-            &mut clarity,
+            found.ptr_mut(),
+            bpm.ptr_mut(),
+            clarity.ptr_mut(),
             lags.ptr_mut(),
             saliences.ptr_mut(),
-            &mut count,
+            count.ptr_mut(),
         )
     };
     let mut harm = false;
     envelope.same(f[0].reals(), &mut harm);
-    let answers = vec![found.bits(), bpm.bits(), clarity.bits(), count.bits()];
+    let answers = vec![found.end(&mut harm), bpm.end(&mut harm), clarity.end(&mut harm), count.end(&mut harm)];
     let [clarities, weights, work] = room.map(|r| r.end(&mut harm));
     ended(number, answers, [clarities, weights, work, lags.end(&mut harm), saliences.end(&mut harm)], harm)
 }
@@ -361,7 +381,8 @@ pub fn estimate(f: &[Field]) -> Outcome {
 pub fn stability_of(f: &[Field]) -> Outcome {
     let envelope = Lent::of(f[0].reals());
     let mut room = [5, 6, 7].map(|k| Lent::<f64>::room(f[k].size()));
-    let (mut found, mut fraction, mut agreeing, mut windows) = (cell::<u32>(), cell::<f64>(), cell::<usize>(), cell::<usize>());
+    let (mut found, mut fraction, mut agreeing, mut windows) =
+        (Number::<u32>::lent(), Number::<f64>::lent(), Number::<usize>::lent(), Number::<usize>::lent());
     let [clarities, weights, work] = &mut room;
     let number = unsafe {
         ph_stability_of(
@@ -377,22 +398,24 @@ pub fn stability_of(f: &[Field]) -> Outcome {
             weights.len(),
             work.ptr_mut(),
             work.len(),
-            &mut found,
-            &mut fraction,
-            &mut agreeing,
-            &mut windows,
+            found.ptr_mut(),
+            fraction.ptr_mut(),
+            agreeing.ptr_mut(),
+            windows.ptr_mut(),
         )
     };
     let mut harm = false;
     envelope.same(f[0].reals(), &mut harm);
-    let answers = vec![found.bits(), fraction.bits(), agreeing.bits(), windows.bits()];
+    let answers = vec![found.end(&mut harm), fraction.end(&mut harm), agreeing.end(&mut harm), windows.end(&mut harm)];
     ended(number, answers, room.map(|r| r.end(&mut harm)), harm)
 }
 
 pub fn room_of(f: &[Field]) -> Outcome {
-    let (mut rows, mut lags, mut work) = (cell::<usize>(), cell::<usize>(), cell::<usize>());
-    let number = unsafe { ph_room_of(f[0].size(), f[1].small(), f[2].real(), f[3].real(), &mut rows, &mut lags, &mut work) };
-    ended(number, vec![rows.bits(), lags.bits(), work.bits()], [], false)
+    let (mut rows, mut lags, mut work) = (Number::<usize>::lent(), Number::<usize>::lent(), Number::<usize>::lent());
+    let number = unsafe { ph_room_of(f[0].size(), f[1].small(), f[2].real(), f[3].real(), rows.ptr_mut(), lags.ptr_mut(), work.ptr_mut()) };
+    let mut harm = false;
+    let answers = vec![rows.end(&mut harm), lags.end(&mut harm), work.end(&mut harm)];
+    ended(number, answers, [], harm)
 }
 
 /// What a whole track is lent, in the order of the call.
@@ -403,9 +426,9 @@ struct Track {
     score: Lent<f64>,
     lists: [Lent<u32>; 3],
     work: Lent<f64>,
-    counts: [usize; 6],
-    kinds: [u32; 2],
-    values: [f64; 3],
+    counts: [Number<usize>; 6],
+    kinds: [Number<u32>; 2],
+    values: [Number<f64>; 3],
     lags: Lent<usize>,
     saliences: Lent<f64>,
 }
@@ -420,23 +443,23 @@ impl Track {
             score: Lent::room(size(6)),
             lists: [7, 8, 9].map(|k| Lent::room(size(k))),
             work: Lent::room(size(10)),
-            counts: [cell(); 6],
-            kinds: [cell(); 2],
-            values: [cell(); 3],
+            counts: [Number::lent(); 6],
+            kinds: [Number::lent(); 2],
+            values: [Number::lent(); 3],
             lags: Lent::room(3),
             saliences: Lent::room(3),
         }
     }
 
     // onset count; a tempo, its bpm, clarity and candidates; a stability, its fraction and counts; beat and downbeat counts
-    fn answers(&self) -> Vec<u64> {
+    fn answers(&self, harm: &mut bool) -> Vec<u64> {
         let ([onsets, count, agreeing, windows, beats, downbeats], [found, steady], [bpm, clarity, fraction]) =
-            (self.counts.map(Slot::bits), self.kinds.map(Slot::bits), self.values.map(Slot::bits));
+            (self.counts.map(|n| n.end(harm)), self.kinds.map(|n| n.end(harm)), self.values.map(|n| n.end(harm)));
         vec![onsets, found, bpm, clarity, count, steady, fraction, agreeing, windows, beats, downbeats]
     }
 
     fn ended(self, number: u32, mut slots: Vec<Vec<u64>>, mut harm: bool) -> Outcome {
-        let answers = self.answers();
+        let answers = self.answers(&mut harm);
         slots.push(self.threshold.end(&mut harm));
         slots.push(self.onsets.end(&mut harm));
         slots.extend(self.curves.map(|c| c.end(&mut harm)));
@@ -484,19 +507,19 @@ pub fn analyse_envelope(f: &[Field]) -> Outcome {
             downbeats.len(),
             t.work.ptr_mut(),
             t.work.len(),
-            heard,
-            found,
-            bpm,
-            clarity,
+            heard.ptr_mut(),
+            found.ptr_mut(),
+            bpm.ptr_mut(),
+            clarity.ptr_mut(),
             t.lags.ptr_mut(),
             t.saliences.ptr_mut(),
-            count,
-            steady,
-            fraction,
-            agreeing,
-            windows,
-            laid,
-            bars,
+            count.ptr_mut(),
+            steady.ptr_mut(),
+            fraction.ptr_mut(),
+            agreeing.ptr_mut(),
+            windows.ptr_mut(),
+            laid.ptr_mut(),
+            bars.ptr_mut(),
         )
     };
     let mut harm = false;
@@ -543,19 +566,19 @@ pub fn analyse_magnitudes(f: &[Field]) -> Outcome {
             downbeats.len(),
             t.work.ptr_mut(),
             t.work.len(),
-            heard,
-            found,
-            bpm,
-            clarity,
+            heard.ptr_mut(),
+            found.ptr_mut(),
+            bpm.ptr_mut(),
+            clarity.ptr_mut(),
             t.lags.ptr_mut(),
             t.saliences.ptr_mut(),
-            count,
-            steady,
-            fraction,
-            agreeing,
-            windows,
-            laid,
-            bars,
+            count.ptr_mut(),
+            steady.ptr_mut(),
+            fraction.ptr_mut(),
+            agreeing.ptr_mut(),
+            windows.ptr_mut(),
+            laid.ptr_mut(),
+            bars.ptr_mut(),
         )
     };
     let mut harm = false;
@@ -566,7 +589,7 @@ pub fn analyse_magnitudes(f: &[Field]) -> Outcome {
 
 pub fn beat_grid(f: &[Field]) -> Outcome {
     let (envelope, mut score) = (Lent::of(f[0].reals()), Lent::<f64>::room(f[2].size()));
-    let (mut back, mut beats, mut count) = (Lent::<u32>::room(f[3].size()), Lent::<u32>::room(f[4].size()), cell::<usize>());
+    let (mut back, mut beats, mut count) = (Lent::<u32>::room(f[3].size()), Lent::<u32>::room(f[4].size()), Number::<usize>::lent());
     let number = unsafe {
         ph_beat_grid(
             envelope.ptr(),
@@ -578,34 +601,44 @@ pub fn beat_grid(f: &[Field]) -> Outcome {
             back.len(),
             beats.ptr_mut(),
             beats.len(),
-            &mut count,
+            count.ptr_mut(),
         )
     };
     let mut harm = false;
     envelope.same(f[0].reals(), &mut harm);
-    ended(number, vec![count.bits()], [score.end(&mut harm), back.end(&mut harm), beats.end(&mut harm)], harm)
+    ended(number, vec![count.end(&mut harm)], [score.end(&mut harm), back.end(&mut harm), beats.end(&mut harm)], harm)
 }
 
 pub fn downbeats(f: &[Field]) -> Outcome {
     let (envelope, beats) = (Lent::of(f[0].reals()), Lent::of(f[1].frames()));
-    let (mut frames, mut count) = (Lent::<u32>::room(f[2].size()), cell::<usize>());
+    let (mut frames, mut count) = (Lent::<u32>::room(f[2].size()), Number::<usize>::lent());
     let number =
-        unsafe { ph_downbeats(envelope.ptr(), envelope.len(), beats.ptr(), beats.len(), frames.ptr_mut(), frames.len(), &mut count) };
+        unsafe { ph_downbeats(envelope.ptr(), envelope.len(), beats.ptr(), beats.len(), frames.ptr_mut(), frames.len(), count.ptr_mut()) };
     let mut harm = false;
     envelope.same(f[0].reals(), &mut harm);
     beats.same(f[1].frames(), &mut harm);
-    ended(number, vec![count.bits()], [frames.end(&mut harm)], harm)
+    ended(number, vec![count.end(&mut harm)], [frames.end(&mut harm)], harm)
 }
 
 pub fn bar_beat_at(f: &[Field]) -> Outcome {
     let (downbeats, beats) = (Lent::of(f[1].reals()), Lent::of(f[2].reals()));
-    let (mut found, mut bar, mut beat) = (cell::<u32>(), cell::<usize>(), cell::<usize>());
-    let number =
-        unsafe { ph_bar_beat_at(f[0].real(), downbeats.ptr(), downbeats.len(), beats.ptr(), beats.len(), &mut found, &mut bar, &mut beat) };
+    let (mut found, mut bar, mut beat) = (Number::<u32>::lent(), Number::<usize>::lent(), Number::<usize>::lent());
+    let number = unsafe {
+        ph_bar_beat_at(
+            f[0].real(),
+            downbeats.ptr(),
+            downbeats.len(),
+            beats.ptr(),
+            beats.len(),
+            found.ptr_mut(),
+            bar.ptr_mut(),
+            beat.ptr_mut(),
+        )
+    };
     let mut harm = false;
     downbeats.same(f[1].reals(), &mut harm);
     beats.same(f[2].reals(), &mut harm);
-    ended(number, vec![found.bits(), bar.bits(), beat.bits()], [], harm)
+    ended(number, vec![found.end(&mut harm), bar.end(&mut harm), beat.end(&mut harm)], [], harm)
 }
 
 pub fn similarity(f: &[Field]) -> Outcome {
@@ -627,7 +660,7 @@ pub fn novelty(f: &[Field]) -> Outcome {
 pub fn boundaries(f: &[Field]) -> Outcome {
     let novelty = Lent::of(f[0].reals());
     let (mut rows, mut work) = (Lent::<u32>::room(f[4].size()), Lent::<f64>::room(f[5].size()));
-    let (mut sections, mut count, mut confidence) = (cell::<usize>(), cell::<usize>(), cell::<f64>());
+    let (mut sections, mut count, mut confidence) = (Number::<usize>::lent(), Number::<usize>::lent(), Number::<f64>::lent());
     let number = unsafe {
         ph_boundaries(
             novelty.ptr(),
@@ -639,14 +672,14 @@ pub fn boundaries(f: &[Field]) -> Outcome {
             rows.len(),
             work.ptr_mut(),
             work.len(),
-            &mut sections,
-            &mut count,
-            &mut confidence,
+            sections.ptr_mut(),
+            count.ptr_mut(),
+            confidence.ptr_mut(),
         )
     };
     let mut harm = false;
     novelty.same(f[0].reals(), &mut harm);
-    let answers = vec![sections.bits(), count.bits(), confidence.bits()];
+    let answers = vec![sections.end(&mut harm), count.end(&mut harm), confidence.end(&mut harm)];
     ended(number, answers, [rows.end(&mut harm), work.end(&mut harm)], harm)
 }
 
@@ -661,7 +694,7 @@ pub fn boundary_times(f: &[Field]) -> Outcome {
 pub fn patch_magnitudes(f: &[Field]) -> Outcome {
     let (mut magnitudes, new_rows) = (Lent::of(f[0].singles()), Lent::of(f[4].singles()));
     let (mut flux, mut threshold, mut work) = (Lent::of(f[5].reals()), Lent::of(f[6].reals()), Lent::<f64>::room(f[7].size()));
-    let mut named = [cell::<usize>(); 4];
+    let mut named = [Number::<usize>::lent(); 4];
     let [a, b, c, d] = &mut named;
     let number = unsafe {
         ph_patch_magnitudes(
@@ -678,22 +711,22 @@ pub fn patch_magnitudes(f: &[Field]) -> Outcome {
             threshold.len(),
             work.ptr_mut(),
             work.len(),
-            a,
-            b,
-            c,
-            d,
+            a.ptr_mut(),
+            b.ptr_mut(),
+            c.ptr_mut(),
+            d.ptr_mut(),
         )
     };
     let mut harm = false;
     new_rows.same(f[4].singles(), &mut harm);
     let slots = [magnitudes.end(&mut harm), flux.end(&mut harm), threshold.end(&mut harm), work.end(&mut harm)];
-    ended(number, named.map(Slot::bits).into(), slots, harm)
+    ended(number, named.map(|n| n.end(&mut harm)).into(), slots, harm)
 }
 
 pub fn patch_features(f: &[Field]) -> Outcome {
     let (mut features, new_rows) = (Lent::of(f[0].reals()), Lent::of(f[3].reals()));
     let (mut similarity, mut novelty) = (Lent::of(f[4].reals()), Lent::of(f[5].reals()));
-    let mut named = [cell::<usize>(); 4];
+    let mut named = [Number::<usize>::lent(); 4];
     let [a, b, c, d] = &mut named;
     let number = unsafe {
         ph_patch_features(
@@ -707,14 +740,14 @@ pub fn patch_features(f: &[Field]) -> Outcome {
             similarity.len(),
             novelty.ptr_mut(),
             novelty.len(),
-            a,
-            b,
-            c,
-            d,
+            a.ptr_mut(),
+            b.ptr_mut(),
+            c.ptr_mut(),
+            d.ptr_mut(),
         )
     };
     let mut harm = false;
     new_rows.same(f[3].reals(), &mut harm);
     let slots = [features.end(&mut harm), similarity.end(&mut harm), novelty.end(&mut harm)];
-    ended(number, named.map(Slot::bits).into(), slots, harm)
+    ended(number, named.map(|n| n.end(&mut harm)).into(), slots, harm)
 }
