@@ -5,10 +5,11 @@
 use std::{env, fs, path::Path};
 
 // name, the file, the first words of the lines, and the words before which they end
-const CUTS: [(&str, &str, &str, &str); 7] = [
+const CUTS: [(&str, &str, &str, &str); 8] = [
     ("picking", "onsets", "    let min_gap_frames =\n", "    let times_ms: Vec<f64> = accepted"),
     ("lag range", "tempo", "    let (lo, hi) = if opts.min_bpm <= opts.max_bpm {", "    let n = flux.len();\n    if n <= max_lag + 1"),
     ("lag curves", "tempo", "    let n = flux.len();\n    // Mean-removed", "    // Winner: best weighted"),
+    ("windows", "tempo", "    let n = flux.len();\n    // Each window must", "    Some(agree as f64"),
     ("scores", "tempo", "    let n = flux.len();\n    if n == 0 || period_frames == 0", "    let mut end = 0;"),
     ("frame length", "structure", "    let frame_ms = frame_len as f64", "    let features = feature_vectors"),
     ("boundaries", "structure", "    let min_gap_frames = ((MIN_BOUNDARY_GAP_S", "    if picked.is_empty()"),

@@ -155,11 +155,11 @@ pub fn stability_of(f: &[Field]) -> Expected {
     let mut formula = 0;
     if number == 0 {
         let (min, max) = lags(rate, bpm.0, bpm.1);
-        let share = tempo::open::stability_of(envelope, min, max, tempo::open::frame_rate(rate), whole_lag);
+        let frame_rate = tempo::open::frame_rate(rate);
+        let share = tempo::open::stability_of(envelope, min, max, frame_rate, whole_lag);
         answers = vec![0; 4];
         if let Some(share) = differences::no_lag(share, whole_lag) {
-            let windows = (envelope.len() / (max + 2)).min(4);
-            let agreeing = (share * windows as f64).round() as usize;
+            let (agreeing, windows) = tempo::open::windows_of(envelope, min, max, frame_rate, whole_lag).unwrap();
             answers = vec![1, share.bits(), agreeing.bits(), windows.bits()];
             formula = lag_count(rate, bpm);
         }

@@ -40,12 +40,4 @@ pub mod open {
     pub fn boundary_ms(row: usize, frame_len: usize, sample_rate: u32) -> f64 {
         row as f64 * (frame_len as f64 / f64::from(sample_rate) * 1000.0)
     }
-
-    pub fn pick_boundaries(novelty: &[f64], min_gap_frames: usize, max_boundaries: usize) -> Vec<usize> {
-        super::pick_boundaries(novelty, min_gap_frames, max_boundaries)
-    }
-
-    pub fn confidence_of(novelty: &[f64], picked: &[usize]) -> f64 {
-        super::confidence_of(novelty, picked)
-    }
 }

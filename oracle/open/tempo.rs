@@ -41,12 +41,10 @@ pub mod open {
         super::stability_of(flux, min_lag, max_lag, frame_rate, global_lag)
     }
 
-    pub fn lags_agree_mod_octave(a: f64, b: f64) -> bool {
-        super::lags_agree_mod_octave(a, b)
-    }
-
-    pub fn tempo_prior_weight(bpm: f64) -> f64 {
-        super::tempo_prior_weight(bpm)
+    /// How many windows `stability_of` finds in agreement, and how many it takes: its own lines.
+    pub fn windows_of(flux: &[f64], min_lag: usize, max_lag: usize, frame_rate: f64, global_lag: usize) -> Option<(usize, usize)> {
+        {{windows}}
+        Some((agree, window_count))
     }
 
     pub fn beat_grid(flux: &[f64], period_frames: usize) -> Vec<usize> {
