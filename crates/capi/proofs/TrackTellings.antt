@@ -13,21 +13,11 @@ use Rattle.rooms.specs.Rooms.{Results, Spare}
 use Rattle.track.specs.Analyses.{analysisOf, withoutAnalysis, openLags, openWork, Analysed}
 use Rattle.analysis.specs.Analyses.{AnalysedMagnitudes}
 use Rattle.analysis.proofs.Promises.{open-coincide}
-use Rattle.capi.specs.Handed.{Handed}
-use Rattle.capi.specs.Tempos.{TempoLent, tempoLent, ShareLent}
-use Rattle.capi.specs.Tracks.{TrackLent, trackParts, TrackTold, FluxTold, MagnitudesPromise}
-use Rattle.capi.proofs.Hands.{handed-on}
+use Rattle.handing.specs.Handed.{Handed}
+use Rattle.handing.specs.Tracks.{TrackLent, trackParts}
+use Rattle.handing.proofs.Hands.{handed-on}
+use Rattle.capi.specs.Tracks.{TrackTold, FluxTold, MagnitudesPromise}
 use Rattle.capi.proofs.Outcomes.{handed-unique}
-
--- the lent numbers of an estimate, and of a track, part by part
-pub tempo-made : {f f′ : ℕ} {b b′ c c′ : Float} {l l′ : List ℕ} {s s′ : List Float} (n : ℕ) → f ≡ f′ → b ≡ b′ → c ≡ c′ → l ≡ l′ → s ≡ s′
-    → tempoLent f b c l s n ≡ tempoLent f′ b′ c′ l′ s′ n
-tempo-made n f b c l s = rw (f, b, c, l, s)
-
-pub track-made : {t t′ : TempoLent} {s s′ : ShareLent} (onsets beats downbeats : ℕ) → t ≡ t′ → s ≡ s′
-    → _≡_ {A = TrackLent} (record { onsets = onsets; tempo = t; share = s; beats = beats; downbeats = downbeats })
-    (record { onsets = onsets; tempo = t′; share = s′; beats = beats; downbeats = downbeats })
-track-made onsets beats downbeats t s = rw (t, s)
 
 -- the number of an analysis is the one that it is told by
 number-of : (n : ℕ) (env : List Float) (rate : ℕ) (o : TempoOpts) → unlessRefused n (analysisOf env rate o) (withoutAnalysis n) .number ≡ n
