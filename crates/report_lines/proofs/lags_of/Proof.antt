@@ -1,11 +1,11 @@
--- `report_answer::lags_of` meets its contract: three candidates, whose lags fit. Assumes nothing.
+-- `report_lines::lags_of` meets its contract: three candidates, whose lags fit. Assumes nothing.
 use native.Mathlib.Omega.{arith}
 use lib.Ieee.{nan}
 use Rattle.tempo.specs.declared.Candidate.{Candidate}
-use Rattle.report_answer.proofs.Reports.{three-lags}
+use Rattle.report_lines.proofs.Lines.{three-lags}
 use borrow.Author.Needs.{needs}
-use Rattle.report_answer.proofs.lags_of.Statement.{statement}
-use Rattle.report_answer.proofs.lags_of.Tie as tie
+use Rattle.report_lines.proofs.lags_of.Statement.{statement}
+use Rattle.report_lines.proofs.lags_of.Tie as tie
 
 -- what stands for a candidate that is not there
 abbrev missing : Candidate

@@ -1,8 +1,8 @@
--- `report_answer::counts_of` meets its contract, case by case. Assumes nothing.
+-- `report_lines::counts_of` meets its contract, case by case. Assumes nothing.
 use native.Mathlib.Omega.{arith}
 use borrow.Author.Needs.{needs}
-use Rattle.report_answer.proofs.counts_of.Statement.{statement}
-use Rattle.report_answer.proofs.counts_of.Tie as tie
+use Rattle.report_lines.proofs.counts_of.Statement.{statement}
+use Rattle.report_lines.proofs.counts_of.Tie as tie
 
 enum-told : tie.Need-enum-told
 enum-told c = search needs

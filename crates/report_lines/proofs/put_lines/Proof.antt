@@ -1,8 +1,8 @@
--- `report_answer::put_lines` meets its contract: the lists are the first entries of what is lent. Assumes nothing.
-use Rattle.report_answer.proofs.Reports.{lines-put}
+-- `report_lines::put_lines` meets its contract: the lists are the first entries of what is lent. Assumes nothing.
+use Rattle.report_lines.proofs.Lines.{lines-put}
 use borrow.Author.Needs.{needs}
-use Rattle.report_answer.proofs.put_lines.Statement.{statement}
-use Rattle.report_answer.proofs.put_lines.Tie as tie
+use Rattle.report_lines.proofs.put_lines.Statement.{statement}
+use Rattle.report_lines.proofs.put_lines.Tie as tie
 
 lags-of-requires : tie.Need-lags-of-requires
 lags-of-requires c κs = search needs
