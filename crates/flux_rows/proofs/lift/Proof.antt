@@ -1,4 +1,4 @@
--- `flux::lift` meets its contract. The invariant: the slots up to k are written by the rule, and the list is as long as it was. The measure is the
+-- `flux_rows::lift` meets its contract. The invariant: the slots up to k are written by the rule, and the list is as long as it was. The measure is the
 -- slots that are left. Assumes nothing.
 use mathlib.Core.Path.{_≡_, refl, sym, ap, _∙_}
 use Prim.Native.Nat.{ℕ, _+_, _≤_, _-_}
@@ -9,10 +9,10 @@ use lib.Ieee.{nan}
 use lib.ListN.{length, length-set}
 use Rattle.numbers.proofs.Tabs.{filled-none, filled-more}
 use Rattle.numbers.specs.Lists.{filled}
-use Rattle.flux.specs.Flux.{riseAt}
-use Rattle.flux.proofs.Fluxes.{rise-of, part-whole}
-use Rattle.flux.proofs.lift.Statement.{statement}
-use Rattle.flux.proofs.lift.Tie as tie
+use Rattle.flux_rows.specs.Rises.{riseAt}
+use Rattle.flux_rows.proofs.Rises.{rise-of, part-whole}
+use Rattle.flux_rows.proofs.lift.Statement.{statement}
+use Rattle.flux_rows.proofs.lift.Tie as tie
 
 abbrev Inv-loop : tie.InvT-loop
 Inv-loop prev cur from part₀ k₀ part k = (k ≤ length part₀) × (length part ≡ length part₀) × (part ≡ filled (λ (j : ℕ). riseAt prev cur (from + j)) part₀ 0 k)

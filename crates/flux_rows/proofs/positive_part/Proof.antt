@@ -1,7 +1,7 @@
--- `flux::positive_part` meets its contract: its test is the definition's. Assumes nothing.
+-- `flux_rows::positive_part` meets its contract: its test is the definition's. Assumes nothing.
 use Rattle.numbers.specs.Rounded.{positivePart}
-use Rattle.flux.proofs.positive_part.Statement.{statement}
-use Rattle.flux.proofs.positive_part.Tie as tie
+use Rattle.flux_rows.proofs.positive_part.Statement.{statement}
+use Rattle.flux_rows.proofs.positive_part.Tie as tie
 
 returns : tie.Need-returns
 unfolding positivePart

@@ -1,4 +1,4 @@
--- `flux::rise_part` meets its contract: each part holds the rises of its two rows. Assumes nothing.
+-- `flux_rows::rise_part` meets its contract: each part holds the rises of its two rows. Assumes nothing.
 use mathlib.Core.Path.{_≡_, sym, ap, _∙_}
 use mathlib.Core.List.{List}
 use Prim.Native.Nat.{ℕ}
@@ -9,9 +9,9 @@ use lib.ListN.{length}
 use Rattle.numbers.specs.Rounded.{sumFrom}
 use Rattle.numbers.specs.Lists.{tab}
 use Rattle.numbers.proofs.Tabs.{length-tab}
-use Rattle.flux.specs.Flux.{partBins}
-use Rattle.flux.proofs.rise_part.Statement.{statement}
-use Rattle.flux.proofs.rise_part.Tie as tie
+use Rattle.flux_rows.specs.Rises.{partBins}
+use Rattle.flux_rows.proofs.rise_part.Statement.{statement}
+use Rattle.flux_rows.proofs.rise_part.Tie as tie
 
 -- how many slots a part has after it was written
 long : (f : ℕ → Float) (i n : ℕ) {part : List Float} → part ≡ tab f i n → n ≡ partBins → length part ≡ partBins

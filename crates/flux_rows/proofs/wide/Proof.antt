@@ -1,4 +1,4 @@
--- `flux::wide` meets its contract: a magnitude that is fine is no NaN, so that widening it is exact. Assumes nothing.
+-- `flux_rows::wide` meets its contract: a magnitude that is fine is no NaN, so that widening it is exact. Assumes nothing.
 use mathlib.Core.Bool.{not}
 use denote.Ref.{now}
 use borrow.Author.Needs.{needs}
@@ -8,8 +8,8 @@ use lib.ListN.{getD}
 use Rattle.numbers.proofs.Everys.{every-at}
 use Rattle.numbers.specs.Limits.{magnitudeFine}
 use Rattle.sizes.proofs.Tests.{magnitude-not-nan}
-use Rattle.flux.proofs.wide.Statement.{statement}
-use Rattle.flux.proofs.wide.Tie as tie
+use Rattle.flux_rows.proofs.wide.Statement.{statement}
+use Rattle.flux_rows.proofs.wide.Tie as tie
 
 mul-result : tie.Need-mul-result
 mul-result c = search needs

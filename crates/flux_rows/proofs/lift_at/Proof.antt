@@ -1,4 +1,4 @@
--- `flux::lift_at` meets its contract: both rows are there, of one length and fine. Assumes nothing.
+-- `flux_rows::lift_at` meets its contract: both rows are there, of one length and fine. Assumes nothing.
 use mathlib.Core.Path.{_≡_, refl, sym, _∙_}
 use Prim.Native.Nat.{_-_}
 use native.Mathlib.Omega.{arith}
@@ -6,8 +6,8 @@ use denote.Ref.{now}
 use borrow.Author.Needs.{needs}
 use Rattle.numbers.proofs.Overs.{length-row, every-row}
 use Rattle.numbers.specs.Limits.{magnitudeFine}
-use Rattle.flux.proofs.lift_at.Statement.{statement}
-use Rattle.flux.proofs.lift_at.Tie as tie
+use Rattle.flux_rows.proofs.lift_at.Statement.{statement}
+use Rattle.flux_rows.proofs.lift_at.Tie as tie
 
 sub-row-at : tie.Need-sub-row-at
 sub-row-at c = search needs

@@ -1,9 +1,9 @@
--- `flux::row_at` meets its contract: of a slab of whole rows the frame reader hands back row t (`row-of-rows`). Assumes nothing.
+-- `flux_rows::row_at` meets its contract: of a slab of whole rows the frame reader hands back row t (`row-of-rows`). Assumes nothing.
 use mathlib.Core.Path.{_∙_}
 use borrow.Author.Needs.{needs}
 use Rattle.frames.proofs.Laws.{row-of-rows}
-use Rattle.flux.proofs.row_at.Statement.{statement}
-use Rattle.flux.proofs.row_at.Tie as tie
+use Rattle.flux_rows.proofs.row_at.Statement.{statement}
+use Rattle.flux_rows.proofs.row_at.Tie as tie
 
 row-of-requires : tie.Need-row-of-requires
 row-of-requires c κs = search needs

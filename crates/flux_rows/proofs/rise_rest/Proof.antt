@@ -1,8 +1,8 @@
--- `flux::rise_rest` meets its contract, row by row. Assumes nothing.
+-- `flux_rows::rise_rest` meets its contract, row by row. Assumes nothing.
 use native.Mathlib.Omega.{arith}
 use borrow.Author.Needs.{needs}
-use Rattle.flux.proofs.rise_rest.Statement.{statement}
-use Rattle.flux.proofs.rise_rest.Tie as tie
+use Rattle.flux_rows.proofs.rise_rest.Statement.{statement}
+use Rattle.flux_rows.proofs.rise_rest.Tie as tie
 
 rise-at-requires : tie.Need-rise-at-requires
 rise-at-requires c κs = let start = c .before in (start .pre .0, (start .pre .1 .0, (omega arith, omega arith, omega arith)))

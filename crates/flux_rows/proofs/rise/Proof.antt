@@ -1,4 +1,4 @@
--- `flux::rise` meets its contract. The invariant: the sum so far, run on over the bins that are left, is the sum run on from the first. The measure is
+-- `flux_rows::rise` meets its contract. The invariant: the sum so far, run on over the bins that are left, is the sum run on from the first. The measure is
 -- the bins that are left. Assumes nothing.
 use mathlib.Core.Path.{_≡_, refl, sym, ap, _∙_}
 use Prim.Native.Nat.{_≤_, _-_}
@@ -8,10 +8,10 @@ use borrow.Author.Needs.{needs}
 use lib.Ieee.{binary64, add}
 use lib.ListN.{length, drop}
 use Rattle.numbers.specs.Rounded.{sumFrom}
-use Rattle.flux.specs.Flux.{rises}
-use Rattle.flux.proofs.Fluxes.{rise-more, rise-end}
-use Rattle.flux.proofs.rise.Statement.{statement}
-use Rattle.flux.proofs.rise.Tie as tie
+use Rattle.flux_rows.specs.Rises.{rises}
+use Rattle.flux_rows.proofs.Rises.{rise-more, rise-end}
+use Rattle.flux_rows.proofs.rise.Statement.{statement}
+use Rattle.flux_rows.proofs.rise.Tie as tie
 
 abbrev Inv-loop : tie.InvT-loop
 Inv-loop prev cur from sum total₀ i₀ total i = (i ≤ length prev) × (sumFrom total (rises (drop i prev) (drop i cur)) ≡ sumFrom total₀ (rises (drop from prev) (drop from cur)))

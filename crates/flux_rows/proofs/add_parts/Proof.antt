@@ -1,4 +1,4 @@
--- `flux::add_parts` meets its contract. The invariant: each sum so far, run on over the slots that are left, is the sum run on over all. The measure is
+-- `flux_rows::add_parts` meets its contract. The invariant: each sum so far, run on over the slots that are left, is the sum run on over all. The measure is
 -- the slots that are left. Assumes nothing.
 use mathlib.Core.Path.{_≡_, refl, sym, _∙_}
 use Prim.Native.Nat.{_≤_, _-_}
@@ -8,8 +8,8 @@ use borrow.Author.Needs.{needs}
 use lib.ListN.{length, drop}
 use Rattle.numbers.specs.Rounded.{sumFrom}
 use Rattle.numbers.proofs.Sums.{sum-step, sum-end}
-use Rattle.flux.proofs.add_parts.Statement.{statement}
-use Rattle.flux.proofs.add_parts.Tie as tie
+use Rattle.flux_rows.proofs.add_parts.Statement.{statement}
+use Rattle.flux_rows.proofs.add_parts.Tie as tie
 
 abbrev Inv-loop : tie.InvT-loop
 Inv-loop a b c d sums₀ k₀ sums k =
