@@ -1,15 +1,15 @@
--- `report_feed::take_text` meets its contract: the byte is held, and the text is asked once it is whole. Assumes nothing.
+-- `report_head::take_text` meets its contract: the byte is held, and the text is asked once it is whole. Assumes nothing.
 use mathlib.Core.Path.{refl, sym, ap, _∙_}
 use borrow.Author.Tests.{lt-ltb, le-ltb}
 use denote.Ref.{now}
 use lib.ListN.{set}
 use Rattle.npy.specs.Header.{headerOf}
 use Rattle.numbers.proofs.Tests.{pick-true, pick-false}
-use Rattle.report_feed.specs.Feeds.{behindText}
-use Rattle.report_feed.proofs.Feeds.{part-is}
+use Rattle.report_head.specs.Heads.{behindText}
+use Rattle.report_head.proofs.Heads.{part-is}
 use borrow.Author.Needs.{needs}
-use Rattle.report_feed.proofs.take_text.Statement.{statement}
-use Rattle.report_feed.proofs.take_text.Tie as tie
+use Rattle.report_head.proofs.take_text.Statement.{statement}
+use Rattle.report_head.proofs.take_text.Tie as tie
 
 slice-write-held : tie.Need-slice-write-held
 slice-write-held c = search needs

@@ -1,11 +1,11 @@
--- `report_feed::behind_text` meets its contract, by what the text says. Assumes nothing.
+-- `report_head::behind_text` meets its contract, by what the text says. Assumes nothing.
 use mathlib.Core.Path.{sym, _∙_}
 use borrow.Author.Tests.{not-true, not-false}
 use Rattle.numbers.proofs.Tests.{pick-true, pick-false}
-use Rattle.report_feed.specs.Feeds.{behindText}
+use Rattle.report_head.specs.Heads.{behindText}
 use borrow.Author.Needs.{needs}
-use Rattle.report_feed.proofs.behind_text.Statement.{statement}
-use Rattle.report_feed.proofs.behind_text.Tie as tie
+use Rattle.report_head.proofs.behind_text.Statement.{statement}
+use Rattle.report_head.proofs.behind_text.Tie as tie
 
 enum-told : tie.Need-enum-told
 enum-told c = search needs

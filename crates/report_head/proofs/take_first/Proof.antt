@@ -1,12 +1,12 @@
--- `report_feed::take_first` meets its contract: the byte is held, and the ten bytes are asked once all are there. Assumes nothing.
+-- `report_head::take_first` meets its contract: the byte is held, and the ten bytes are asked once all are there. Assumes nothing.
 use mathlib.Core.Path.{refl, sym, ap, _∙_}
 use native.Mathlib.Omega.{arith}
 use borrow.Author.Tests.{lt-ltb, le-ltb}
 use Rattle.numbers.proofs.Tests.{pick-true, pick-false}
-use Rattle.report_feed.specs.Feeds.{behindFirst}
+use Rattle.report_head.specs.Heads.{behindFirst}
 use borrow.Author.Needs.{needs}
-use Rattle.report_feed.proofs.take_first.Statement.{statement}
-use Rattle.report_feed.proofs.take_first.Tie as tie
+use Rattle.report_head.proofs.take_first.Statement.{statement}
+use Rattle.report_head.proofs.take_first.Tie as tie
 
 slice-write-held : tie.Need-slice-write-held
 slice-write-held c = search needs

@@ -1,11 +1,11 @@
--- `report_feed::stated` meets its contract: each of the two bytes of a length is below 256. Assumes nothing.
+-- `report_head::stated` meets its contract: each of the two bytes of a length is below 256. Assumes nothing.
 use mathlib.Core.Path.{sym, _∙_}
 use native.Mathlib.Omega.{arith}
 use denote.Ref.{now}
-use Rattle.report_feed.proofs.Inputs.{stated-fits}
+use Rattle.report_head.proofs.Heads.{stated-fits}
 use borrow.Author.Needs.{needs}
-use Rattle.report_feed.proofs.stated.Statement.{statement}
-use Rattle.report_feed.proofs.stated.Tie as tie
+use Rattle.report_head.proofs.stated.Statement.{statement}
+use Rattle.report_head.proofs.stated.Tie as tie
 
 read-preamble-requires : tie.Need-read-preamble-requires
 read-preamble-requires c κs = search needs

@@ -1,11 +1,11 @@
--- `report_feed::behind_first` meets its contract, by what the ten bytes say. Assumes nothing.
+-- `report_head::behind_first` meets its contract, by what the ten bytes say. Assumes nothing.
 use mathlib.Core.Path.{sym}
 use borrow.Author.Tests.{eq-eqb, ne-eqb}
 use Rattle.numbers.proofs.Tests.{pick-true, pick-false}
-use Rattle.report_feed.specs.Feeds.{behindFirst}
+use Rattle.report_head.specs.Heads.{behindFirst}
 use borrow.Author.Needs.{needs}
-use Rattle.report_feed.proofs.behind_first.Statement.{statement}
-use Rattle.report_feed.proofs.behind_first.Tie as tie
+use Rattle.report_head.proofs.behind_first.Statement.{statement}
+use Rattle.report_head.proofs.behind_first.Tie as tie
 
 enum-told : tie.Need-enum-told
 enum-told c = search needs
