@@ -18,12 +18,17 @@ use Rattle.patching.specs.Patches.{Patch}
 use Rattle.patch_refusal.specs.Tracks as tracks
 use Rattle.patch_magnitudes.specs.Magnitudes as magnitudes
 use Rattle.patch_features.specs.Features as features
-use Rattle.capi.specs.Handed.{Handed, Listed}
+use Rattle.handing.specs.Handed.{Handed}
+use Rattle.handing.specs.Tempos.{TempoLent, ShareLent}
+use Rattle.handing.specs.Grids.{Placed}
+use Rattle.handing.specs.Forms.{SectionsLent}
+use Rattle.handing.specs.Repairs.{Ranges}
+use Rattle.capi.specs.Lists.{Listed}
 use Rattle.capi.specs.Medians.{Valued}
-use Rattle.capi.specs.Tempos.{TempoLent, EstimatePromise, ShareLent, StabilityPromise}
-use Rattle.capi.specs.Grids.{BeatsTold, Placed}
-use Rattle.capi.specs.Forms.{SectionsLent, BoundariesTold}
-use Rattle.capi.specs.Repairs.{Ranges, RowsPromise, FeaturesPromise}
+use Rattle.capi.specs.Tempos.{EstimatePromise, StabilityPromise}
+use Rattle.capi.specs.Grids.{BeatsTold}
+use Rattle.capi.specs.Forms.{BoundariesTold}
+use Rattle.capi.specs.Repairs.{RowsPromise, FeaturesPromise}
 
 -- the number and what is lent; `ph_lag_range` and `ph_room_of` by itself
 pub handed-unique : {A : Type 0} {number : ℕ} {parts lent₀ : A} {a b : ℕ} {x y : A}

@@ -30,13 +30,18 @@ use Rattle.patch_magnitudes.specs.Magnitudes as magnitudes
 use Rattle.patch_features.specs.declared.PatchedFeatures as features-done
 use Rattle.patch_features.specs.declared.PatchedFeatures.the-variants as features-case
 use Rattle.patch_features.specs.Features as features
-use Rattle.capi.specs.Handed.{Handed, Listed}
-use Rattle.capi.specs.Medians.{Valued, numberIn, valueIn}
-use Rattle.capi.specs.Tempos.{TempoLent, tempoParts, EstimateTold, EstimatePromise, ShareLent, shareParts, StabilityTold, StabilityPromise}
+use Rattle.handing.specs.Handed.{Handed}
+use Rattle.handing.specs.Medians.{numberIn, valueIn}
+use Rattle.handing.specs.Tempos.{TempoLent, tempoParts, ShareLent, shareParts}
+use Rattle.handing.specs.Forms.{SectionsLent, sectionsLent, partsIn}
+use Rattle.handing.specs.Repairs as ranges
+use Rattle.handing.proofs.Hands.{handed-on}
+use Rattle.capi.specs.Lists.{Listed}
+use Rattle.capi.specs.Medians.{Valued}
+use Rattle.capi.specs.Tempos.{EstimateTold, EstimatePromise, StabilityTold, StabilityPromise}
 use Rattle.capi.specs.Grids.{BeatsTold}
-use Rattle.capi.specs.Forms.{SectionsLent, sectionsLent, sectionParts, partsIn, BoundariesTold}
+use Rattle.capi.specs.Forms.{sectionParts, BoundariesTold}
 use Rattle.capi.specs.Repairs as repairs
-use Rattle.capi.proofs.Hands.{handed-on}
 
 -- ---- lists
 
@@ -127,50 +132,50 @@ boundaries-told {number} {novelty} {bounds} {own = own} p h =
 -- ---- patches
 
 module _ (a b c d : ℕ) where
-  rows-number : (new : List Float) → repairs.numberIn (unlessEmpty new (rows-case.Wrote a b c d) (rows-case.Wrote 0 0 0 0)) ≡ 0
+  rows-number : (new : List Float) → ranges.numberIn (unlessEmpty new (rows-case.Wrote a b c d) (rows-case.Wrote 0 0 0 0)) ≡ 0
   rows-number [] = refl
   rows-number (x ∷ xs) = refl
 
-  rows-ranges : (new : List Float) (lent₀ : repairs.Ranges)
-      → repairs.rangesIn (unlessEmpty new (rows-case.Wrote a b c d) (rows-case.Wrote 0 0 0 0)) lent₀ ≡ unlessEmpty new (repairs.ranges a b c d) (repairs.ranges 0 0 0 0)
+  rows-ranges : (new : List Float) (lent₀ : ranges.Ranges)
+      → ranges.rangesIn (unlessEmpty new (rows-case.Wrote a b c d) (rows-case.Wrote 0 0 0 0)) lent₀ ≡ unlessEmpty new (ranges.ranges a b c d) (ranges.ranges 0 0 0 0)
   rows-ranges [] lent₀ = refl
   rows-ranges (x ∷ xs) lent₀ = refl
 
-  features-number : (new : List Float) → repairs.featuresNumberIn (unlessEmpty new (features-case.Wrote a b c d) (features-case.Wrote 0 0 0 0)) ≡ 0
+  features-number : (new : List Float) → ranges.featuresNumberIn (unlessEmpty new (features-case.Wrote a b c d) (features-case.Wrote 0 0 0 0)) ≡ 0
   features-number [] = refl
   features-number (x ∷ xs) = refl
 
-  features-ranges : (new : List Float) (lent₀ : repairs.Ranges)
-      → repairs.featuresRangesIn (unlessEmpty new (features-case.Wrote a b c d) (features-case.Wrote 0 0 0 0)) lent₀
-      ≡ unlessEmpty new (repairs.ranges a b c d) (repairs.ranges 0 0 0 0)
+  features-ranges : (new : List Float) (lent₀ : ranges.Ranges)
+      → ranges.featuresRangesIn (unlessEmpty new (features-case.Wrote a b c d) (features-case.Wrote 0 0 0 0)) lent₀
+      ≡ unlessEmpty new (ranges.ranges a b c d) (ranges.ranges 0 0 0 0)
   features-ranges [] lent₀ = refl
   features-ranges (x ∷ xs) lent₀ = refl
 
-rows-answered : (n rows bins : ℕ) (patch : Patch) → repairs.numberIn (magnitudes.answered n rows bins patch) ≡ n
+rows-answered : (n rows bins : ℕ) (patch : Patch) → ranges.numberIn (magnitudes.answered n rows bins patch) ≡ n
 unfolding magnitudes.answered
 rows-answered zero rows bins patch = rows-number _ _ _ _ (patch .new)
 rows-answered (suc k) rows bins patch = refl
 
-rows-named : (n rows bins : ℕ) (patch : Patch) (lent₀ : repairs.Ranges)
-    → repairs.rangesIn (magnitudes.answered n rows bins patch) lent₀ ≡ unlessRefused n (repairs.rowsNamed rows bins patch) lent₀
+rows-named : (n rows bins : ℕ) (patch : Patch) (lent₀ : ranges.Ranges)
+    → ranges.rangesIn (magnitudes.answered n rows bins patch) lent₀ ≡ unlessRefused n (repairs.rowsNamed rows bins patch) lent₀
 unfolding magnitudes.answered
 rows-named zero rows bins patch lent₀ = rows-ranges _ _ _ _ (patch .new) lent₀
 rows-named (suc k) rows bins patch lent₀ = refl
 
-features-answered : (n rows : ℕ) (patch : Patch) → repairs.featuresNumberIn (features.answered n rows patch) ≡ n
+features-answered : (n rows : ℕ) (patch : Patch) → ranges.featuresNumberIn (features.answered n rows patch) ≡ n
 unfolding features.answered
 features-answered zero rows patch = features-number _ _ _ _ (patch .new)
 features-answered (suc k) rows patch = refl
 
-features-named : (n rows : ℕ) (patch : Patch) (lent₀ : repairs.Ranges)
-    → repairs.featuresRangesIn (features.answered n rows patch) lent₀ ≡ unlessRefused n (repairs.featuresNamed rows patch) lent₀
+features-named : (n rows : ℕ) (patch : Patch) (lent₀ : ranges.Ranges)
+    → ranges.featuresRangesIn (features.answered n rows patch) lent₀ ≡ unlessRefused n (repairs.featuresNamed rows patch) lent₀
 unfolding features.answered
 features-named zero rows patch lent₀ = features-ranges _ _ _ _ (patch .new) lent₀
 features-named (suc k) rows patch lent₀ = refl
 
 pub rows-told : {rows bins : ℕ} {was : tracks.Track} {patch : Patch} {work : List Float} {own : rows-done.Patched} {now : tracks.Track} {work′ : List Float}
-    {lent₀ : repairs.Ranges} {answer : ℕ} {lent : repairs.Ranges}
-    → magnitudes.Patches rows bins was patch work own now work′ → (answer ≡ repairs.numberIn own) × (lent ≡ repairs.rangesIn own lent₀)
+    {lent₀ : ranges.Ranges} {answer : ℕ} {lent : ranges.Ranges}
+    → magnitudes.Patches rows bins was patch work own now work′ → (answer ≡ ranges.numberIn own) × (lent ≡ ranges.rangesIn own lent₀)
     → repairs.RowsPromise rows bins was patch work lent₀ answer now work′ lent
 rows-told {rows} {bins} {was} {patch} {work} {lent₀ = lent₀} p h =
     let n = tracks.numberOf rows bins was patch (length work) in
@@ -184,8 +189,8 @@ rows-told {rows} {bins} {was} {patch} {work} {lent₀ = lent₀} p h =
     }
 
 pub features-told : {rows : ℕ} {was : features.Track} {patch : Patch} {own : features-done.PatchedFeatures} {now : features.Track}
-    {lent₀ : repairs.Ranges} {answer : ℕ} {lent : repairs.Ranges}
-    → features.Patches rows was patch own now → (answer ≡ repairs.featuresNumberIn own) × (lent ≡ repairs.featuresRangesIn own lent₀)
+    {lent₀ : ranges.Ranges} {answer : ℕ} {lent : ranges.Ranges}
+    → features.Patches rows was patch own now → (answer ≡ ranges.featuresNumberIn own) × (lent ≡ ranges.featuresRangesIn own lent₀)
     → repairs.FeaturesPromise rows was patch lent₀ answer now lent
 features-told {rows} {was} {patch} {lent₀ = lent₀} p h =
     let n = features.numberOf rows was patch in

@@ -11,23 +11,13 @@ use Rattle.lags.specs.declared.TempoOpts.{TempoOpts}
 use Rattle.track.specs.declared.Analysis.{Analysis}
 use Rattle.rooms.specs.Rooms.{Results, Spare}
 use Rattle.track.specs.Analyses.{analysisOf, withoutAnalysis, openLags, openWork, Analysed}
-use Rattle.analysis.specs.Analyses.{AnalysedMagnitudes}
+use Rattle.analysis.specs.Analyses.{AnalysedEnvelope, AnalysedMagnitudes}
 use Rattle.analysis.proofs.Promises.{open-coincide}
-use Rattle.capi.specs.Handed.{Handed}
-use Rattle.capi.specs.Tempos.{TempoLent, tempoLent, ShareLent}
-use Rattle.capi.specs.Tracks.{TrackLent, trackParts, TrackTold, FluxTold, MagnitudesPromise}
-use Rattle.capi.proofs.Hands.{handed-on}
+use Rattle.handing.specs.Handed.{Handed}
+use Rattle.handing.specs.Tracks.{TrackLent, trackParts}
+use Rattle.handing.proofs.Hands.{handed-on}
+use Rattle.capi.specs.Tracks.{TrackTold, EnvelopePromise, FluxTold, MagnitudesPromise}
 use Rattle.capi.proofs.Outcomes.{handed-unique}
-
--- the lent numbers of an estimate, and of a track, part by part
-pub tempo-made : {f f′ : ℕ} {b b′ c c′ : Float} {l l′ : List ℕ} {s s′ : List Float} (n : ℕ) → f ≡ f′ → b ≡ b′ → c ≡ c′ → l ≡ l′ → s ≡ s′
-    → tempoLent f b c l s n ≡ tempoLent f′ b′ c′ l′ s′ n
-tempo-made n f b c l s = rw (f, b, c, l, s)
-
-pub track-made : {t t′ : TempoLent} {s s′ : ShareLent} (onsets beats downbeats : ℕ) → t ≡ t′ → s ≡ s′
-    → _≡_ {A = TrackLent} (record { onsets = onsets; tempo = t; share = s; beats = beats; downbeats = downbeats })
-    (record { onsets = onsets; tempo = t′; share = s′; beats = beats; downbeats = downbeats })
-track-made onsets beats downbeats t s = rw (t, s)
 
 -- the number of an analysis is the one that it is told by
 number-of : (n : ℕ) (env : List Float) (rate : ℕ) (o : TempoOpts) → unlessRefused n (analysisOf env rate o) (withoutAnalysis n) .number ≡ n
@@ -58,11 +48,20 @@ track-told {number} {env} {rate} {o} p h =
           };
     }
 
-pub magnitudes-told : {magnitudes : List Float} {rows bins rate : ℕ} {o : TempoOpts} {flux : List Float} {was : Results} {spare : Spare} {own : Analysis} {flux′ : List Float}
+-- of the calls for C, whose options are those of two numbers
+pub envelope-told : {env : List Float} {rate : ℕ} {o o′ : TempoOpts} {was : Results} {spare : Spare} {own : Analysis} {after : Results} {left : Spare}
+    {lent₀ : TrackLent} {answer : ℕ} {lent : TrackLent}
+    → o ≡ o′ → AnalysedEnvelope env rate o was spare own after left → Handed (own .number) (trackParts own) lent₀ answer lent
+    → EnvelopePromise env rate o′ was spare lent₀ answer after left lent
+envelope-told e p h = rw e at (track-told p h)
+
+pub magnitudes-told : {magnitudes : List Float} {rows bins rate : ℕ} {o o′ : TempoOpts} {flux : List Float} {was : Results} {spare : Spare} {own : Analysis} {flux′ : List Float}
     {after : Results} {left : Spare} {lent₀ : TrackLent} {answer : ℕ} {lent : TrackLent}
-    → AnalysedMagnitudes magnitudes rows bins rate o flux was spare own flux′ after left → Handed (own .number) (trackParts own) lent₀ answer lent
-    → MagnitudesPromise magnitudes rows bins rate o flux was spare lent₀ answer flux′ after left lent
-magnitudes-told p h = record { fluxes = p .fluxes; track = track-told (p .analysed) h }
+    → o ≡ o′ → AnalysedMagnitudes magnitudes rows bins rate o flux was spare own flux′ after left → Handed (own .number) (trackParts own) lent₀ answer lent
+    → MagnitudesPromise magnitudes rows bins rate o′ flux was spare lent₀ answer flux′ after left lent
+magnitudes-told {magnitudes} {rows} {bins} {rate} {o} {o′} {flux} {was} {spare} {own} {flux′} {after} {left} {lent₀} {answer} {lent} e p h =
+    let told : MagnitudesPromise magnitudes rows bins rate o flux was spare lent₀ answer flux′ after left lent = record { fluxes = p .fluxes; track = track-told (p .analysed) h } in
+    rw e at told
 
 -- Two outcomes of an analysis of `env` with this number are one: what is lent to work in too, past the slots that are left open.
 abbrev pub SameTrack : (number : ℕ) (env : List Float) (rate : ℕ) (o : TempoOpts) (a b : ℕ) (s t : TrackLent) (x y : Results) (u v : Spare) → Type 0

@@ -8,19 +8,10 @@ use Rattle.numbers.specs.Lists.{listed}
 use Rattle.numbers.specs.Refusals.{unlessRefused}
 use Rattle.sections.specs.Boundaries.{sectionsOf, boundariesOf, boundariesRefusal}
 use Rattle.sections.specs.Confidence.{confidenceOf}
-use Rattle.sections.specs.declared.Sections.{Sections}
-use Rattle.capi.specs.Handed.{Handed}
+use Rattle.handing.specs.Handed.{Handed}
+use Rattle.handing.specs.Forms.{SectionsLent, sectionsLent}
 
--- the lent numbers of `ph_boundaries`
-pub record SectionsLent : Type 0 where
-  pub sections : ℕ
-  pub count : ℕ
-  pub confidence : Float
-
-abbrev pub sectionsLent : (sections count : ℕ) (confidence : Float) → SectionsLent
-sectionsLent sections count confidence = record { sections = sections; count = count; confidence = confidence }
-
--- what they hold of a novelty curve with these boundaries
+-- what the lent numbers of `ph_boundaries` hold of a novelty curve with these boundaries
 abbrev pub sectionParts : (novelty : List Float) (bounds : List ℕ) → SectionsLent
 sectionParts novelty bounds = sectionsLent (sectionsOf (length novelty) (length bounds)) (length bounds) (confidenceOf novelty bounds)
 
@@ -38,7 +29,3 @@ abbrev pub BoundariesPromise : (novelty : List Float) (samples rate maxSections 
     (answer : ℕ) (rows′ : List ℕ) (work′ : List Float) (lent : SectionsLent) → Type 0
 BoundariesPromise novelty samples rate maxSections rows work =
     BoundariesTold (boundariesRefusal novelty samples rate (length rows) (length work)) novelty (boundariesOf novelty samples rate maxSections) rows work
-
--- Inner: the parts of an answer
-abbrev pub partsIn : Sections → SectionsLent
-partsIn answer = sectionsLent (answer .sections) (answer .count) (answer .confidence)

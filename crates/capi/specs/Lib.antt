@@ -1,4 +1,4 @@
-pub mod Handed
+pub mod Lists
 pub mod Medians
 pub mod Tempos
 pub mod Grids

@@ -3,20 +3,9 @@ use Prim.Native.Nat.{ℕ}
 use mathlib.Core.List.{List}
 use lib.Ieee.{Float}
 use Rattle.median.specs.Answers.{answered, Answered}
-use Rattle.median.specs.declared.Answer.{Answer}
-use Rattle.median.specs.declared.Answer.the-variants.{Value, Refused}
-use Rattle.capi.specs.Handed.{Handed}
+use Rattle.handing.specs.Handed.{Handed}
 
 -- What both promise: the lent number is the value, and the work slice is as the proved call leaves it.
 pub record Valued (number : ℕ) (v : Float) (xs was : List Float) (value₀ : Float) (answer : ℕ) (work : List Float) (value : Float) : Type 0 where
   pub handed : Handed number v value₀ answer value
   pub slices : Answered number v xs was (answered number v) work
-
--- Inner: each case's number, and what a lent number, which held `value₀`, then holds
-abbrev pub numberIn : Answer → ℕ
-numberIn (Value v) = 0
-numberIn (Refused k) = k
-
-abbrev pub valueIn : Answer → (value₀ : Float) → Float
-valueIn (Value v) value₀ = v
-valueIn (Refused k) value₀ = value₀

@@ -4,24 +4,11 @@ use mathlib.Core.List.{List}
 use lib.ListN.{length}
 use lib.Ieee.{Float}
 use Rattle.patching.specs.Patches.{Patch, unlessEmpty}
-use Rattle.patch_magnitudes.specs.declared.Patched as rows-done
-use Rattle.patch_magnitudes.specs.declared.Patched.the-variants as rows-case
 use Rattle.patch_refusal.specs.Tracks as tracks
 use Rattle.patch_magnitudes.specs.Magnitudes as magnitudes
-use Rattle.patch_features.specs.declared.PatchedFeatures as features-done
-use Rattle.patch_features.specs.declared.PatchedFeatures.the-variants as features-case
 use Rattle.patch_features.specs.Features as features
-use Rattle.capi.specs.Handed.{Handed}
-
--- the four lent numbers: first and past-last slot written, of one curve and of the curve that follows from it
-pub record Ranges : Type 0 where
-  pub first : ℕ
-  pub past : ℕ
-  pub first-then : ℕ
-  pub past-then : ℕ
-
-abbrev pub ranges : (first past first-then past-then : ℕ) → Ranges
-ranges first past first-then past-then = record { first = first; past = past; first-then = first-then; past-then = past-then }
+use Rattle.handing.specs.Handed.{Handed}
+use Rattle.handing.specs.Repairs.{Ranges, ranges}
 
 -- ---- magnitudes
 
@@ -48,15 +35,6 @@ RowsPromise rows bins was patch work = RowsTold (tracks.numberOf rows bins was p
 abbrev pub rowsLent : (slab flux threshold : List Float) → tracks.Track
 rowsLent slab flux threshold = tracks.track slab flux threshold
 
--- Inner: each case's number, and what the lent numbers, which held `lent₀`, then hold
-abbrev pub numberIn : rows-done.Patched → ℕ
-numberIn (rows-case.Refused k) = k
-numberIn (rows-case.Wrote a b c d) = 0
-
-abbrev pub rangesIn : rows-done.Patched → (lent₀ : Ranges) → Ranges
-rangesIn (rows-case.Refused k) lent₀ = lent₀
-rangesIn (rows-case.Wrote a b c d) lent₀ = ranges a b c d
-
 -- ---- features, in the same words
 
 abbrev pub featuresNamed : (rows : ℕ) → Patch → Ranges
@@ -74,11 +52,3 @@ FeaturesPromise rows was patch = FeaturesTold (features.numberOf rows was patch)
 
 abbrev pub featuresLent : (slab similarity novelty : List Float) → features.Track
 featuresLent slab similarity novelty = features.track slab similarity novelty
-
-abbrev pub featuresNumberIn : features-done.PatchedFeatures → ℕ
-featuresNumberIn (features-case.Refused k) = k
-featuresNumberIn (features-case.Wrote a b c d) = 0
-
-abbrev pub featuresRangesIn : features-done.PatchedFeatures → (lent₀ : Ranges) → Ranges
-featuresRangesIn (features-case.Refused k) lent₀ = lent₀
-featuresRangesIn (features-case.Wrote a b c d) lent₀ = ranges a b c d

@@ -1,10 +1,10 @@
 // The calls of crates similarities, novelties and sections, for C.
-use sections::Sections;
+use handing::forms::put_sections;
 ghost use Rattle.similarities.specs.Similarity.{SimilarityDone};
 ghost use Rattle.novelties.specs.Novelty.{NoveltyDone};
 ghost use Rattle.sections.specs.Outcomes.{TimesPromise};
-ghost use Rattle.capi.specs.Handed.{Handed};
-ghost use Rattle.capi.specs.Forms.{sectionsLent, partsIn, BoundariesPromise};
+ghost use Rattle.handing.specs.Forms.{sectionsLent};
+ghost use Rattle.capi.specs.Forms.{BoundariesPromise};
 
 // `similarities::similarity`, for C.
 #[no_mangle]
@@ -20,24 +20,6 @@ pub extern "C" fn ph_novelty(similarity: &[f64], rows: usize, novelty: &mut [f64
     ensures { λ r. ⌜ NoveltyDone (now (similarity .entry)) rows (now (novelty .entry)) r (now (novelty .exit)) ⌝ }
 {
     novelties::novelty(similarity, rows, novelty)
-}
-
-// Stores the parts of an answer unless the call refused, and answers its number.
-fn put_sections(
-    answer: Sections,
-    sections: &mut usize,
-    count: &mut usize,
-    confidence: &mut f64,
-) -> u32
-    ensures { λ r. ⌜ Handed (answer .number) (partsIn answer) (sectionsLent (now (sections .entry)) (now (count .entry)) (now (confidence .entry))) r (sectionsLent (now (sections .exit)) (now (count .exit)) (now (confidence .exit))) ⌝ }
-{
-    if answer.number != 0 {
-        return answer.number;
-    }
-    *sections = answer.sections;
-    *count = answer.count;
-    *confidence = answer.confidence;
-    0
 }
 
 // `sections::boundaries`, for C.

@@ -1,12 +1,12 @@
 // `beat_grid`, `downbeats` and `bar_beat_at`, for C.
-use crate::counts::counted;
-use bars::BarBeat;
-ghost use mathlib.Core.Path.{_≡_};
+use handing::counts::counted;
+use handing::grids::put_place;
 ghost use lib.ListN.{length};
 ghost use Rattle.bars.specs.Downbeats.{downbeatRefusal, downbeatsOf, commonMeter};
 ghost use Rattle.bars.specs.BarBeats.{barBeatOf};
-ghost use Rattle.capi.specs.Handed.{Listed};
-ghost use Rattle.capi.specs.Grids.{BeatsTold, Placed};
+ghost use Rattle.handing.specs.Grids.{Placed};
+ghost use Rattle.capi.specs.Lists.{Listed};
+ghost use Rattle.capi.specs.Grids.{BeatsTold};
 
 // `beats::beat_grid`, for C.
 #[no_mangle]
@@ -37,29 +37,6 @@ pub extern "C" fn ph_downbeats(
     ensures { λ r. ⌜ Listed (downbeatRefusal (now (envelope .entry)) (now (beats .entry)) commonMeter (length (now (frames .entry)))) (downbeatsOf (now (envelope .entry)) (now (beats .entry)) commonMeter) (now (frames .entry)) (now (count .entry)) r (now (frames .exit)) (now (count .exit)) ⌝ }
 {
     counted(bars::downbeats(envelope, beats, frames), count)
-}
-
-// Stores the kind of a place, and its values, zeros for nowhere.
-fn put_place(place: BarBeat, found: &mut u32, bar: &mut usize, beat: &mut usize) -> u32
-    ensures { λ r. ⌜ Placed place r (now (found .exit)) (now (bar .exit)) (now (beat .exit)) ⌝ }
-{
-    match place {
-        BarBeat::Nowhere => {
-            *found = 0;
-            *bar = 0;
-            *beat = 0;
-            0
-        }
-        BarBeat::At {
-            bar: in_bar,
-            beat: at_beat,
-        } => {
-            *found = 1;
-            *bar = in_bar;
-            *beat = at_beat;
-            0
-        }
-    }
 }
 
 // `bars::bar_beat_at`, for C.

@@ -1,23 +1,9 @@
 // `median_of` and `mad_of`, for C.
-use median::Answer;
-ghost use mathlib.Core.Path.{_≡_};
+use handing::medians::told;
 ghost use lib.ListN.{length};
 ghost use Rattle.median.specs.Median.{medianOf, madOf};
 ghost use Rattle.median.specs.Answers.{medianRefusal, madRefusal};
-ghost use Rattle.capi.specs.Medians.{Valued, numberIn, valueIn};
-
-// Stores the value unless the call refused, and answers its number.
-fn told(answer: Answer, value: &mut f64) -> u32
-    ensures { λ r. ⌜ (r ≡ numberIn answer) × (now (value .exit) ≡ valueIn answer (now (value .entry))) ⌝ }
-{
-    match answer {
-        Answer::Value(median) => {
-            *value = median;
-            0
-        }
-        Answer::Refused(number) => number,
-    }
-}
+ghost use Rattle.capi.specs.Medians.{Valued};
 
 // `median::median_of`, for C.
 #[no_mangle]

@@ -1,46 +1,9 @@
 // `patch_magnitudes` and `patch_features`, for C.
-use patch_features::PatchedFeatures;
-use patch_magnitudes::Patched;
-ghost use mathlib.Core.Path.{_≡_};
+use handing::repairs::put_features;
+use handing::repairs::put_rows;
 ghost use Rattle.patching.specs.Patches.{patchOf};
-ghost use Rattle.capi.specs.Repairs.{
-  ranges,
-  numberIn,
-  rangesIn,
-  rowsLent,
-  RowsPromise,
-  featuresNumberIn,
-  featuresRangesIn,
-  featuresLent,
-  FeaturesPromise,
-};
-
-// Stores the ranges unless the call refused, and answers its number.
-fn put_rows(
-    answer: Patched,
-    flux_first: &mut usize,
-    flux_past: &mut usize,
-    threshold_first: &mut usize,
-    threshold_past: &mut usize,
-) -> u32
-    ensures { λ r. ⌜ (r ≡ numberIn answer) × (ranges (now («flux_first» .exit)) (now («flux_past» .exit)) (now («threshold_first» .exit)) (now («threshold_past» .exit)) ≡ rangesIn answer (ranges (now («flux_first» .entry)) (now («flux_past» .entry)) (now («threshold_first» .entry)) (now («threshold_past» .entry)))) ⌝ }
-{
-    match answer {
-        Patched::Refused(number) => number,
-        Patched::Wrote {
-            flux_first: first,
-            flux_past: past,
-            threshold_first: first_then,
-            threshold_past: past_then,
-        } => {
-            *flux_first = first;
-            *flux_past = past;
-            *threshold_first = first_then;
-            *threshold_past = past_then;
-            0
-        }
-    }
-}
+ghost use Rattle.handing.specs.Repairs.{ranges};
+ghost use Rattle.capi.specs.Repairs.{rowsLent, RowsPromise, featuresLent, FeaturesPromise};
 
 // `patch_magnitudes::patch_magnitudes`, for C.
 #[no_mangle]
@@ -77,33 +40,6 @@ pub extern "C" fn ph_patch_magnitudes(
         threshold_first,
         threshold_past,
     )
-}
-
-// Stores the ranges unless the call refused, and answers its number.
-fn put_features(
-    answer: PatchedFeatures,
-    similarity_first: &mut usize,
-    similarity_past: &mut usize,
-    novelty_first: &mut usize,
-    novelty_past: &mut usize,
-) -> u32
-    ensures { λ r. ⌜ (r ≡ featuresNumberIn answer) × (ranges (now («similarity_first» .exit)) (now («similarity_past» .exit)) (now («novelty_first» .exit)) (now («novelty_past» .exit)) ≡ featuresRangesIn answer (ranges (now («similarity_first» .entry)) (now («similarity_past» .entry)) (now («novelty_first» .entry)) (now («novelty_past» .entry)))) ⌝ }
-{
-    match answer {
-        PatchedFeatures::Refused(number) => number,
-        PatchedFeatures::Wrote {
-            similarity_first: first,
-            similarity_past: past,
-            novelty_first: first_then,
-            novelty_past: past_then,
-        } => {
-            *similarity_first = first;
-            *similarity_past = past;
-            *novelty_first = first_then;
-            *novelty_past = past_then;
-            0
-        }
-    }
 }
 
 // `patch_features::patch_features`, for C.

@@ -1,5 +1,5 @@
 // The calls of crates flux, threshold and onsets, for C.
-use crate::counts::counted;
+use handing::counts::counted;
 ghost use mathlib.Core.List.{map};
 ghost use lib.ListN.{length};
 ghost use Rattle.numbers.specs.Lists.{filled, listed};
@@ -8,7 +8,7 @@ ghost use Rattle.flux.specs.Flux.{fluxAt, fluxRefusal};
 ghost use Rattle.threshold.specs.Threshold.{Thresholds};
 ghost use Rattle.onsets.specs.Peaks.{suppressed, suppressionRefusal};
 ghost use Rattle.onsets.specs.Onsets.{onsetsOf, onsetsRefusal, frameTime, timesRefusal};
-ghost use Rattle.capi.specs.Handed.{Listed};
+ghost use Rattle.capi.specs.Lists.{Listed};
 
 // `flux::spectral_flux`, for C.
 #[no_mangle]

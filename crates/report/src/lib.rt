@@ -1,6 +1,6 @@
 // The reporting program's work, apart from its reading and writing: rows that come one after the other, and the number of refusal.
 //
-// Document 01, The reporting program. Inner calls all: report_feed calls them, and the crates above share the bound.
+// Document 01, The reporting program. Inner calls all: report_head and report_feed call them, and the crates above share the bound.
 pub mod stream; // stream.rt: the flux of rows that come one after the other, with two of them kept
 
 ghost use mathlib.Core.Path.{_≡_};

@@ -5,7 +5,6 @@ use mathlib.Core.Bool.{Bool, true, false, _||_}
 use mathlib.Core.Logic.{⊎-elim}
 use mathlib.Core.List.{List, [], _∷_}
 use Prim.Native.Nat.{ℕ, _-_, _≤_, _<_}
-use native.Mathlib.Nat.{sub-zero}
 use native.Mathlib.Omega.{arith}
 use borrow.Author.Tests.{le-leb}
 use lib.Dec.{leb, ltb, eqb}
@@ -36,11 +35,10 @@ use Rattle.analysis.specs.Analyses.{AnalysedEnvelope}
 use Rattle.rooms.proofs.Numbers.{inBounds, by-bounds, room-inside}
 use Rattle.rooms.proofs.Rooms.{Enough, enough-suffices}
 use Rattle.report.specs.Input.{mostReported}
-use Rattle.report_text.specs.Text.{reportText, reportRoom, Put}
-use Rattle.report_text.proofs.Puts.{put-as}
-use Rattle.report_answer.specs.declared.Counts.{Counts}
-use Rattle.report_answer.specs.Reports.{reportRate, textRoom, candidateLags, lagsIn, agreeingIn, windowsIn, reportOf}
-use Rattle.report_answer.specs.Inner.{linesOf, LagsFit, Listable, CurvesLent, ListsLent}
+use Rattle.report_text.specs.Text.{reportText, Put}
+use Rattle.report_lines.specs.Lines.{agreeingIn, windowsIn, linesOf, LagsFit, Listable}
+use Rattle.report_answer.specs.Reports.{reportRate, lagsIn, reportOf}
+use Rattle.report_answer.specs.Inner.{CurvesLent, ListsLent}
 
 -- ---- entries that are listed
 
@@ -53,13 +51,6 @@ module _ {A : Type 0} (xs d : List A) where
   listed-fits : (ys : List A) → ys ≡ listed xs d → length ys ≡ length d → length xs ≤ length ys
   unfolding listed
   listed-fits ys e l = omega (arith, ap length e, length-append xs (drop (length xs) d), length-drop (length xs) d)
-
-pub three-lags : (cs : List Candidate) (z : Candidate) → length cs ≡ 3 → (getD cs 0 z .lag ∷ getD cs 1 z .lag ∷ getD cs 2 z .lag ∷ []) ≡ candidateLags cs
-three-lags [] z e = absurd (omega arith)
-three-lags (a ∷ []) z e = absurd (omega arith)
-three-lags (a ∷ b ∷ []) z e = absurd (omega arith)
-three-lags (a ∷ b ∷ c ∷ []) z e = refl
-three-lags (a ∷ b ∷ c ∷ d ∷ cs) z e = absurd (omega arith)
 
 -- ---- the numbers of an analysis
 
@@ -194,20 +185,6 @@ module _ (env : List Float) (r : Results) (s : Spare) (answer : Analysis) (after
   listable p q t =
       rw answer-is
       (answer-listable env reportRate defaultOptions (omega arith) bounds fine r (after .onsets) (after .beats) (after .downbeats) onsets-are beats-are downbeats-are p q t (lists .onset-lists) (lists .beat-lists) (lists .downbeat-lists))
-
--- ---- the lines that are put
-
-pub lines-put : (a : Analysis) (onsets beats downbeats lags : List ℕ) (share : Counts) {bytes bytes′ : List ℕ} {end : ℕ} → lags ≡ candidateLags (a .candidates)
-    → share ≡ record { agreeing = agreeingIn (a .stability); windows = windowsIn (a .stability) } → Listable a onsets beats downbeats
-    → Put bytes 0
-    (reportText (take (a .onsets - 0) onsets) (take (a .count - 0) lags) (take (a .beats - 0) beats) (take (a .downbeats - 0) downbeats) (share .agreeing) (share .windows))
-    (reportRoom (length (take (a .onsets - 0) onsets)) (length (take (a .beats - 0) beats)) (length (take (a .downbeats - 0) downbeats)))
-    end bytes′
-    → Put bytes 0 (linesOf a onsets beats downbeats) textRoom end bytes′
-lines-put a onsets beats downbeats lags share l s q p =
-    put-as (rw (sub-zero (a .onsets), sub-zero (a .count), sub-zero (a .beats), sub-zero (a .downbeats), l, s) refl)
-    (omega (arith, length-take (a .onsets - 0) onsets, length-take (a .beats - 0) beats, length-take (a .downbeats - 0) downbeats, q .onset-lists, q .beat-lists, q .downbeat-lists))
-    p
 
 -- any two outcomes that the promise permits coincide: as many bytes, and the same
 pub coincide : {bytes text x y : List ℕ} {most m n : ℕ} → Put bytes 0 text most m x → Put bytes 0 text most n y → (m ≡ n) × (take m x ≡ take n y)

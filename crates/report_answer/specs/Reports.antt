@@ -1,42 +1,27 @@
--- Document 01, "The reporting program": "rate 48,000, defaults, up to 8,000 rows". "Lines list frames or lags with one space between, or `none`,
--- and stability as agreeing/windows." What is written of a flux, and of a whole input.
+-- Document 01, "The reporting program": "rate 48,000, defaults, up to 8,000 rows". What is written of a flux, and of a whole input.
 use Prim.Native.Nat.{ℕ}
-use mathlib.Core.List.{List, map}
+use mathlib.Core.List.{List}
 use lib.ListN.{take}
 use lib.Ieee.{Float}
 use Rattle.numbers.specs.Refusals.{unlessRefused}
 use Rattle.lags.specs.Options.{defaultOptions}
 use Rattle.lags.specs.Lags.{minLag, maxLag}
-use Rattle.tempo.specs.declared.Candidate.{Candidate}
 use Rattle.tempo.specs.declared.TempoEstimate.{TempoEstimate}
 use Rattle.stability.specs.declared.Stability.{Stability}
-use Rattle.stability.specs.declared.Stability.the-variants.{None, Share}
 use Rattle.stability.specs.Answers.{shareOf}
 use Rattle.track_parts.specs.Parts.{onsetsIn}
 use Rattle.track.specs.Analyses.{estimateIn, periodIn, beatsIn, downbeatsIn}
-use Rattle.report.specs.Input.{mostReported, reportNumber, reportFlux}
-use Rattle.report_text.specs.Text.{reportText, refusalText, reportRoom}
+use Rattle.report.specs.Input.{reportNumber, reportFlux}
+use Rattle.report_text.specs.Text.{reportText, refusalText}
+use Rattle.report_lines.specs.Lines.{candidateLags, agreeingIn, windowsIn}
 
 -- samples a second
 abbrev pub reportRate : ℕ
 reportRate = 48000
 
--- the lags of candidates
-abbrev pub candidateLags : List Candidate → List ℕ
-candidateLags candidates = map (λ (c : Candidate). c .lag) candidates
-
--- those of an estimate, the winner's first
+-- the lags of the candidates of an estimate, the winner's first
 abbrev pub lagsIn : TempoEstimate → List ℕ
 lagsIn e = take (e .count) (candidateLags (e .candidates))
-
--- the counts of a stability; where there is none, there are no windows
-abbrev pub agreeingIn : Stability → ℕ
-agreeingIn None = 0
-agreeingIn (Share fraction agreeing windows) = agreeing
-
-abbrev pub windowsIn : Stability → ℕ
-windowsIn None = 0
-windowsIn (Share fraction agreeing windows) = windows
 
 -- the stability of a flux
 abbrev pub stabilityIn : List Float → Stability
@@ -48,10 +33,6 @@ unfoldable pub reportOf : List Float → List ℕ
 reportOf flux =
     reportText (onsetsIn flux reportRate) (lagsIn (estimateIn flux reportRate defaultOptions)) (beatsIn flux reportRate defaultOptions) (downbeatsIn flux reportRate defaultOptions)
     (agreeingIn (stabilityIn flux)) (windowsIn (stabilityIn flux))
-
--- bytes for the longest text: a list of onsets, of beats and of downbeats with an entry for each row
-abbrev pub textRoom : ℕ
-textRoom = reportRoom mostReported mostReported mostReported
 
 -- The whole text of an input: "A refusal writes `refused`, a space and the number", and else the report of the flux of its rows.
 unfoldable pub answerOf : (input : List ℕ) → List ℕ

@@ -1,14 +1,11 @@
-// What the reporting program says of an array that nothing refuses: one analysis of the flux of its rows, and the six lines of it.
+// What the reporting program says of an array that nothing refuses: one analysis of the flux of its rows, and the six lines of it (crate report_lines).
 //
 // Document 01, The reporting program: rate 48,000, the default options, at most 8,000 rows. Inner calls all. The analysis is lent room from one
 // function to the next: its curves first, then its lists.
 use analysis::analyse_envelope;
 use lags::TempoOpts;
 use report::MOST_REPORTED;
-use report_text::put_report;
-use stability::Stability;
-use tempo::Candidate;
-use track::Analysis;
+use report_lines::put_lines;
 ghost use mathlib.Core.Path.{_≡_};
 ghost use mathlib.Core.Bool.{true};
 ghost use Prim.Native.Nat.{_≤_};
@@ -17,20 +14,15 @@ ghost use Rattle.numbers.specs.Limits.{valueFine};
 ghost use Rattle.numbers.specs.Lists.{every};
 ghost use Rattle.report.specs.Input.{mostReported};
 ghost use Rattle.report_text.specs.Text.{Put};
-ghost use Rattle.report_answer.specs.Reports.{textRoom, candidateLags, agreeingIn, windowsIn, reportOf};
-ghost use Rattle.report_answer.specs.Inner.{mostLags, linesOf, LagsFit, Listable, CurvesLent, ListsLent};
+ghost use Rattle.report_lines.specs.Lines.{textRoom};
+ghost use Rattle.report_answer.specs.Reports.{reportOf};
+ghost use Rattle.report_answer.specs.Inner.{mostLags, CurvesLent, ListsLent};
 
 // samples a second
 const RATE: u32 = 48_000;
 
 // a slot for each lag from 38 to 375
 const LAGS: usize = 338;
-
-// The counts of a stability, as the text has them.
-struct Counts {
-    agreeing: u32,
-    windows: u32,
-}
 
 // ---- room
 
@@ -51,69 +43,6 @@ fn lag_room() -> [f64; LAGS]
     ensures { λ r. ⌜ length r ≡ mostLags ⌝ }
 {
     [0.0; LAGS]
-}
-
-// ---- the lines
-
-// The lags of the candidates: none is longer than a period.
-fn lags_of(candidates: [Candidate; 3]) -> [u32; 3]
-    requires { ⌜ LagsFit candidates ⌝ }
-    ensures { λ r. ⌜ r ≡ candidateLags candidates ⌝ }
-{
-    let a = candidates[0];
-    let b = candidates[1];
-    let c = candidates[2];
-    [a.lag as u32, b.lag as u32, c.lag as u32]
-}
-
-fn counts_of(stability: Stability) -> Counts
-    requires { ⌜ (agreeingIn stability ≤ 4) × (windowsIn stability ≤ 4) ⌝ }
-    ensures { λ r. ⌜ r ≡ record { agreeing = agreeingIn stability; windows = windowsIn stability } ⌝ }
-{
-    match stability {
-        Stability::None => Counts {
-            agreeing: 0,
-            windows: 0,
-        },
-        Stability::Share {
-            fraction: _,
-            agreeing,
-            windows,
-        } => Counts {
-            agreeing: agreeing as u32,
-            windows: windows as u32,
-        },
-    }
-}
-
-// Puts the lines of an answer, whose lists the slices hold first.
-fn put_lines(
-    answer: Analysis,
-    onsets: &[u32],
-    beats: &[u32],
-    downbeats: &[u32],
-    bytes: &mut [u8],
-) -> usize
-    requires { ⌜ Listable answer (now onsets) (now beats) (now downbeats) × (textRoom ≤ length (now bytes)) ⌝ }
-    ensures { λ r. ⌜ Put (now (bytes .entry)) 0 (linesOf answer (now (onsets .entry)) (now (beats .entry)) (now (downbeats .entry))) textRoom r (now (bytes .exit)) ⌝ }
-{
-    let candidates = answer.candidates;
-    let stability = answer.stability;
-    let heard = answer.onsets;
-    let found = answer.count;
-    let laid = answer.beats;
-    let barred = answer.downbeats;
-    let lags = lags_of(candidates);
-    let counts = counts_of(stability);
-    put_report(
-        bytes,
-        &onsets[0..heard],
-        &lags[0..found],
-        &beats[0..laid],
-        &downbeats[0..barred],
-        counts.agreeing,
-        counts.windows,
-    )
 }
 
 // ---- the analysis

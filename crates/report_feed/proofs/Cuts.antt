@@ -11,7 +11,7 @@ use Rattle.numbers.specs.Limits.{mostBins, magnitudeFine}
 use Rattle.numbers.specs.Lists.{every}
 use Rattle.report.specs.Input.{mostReported, reportNumber, reportFlux}
 use Rattle.report.specs.Stream.{joined}
-use Rattle.report_feed.specs.declared.Feed.{Feed}
+use Rattle.report_head.specs.declared.Feed.{Feed}
 use Rattle.report_feed.specs.declared.Reading.{Reading}
 use Rattle.report_feed.specs.Feeds.{heldRoom, state, bytesTaken, Fed, Begins, Closes, Told, Run, none, more}
 use Rattle.report_feed.proofs.Inputs.{accepted}

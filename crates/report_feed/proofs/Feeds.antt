@@ -26,9 +26,10 @@ use Rattle.npy.specs.Header.{headerOf, preambleOf, starts}
 use Rattle.report.specs.Input.{preambleLength, valuesOf, shapeFine, dataNumber, reportNumber}
 use Rattle.report.specs.Stream.{RowTaken}
 use Rattle.report.proofs.Streams.{streamed-none, streamed-more}
-use Rattle.report_feed.specs.declared.Feed.{Feed}
-use Rattle.report_feed.specs.declared.Feed.the-variants as come
-use Rattle.report_feed.specs.Feeds.{Fed, State, state, behindFirst, behindText, rowTaken, byteTaken, bytesTaken, readingOf, FirstTaken, TextTaken, RowsWithin, Within, Ready, InRows, Parts, Begins, Step, Found, Told, Closes}
+use Rattle.report_head.specs.declared.Feed.{Feed}
+use Rattle.report_head.specs.declared.Feed.the-variants as come
+use Rattle.report_head.specs.Heads.{behindFirst, behindText, FirstTaken, TextTaken}
+use Rattle.report_feed.specs.Feeds.{Fed, State, state, rowTaken, byteTaken, bytesTaken, readingOf, RowsWithin, Within, Ready, InRows, Parts, Begins, Step, Found, Told, Closes}
 use Rattle.report_feed.proofs.Inputs.{rows-fit, bins-some, bins-fit, number-short, number-malformed, number-text-short, number-text-malformed, number-data, number-shape, number-length}
 
 -- ---- nothing has come
@@ -47,10 +48,7 @@ begins =
 
 -- ---- one step
 
--- the first k entries of what is lent
-pub part-is : {A : Type 0} (k : ℕ) (xs : List A) → take (k - 0) xs ≡ take k xs
-part-is {A} k xs = ap (λ (n : ℕ). take n xs) (sub-zero k)
-
+-- how long the first k entries of what is lent are
 pub part-length : {A : Type 0} (k : ℕ) (xs : List A) → k ≤ length xs → length (take (k - 0) xs) ≡ k
 part-length k xs h = length-take-le (k - 0) xs (omega arith) ∙ omega arith
 

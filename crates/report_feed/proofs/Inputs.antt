@@ -23,18 +23,9 @@ use Rattle.flux.specs.Flux.{fluxAt}
 use Rattle.flux.proofs.Fluxes.{flux-curve-fine}
 use Rattle.report.specs.Input.{mostReported, preambleLength, valuesOf, shapeFine, dataNumber, headerNumber, preambleNumber, reportNumber, headerFlux, preambleFlux, reportFlux}
 use Rattle.report_feed.specs.declared.Reading.{Reading}
-use Rattle.report_feed.specs.Feeds.{mostText, Told}
+use Rattle.report_feed.specs.Feeds.{Told}
 
 -- ---- bounds
-
--- a length of two bytes
-pub stated-fits : (bytes : List ℕ) → getD bytes 8 0 < 256 → getD bytes 9 0 < 256 → (size : ℕ) → preambleOf bytes ≡ preamble.Length size → size ≤ mostText
-unfolding preambleOf
-stated-fits bytes h k size e = go (starts magic bytes && leb 10 (length bytes)) e
-  where
-    go : (b : Bool) → pick b (preamble.Length (getD bytes 8 0 + getD bytes 9 0 * 256)) preamble.Malformed ≡ preamble.Length size → size ≤ mostText
-    go true e = let f : getD bytes 8 0 + getD bytes 9 0 * 256 ≡ size = cc in omega arith
-    go false e = let z : _≡_ {A = ℕ} 0 1 = cc in absurd (omega arith)
 
 module _ (rows bins : ℕ) (e : shapeFine rows bins ≡ true) where
   pub rows-fit : rows ≤ 8000

@@ -13,36 +13,21 @@ use Rattle.numbers.specs.Lists.{every, filled}
 use Rattle.numbers.specs.Refusals.{lowest, malformed}
 use Rattle.numbers.specs.Rounded.{pick}
 use Rattle.flux.specs.Flux.{fluxAt}
-use Rattle.npy.specs.declared.Header.{Header}
 use Rattle.npy.specs.declared.Header.the-variants as header
-use Rattle.npy.specs.declared.Preamble.{Preamble}
 use Rattle.npy.specs.declared.Preamble.the-variants as preamble
 use Rattle.npy.specs.Header.{headerOf, preambleOf}
 use Rattle.report.specs.Input.{mostReported, preambleLength, shapeFine, valuesOf, reportNumber}
 use Rattle.report.specs.Stream.{Streamed}
-use Rattle.report_feed.specs.declared.Feed.{Feed}
-use Rattle.report_feed.specs.declared.Feed.the-variants as come
+use Rattle.report_head.specs.declared.Feed.{Feed}
+use Rattle.report_head.specs.declared.Feed.the-variants as come
+use Rattle.report_head.specs.Heads.{mostText, behindFirst, behindText}
 use Rattle.report_feed.specs.declared.Reading.{Reading}
-
--- the longest text that two bytes can state
-abbrev pub mostText : ℕ
-mostText = 65535
 
 -- room for what is held: the ten bytes, a text, or a row, of which a text may be the longest
 abbrev pub heldRoom : ℕ
 heldRoom = 65536
 
--- ---- what comes next
-
--- behind the ten bytes: a header's text, as long as they say, and one of no bytes is malformed
-unfoldable pub behindFirst : Preamble → Feed
-behindFirst preamble.Malformed = come.Refused malformed
-behindFirst (preamble.Length size) = pick (eqb size 0) (come.Refused malformed) (come.Text size 0)
-
--- behind a header's text: the rows of its shape, where that is within the bounds
-unfoldable pub behindText : Header → Feed
-behindText header.Malformed = come.Refused malformed
-behindText (header.Shape rows bins) = pick (shapeFine rows bins) (come.Rows rows bins 0 0 true) (come.Refused 1)
+-- ---- one byte more, and more of them
 
 -- how far an input has come, and what is lent: what is held of the next part, the rows kept, and the flux
 pub data State : Type 0 where
@@ -85,17 +70,6 @@ readingOf (come.First have) = record { number = malformed; rows = 0 }
 readingOf (come.Text size have) = record { number = malformed; rows = 0 }
 readingOf (come.Rows rows bins t have fine) = record { number = lowest true (eqb t rows) true fine; rows = rows }
 readingOf (come.Refused number) = record { number = number; rows = 0 }
-
--- One of the ten bytes more: it is held, and with the tenth they say what comes next. A length of two bytes is at most 65,535.
-pub record FirstTaken (byte have : ℕ) (held : List ℕ) (feed′ : Feed) (held′ : List ℕ) : Type 0 where
-  pub held-is : held′ ≡ set held have byte
-  pub feed-is : feed′ ≡ pick (ltb (have + 1) preambleLength) (come.First (have + 1)) (behindFirst (preambleOf (take preambleLength held′)))
-  pub size-fits : preambleLength ≤ have + 1 → (size : ℕ) → preambleOf (take preambleLength held′) ≡ preamble.Length size → size ≤ mostText
-
--- one byte more of a header's text: it is held, and with the last the text says what comes next
-pub record TextTaken (byte size have : ℕ) (held : List ℕ) (feed′ : Feed) (held′ : List ℕ) : Type 0 where
-  pub held-is : held′ ≡ set held have byte
-  pub feed-is : feed′ ≡ pick (ltb (have + 1) size) (come.Text size (have + 1)) (behindText (headerOf (take size held′)))
 
 -- ---- what has to be there for a byte to be taken
 

@@ -17,7 +17,8 @@ use Rattle.report_feed.proofs.Inputs.{accepted}
 use Rattle.report_read.specs.Reads.{InputRead}
 use Rattle.report_text.specs.Text.{refusalText, Put}
 use Rattle.report_text.proofs.Puts.{put-as}
-use Rattle.report_answer.specs.Reports.{reportOf, textRoom, answerOf}
+use Rattle.report_lines.specs.Lines.{textRoom}
+use Rattle.report_answer.specs.Reports.{reportOf, answerOf}
 use Rattle.report_io.specs.Answers.{textOf, Putable, Answered}
 
 -- ---- what is put

@@ -12,7 +12,8 @@ use Rattle.numbers.specs.Refusals.{unlessRefused}
 use Rattle.report.specs.Input.{mostReported}
 use Rattle.report_feed.specs.declared.Reading.{Reading}
 use Rattle.report_text.specs.Text.{refusalText, Put}
-use Rattle.report_answer.specs.Reports.{reportOf, textRoom, answerOf}
+use Rattle.report_lines.specs.Lines.{textRoom}
+use Rattle.report_answer.specs.Reports.{reportOf, answerOf}
 
 -- what is to be written of a reading that left this flux
 unfoldable pub textOf : Reading → (flux : List Float) → List ℕ

@@ -11,7 +11,7 @@ ghost use Prim.Native.Nat.{_≤_};
 ghost use lib.ListN.{length};
 ghost use Rattle.report.specs.Input.{mostReported};
 ghost use Rattle.report_text.specs.Text.{Put};
-ghost use Rattle.report_answer.specs.Reports.{textRoom};
+ghost use Rattle.report_lines.specs.Lines.{textRoom};
 ghost use Rattle.report_io.specs.Answers.{textOf, Putable, Answered};
 
 // 11 bytes for each entry of three lists, and 139 for the words

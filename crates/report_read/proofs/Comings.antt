@@ -9,7 +9,7 @@ use Rattle.numbers.proofs.Tests.{and-both}
 use Rattle.numbers.specs.Limits.{mostBins, magnitudeFine}
 use Rattle.numbers.specs.Lists.{every}
 use Rattle.report.specs.Input.{mostReported}
-use Rattle.report_feed.specs.declared.Feed.{Feed}
+use Rattle.report_head.specs.declared.Feed.{Feed}
 use Rattle.report_feed.specs.declared.Reading.{Reading}
 use Rattle.report_feed.specs.Feeds.{heldRoom, Begins, Step, Closes}
 use Rattle.report_read.specs.Reads.{Coming, InputRead}

@@ -5,7 +5,7 @@ use mathlib.Core.List.{List}
 use Prim.Native.Nat.{ℕ}
 use lib.Ieee.{Float}
 use Rattle.report_feed.specs.declared.Reading.{Reading}
-use Rattle.report_feed.specs.declared.Feed.{Feed}
+use Rattle.report_head.specs.declared.Feed.{Feed}
 use Rattle.report_feed.specs.Feeds.{Fed, Told}
 
 -- some input has come so far

@@ -5,8 +5,8 @@
 // number and the flux are right. That this input is standard input, read to its end, is what the lines of `read_all` say; the kit's contract of `read`
 // says nothing of the bytes, so it is not proved: runs show it. A read that fails is taken for the end of the input.
 use libc::STDIN_FILENO;
-use report_feed::Feed;
 use report_feed::Reading;
+use report_head::Feed;
 ghost use mathlib.Core.Path.{_≡_};
 ghost use mathlib.Core.Bool.{true};
 ghost use Prim.Native.Nat.{_*_, _≤_};

@@ -7,7 +7,8 @@ use denote.Ref.{now}
 use borrow.Author.Needs.{needs}
 use lib.ListN.{length}
 use Rattle.numbers.specs.Rounded.{sumFrom}
-use Rattle.flux.specs.Flux.{fluxAt, partBins, restOf}
+use Rattle.flux_rows.specs.Rises.{partBins, restOf}
+use Rattle.flux.specs.Flux.{fluxAt}
 use Rattle.flux.proofs.Fluxes.{rest-all, rest-more}
 use Rattle.flux.proofs.flux_four.Statement.{statement}
 use Rattle.flux.proofs.flux_four.Tie as tie

@@ -7,7 +7,8 @@ use native.Mathlib.Omega.{arith}
 use Prim.Native.Nat.{ℕ, _*_, _-_, _<_}
 use denote.Ref.{now}
 use lib.ListN.{drop, length-set}
-use Rattle.report_feed.proofs.Feeds.{part-is, part-length, rows-within, have-fits, row-fits, width-fits, pair-fits, step-behind, step-part, step-row}
+use Rattle.report_head.proofs.Heads.{part-is}
+use Rattle.report_feed.proofs.Feeds.{part-length, rows-within, have-fits, row-fits, width-fits, pair-fits, step-behind, step-part, step-row}
 use borrow.Author.Needs.{needs}
 use Rattle.report_feed.proofs.take_data.Statement.{statement}
 use Rattle.report_feed.proofs.take_data.Tie as tie

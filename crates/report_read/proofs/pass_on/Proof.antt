@@ -1,7 +1,7 @@
 -- `report_read::pass_on` meets its contract: the slice that is passed on is the first bytes, as many as came. Assumes nothing.
 use denote.Ref.{now}
 use borrow.Author.Needs.{needs}
-use Rattle.report_feed.proofs.Feeds.{part-is}
+use Rattle.report_head.proofs.Heads.{part-is}
 use Rattle.report_read.proofs.pass_on.Statement.{statement}
 use Rattle.report_read.proofs.pass_on.Tie as tie
 
