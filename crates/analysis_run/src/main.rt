@@ -166,20 +166,20 @@ fn lent(envelope: &[f64], rate: u32, short: usize) {
 
 // The columns: so many slots of the envelope, the rate, and the slice that is short.
 fn of_envelope(envelope: &[f64], line: &[u8]) {
-    label(line);
+    show::words(cases::part(line, b'|', 0));
     lent(
-        &envelope[0..numbers::least(number(line, 1), envelope.len())],
-        rate(number(line, 2)),
-        number(line, 3),
+        &envelope[0..cases::column_within(line, 1, envelope.len())],
+        cases::column_u32(line, 2),
+        cases::column(line, 3),
     );
 }
 
 fn of_envelopes(envelope: &[f64], lines: &[u8]) {
-    let mut at = 0;
-    while at < lines.len() {
-        let end = bytes::scan::find(lines, at, lines.len(), b'\n');
-        of_envelope(envelope, &lines[at..end]);
-        at = end + 1;
+    let n = cases::marks(lines, b'\n');
+    let mut k = 0;
+    while k < n {
+        of_envelope(envelope, cases::part(lines, b'\n', k));
+        k += 1;
     }
 }
 
@@ -252,18 +252,18 @@ short 7:|48|2048|7
 short 8:|48|2048|8
 short 9:|48|2048|9
 short 10:|48|2048|10
-short 11:|48|2048|11",
+short 11:|48|2048|11\n",
     );
     of_envelopes(
         &odd,
         b"a NaN:|48|2048|0
-3 before 4:|48|2048|11",
+3 before 4:|48|2048|11\n",
     );
     of_envelopes(
         &e,
         b"rate 0:|48|0|0
 rate 192,001:|48|192001|0
-1 before 3:|48|0|11",
+1 before 3:|48|0|11\n",
     );
 }
 
@@ -330,28 +330,28 @@ magnitudes 4:|48|0|4097|48|4,097 bins
 magnitudes 5:|47|24|2|48|half a row
 magnitudes 6:|0|0|1|48|no rows
 magnitudes 7:|0|1048577|1|48|1,048,577 rows
-magnitudes 8:|47|24|2|23|2 before 3",
+magnitudes 8:|47|24|2|23|2 before 3\n",
     );
-    of_each(&infinite, b"an infinity:|48|48|1|48");
+    of_each(&infinite, b"an infinity:|48|48|1|48\n");
 }
 
 fn of_each(magnitudes: &[f32], lines: &[u8]) {
-    let mut at = 0;
-    while at < lines.len() {
-        let end = bytes::scan::find(lines, at, lines.len(), b'\n');
-        of_line(magnitudes, &lines[at..end]);
-        at = end + 1;
+    let n = cases::marks(lines, b'\n');
+    let mut k = 0;
+    while k < n {
+        of_line(magnitudes, cases::part(lines, b'\n', k));
+        k += 1;
     }
 }
 
 // The columns: so many of the magnitudes, rows, bins, room for the flux.
 fn of_line(magnitudes: &[f32], line: &[u8]) {
-    label(line);
+    show::words(cases::part(line, b'|', 0));
     of_magnitudes(
-        &magnitudes[0..numbers::least(number(line, 1), magnitudes.len())],
-        number(line, 2),
-        number(line, 3),
-        number(line, 4),
+        &magnitudes[0..cases::column_within(line, 1, magnitudes.len())],
+        cases::column(line, 2),
+        cases::column(line, 3),
+        cases::column(line, 4),
     );
 }
 
@@ -462,49 +462,4 @@ fn main() {
     magnitudes();
     rooms();
     bounds();
-}
-
-// ---- the tables
-
-// Column 0 of a line.
-fn label(line: &[u8]) {
-    show::words(&line[0..bytes::scan::find(line, 0, line.len(), b'|')]);
-}
-
-// The number in a column of a line.
-fn number(line: &[u8], column: usize) -> usize {
-    let mut left = column;
-    let mut n = 0;
-    let mut i = 0;
-    while i < line.len() {
-        let byte = line[i];
-        if byte == b'|' {
-            if left == 0 {
-                return n;
-            }
-            left -= 1;
-            n = 0;
-        } else {
-            n = with_digit(n, byte);
-        }
-        i += 1;
-    }
-    n
-}
-
-// The number with a digit more, and the largest of all where that comes near it or above it. Other bytes leave it.
-fn with_digit(n: usize, byte: u8) -> usize {
-    let digit = std::num::wrapping_sub_u8(byte, b'0');
-    if digit > 9 {
-        return n;
-    }
-    if n > 1844674407370955160 {
-        return 18446744073709551615;
-    }
-    n * 10 + digit as usize
-}
-
-// The number as a u32, or the largest of them.
-fn rate(n: usize) -> u32 {
-    numbers::least(n, 4294967295) as u32
 }

@@ -84,11 +84,18 @@ pub fn column(line: &[u8], k: usize) -> usize
     number(part(line, b'|', k))
 }
 
-// The number as a u32, or the largest of them.
-pub fn small(n: usize) -> u32
-    ensures { λ r. ⌜ r ≡ min n 4294967295 ⌝ }
+// The number in column k of a line, at most so much.
+pub fn column_within(line: &[u8], k: usize, most: usize) -> usize
+    ensures { λ r. ⌜ r ≡ min (columnOf (now (line .entry)) k) most ⌝ }
 {
-    numbers::least(n, 4294967295) as u32
+    numbers::least(column(line, k), most)
+}
+
+// The number in column k of a line, or the largest u32.
+pub fn column_u32(line: &[u8], k: usize) -> u32
+    ensures { λ r. ⌜ r ≡ min (columnOf (now (line .entry)) k) 4294967295 ⌝ }
+{
+    column_within(line, k, 4294967295) as u32
 }
 
 // The value of a digit, or of a letter from ten on.

@@ -1,36 +1,29 @@
--- `analysis_run::of_each` is safe and ends: a line starts at most one past the lines, and the measure is what is left of them. Assumes nothing.
-use Prim.Native.Nat.{_≤_, _+_, _-_}
-use lib.ListN.{length}
+-- `analysis_run::of_each` is safe and ends: the case stays within their number, and the measure is how many are left. Assumes nothing.
+use Prim.Native.Nat.{_≤_, _-_}
 use borrow.Author.Needs.{needs}
 use Rattle.analysis_run.proofs.of_each.Statement.{statement}
 use Rattle.analysis_run.proofs.of_each.Tie as tie
 
 abbrev Inv-loop : tie.InvT-loop
-Inv-loop magnitudes lines at₀ at = at ≤ length lines + 1
+Inv-loop magnitudes lines n k₀ k = k ≤ n
 
 abbrev μ-loop : tie.MeasureT-loop
-μ-loop magnitudes lines at₀ at = length lines - at
+μ-loop magnitudes lines n k₀ k = n - k
+
+marks-requires : tie.Need-marks-requires Inv-loop μ-loop
+marks-requires c κs = search needs
 
 loop-holds : tie.Need-loop-holds Inv-loop μ-loop
 loop-holds c = search needs
 
-find-requires : tie.Need-find-requires Inv-loop μ-loop
-find-requires c κs = search needs
-
-sub-of-line : tie.Need-sub-of-line Inv-loop μ-loop
-sub-of-line c = search needs
-
-part-of-line-start : tie.Need-part-of-line-start Inv-loop μ-loop
-part-of-line-start c = search needs
-
-part-of-line-end : tie.Need-part-of-line-end Inv-loop μ-loop
-part-of-line-end c = search needs
+part-requires : tie.Need-part-requires Inv-loop μ-loop
+part-requires c κs = search needs
 
 of-line-requires : tie.Need-of-line-requires Inv-loop μ-loop
 of-line-requires c κs = search needs
 
-add-at : tie.Need-add-at Inv-loop μ-loop
-add-at c = search needs
+add-k : tie.Need-add-k Inv-loop μ-loop
+add-k c = search needs
 
 loop-less : tie.Need-loop-less Inv-loop μ-loop
 loop-less c = search needs
@@ -47,13 +40,11 @@ of-each-spec =
     (tie.spec
     Inv-loop
     μ-loop
+    marks-requires
     loop-holds
-    find-requires
-    sub-of-line
-    part-of-line-start
-    part-of-line-end
+    part-requires
     of-line-requires
-    add-at
+    add-k
     loop-less
     loop-again
     returns)
