@@ -1,16 +1,13 @@
 -- Curves that texts spell, and slots that differ.
 use mathlib.Core.Path.{_≡_, refl, ap}
-use mathlib.Core.Bool.{Bool, true, false, _||_}
 use mathlib.Core.List.{List, [], _∷_}
 use Prim.Native.Nat.{ℕ, zero, suc, _+_, _≤_, _<_, min}
 use native.Mathlib.Numerals.{add-one}
 use native.Mathlib.Omega.{arith}
 use borrow.Author.Tests.{eq-eqb, ne-eqb, lt-ltb, le-ltb, le-leb, lt-leb}
-use lib.Dec.{eqb, ltb, leb}
 use lib.ListN.{length, getD, set, take, drop, drop-of-length-le}
 use lib.Seq.{drop-cons}
 use lib.Ieee.{Float, binary64, toBits, nan}
-use Rattle.numbers.specs.Rounded.{pick}
 use Rattle.cases.specs.Curves.{valueOf, spelledIn, differs, differing}
 
 -- ---- spelled
@@ -58,15 +55,6 @@ module _ (first past i : ℕ) (x y : Float) where
     pub differs-inside : first ≤ i → i < past → 0 ≡ differs first past i x y
     unfolding differs
     differs-inside h k = rw (ne-eqb _ _ e, le-ltb _ _ h, lt-leb _ _ k)
-
-pub differs-small : (first past i : ℕ) (x y : Float) → differs first past i x y ≤ 1
-unfolding differs
-differs-small first past i x y = go (eqb (toBits binary64 x) (toBits binary64 y)) (ltb i first || leb past i)
-  where
-    go : (a b : Bool) → pick a 0 (pick b 1 0) ≤ 1
-    go true b = omega arith
-    go false true = omega arith
-    go false false = omega arith
 
 pub none-new : (first past i : ℕ) (xs : List Float) → differing first past i xs [] ≡ 0
 unfolding differing

@@ -38,8 +38,10 @@ valueOf b =
     (pick (eqb b 104) (bits 0x3FE0_0000_0000_0000)  -- h: a half
     (pick (eqb b 102) (bits 0x4004_0000_0000_0000)  -- f: 2.5
     (pick (eqb b 117) (bits 0x4014_0000_0000_0001)  -- u: the next above 5
+    (pick (eqb b 118) (bits 0x3FF0_0000_0000_0001)  -- v: the next above 1
+    (pick (eqb b 119) (neg (bits 0x3FF0_0000_0000_0001))  -- w
     (pick (eqb b 109) (neg one)  -- m
-    (farOf b)))))))
+    (farOf b)))))))))
 
 -- a curve with the values of a text first, as many as both have
 unfoldable pub spelledIn : List ℕ → List Float → List Float

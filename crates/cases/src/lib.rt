@@ -123,7 +123,7 @@ pub fn letter(byte: u8) -> usize
 }
 
 // What a byte of a curve stands for: a letter for a value that is no digit, else its distance from 0.
-fn value(byte: u8) -> f64
+pub fn value(byte: u8) -> f64
     ensures { λ r. ⌜ r ≡ valueOf byte ⌝ }
 {
     match byte {
@@ -133,6 +133,8 @@ fn value(byte: u8) -> f64
         b'h' => 0.5,
         b'f' => 2.5,
         b'u' => 5.000000000000001,
+        b'v' => 1.0000000000000002,
+        b'w' => -1.0000000000000002,
         b'm' => -1.0,
         b'b' => 1427247692705959881058285969449495136382746624.0, // 2^150
         b'c' => -1427247692705959881058285969449495136382746624.0,
@@ -158,8 +160,8 @@ pub fn spell(text: &[u8], curve: &mut [f64])
 }
 
 // 1 where slot i lies outside first up to past and has not the same bits in both.
-fn differ(i: usize, first: usize, past: usize, x: f64, y: f64) -> usize
-    ensures { λ r. ⌜ r ≡ differs first past i x y ⌝ }
+pub fn differ(i: usize, first: usize, past: usize, x: f64, y: f64) -> usize
+    ensures { λ r. ⌜ (r ≡ differs first past i x y) × (r ≤ 1) ⌝ }
 {
     if floats::bits::bits_of(x) == floats::bits::bits_of(y) {
         return 0;

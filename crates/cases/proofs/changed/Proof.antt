@@ -1,8 +1,8 @@
 -- `cases::changed` meets its contract. The invariant: the slots found to differ and those among the slots that are left are all that differ. The
 -- measure is how many slots are left. Assumes nothing.
-use mathlib.Core.Path.{_≡_, sym, subst}
+use mathlib.Core.Path.{_≡_}
 use mathlib.Core.Logic.{⊎-elim}
-use Prim.Native.Nat.{ℕ, _≤_, _+_, _-_, min}
+use Prim.Native.Nat.{_≤_, _+_, _-_}
 use borrow.Author.Needs.{needs}
 use native.Mathlib.Omega.{arith}
 use denote.Ref.{now}
@@ -10,7 +10,7 @@ use lib.ListN.{length, drop}
 use lib.Ieee.{nan}
 use Rattle.numbers.proofs.Tests.{lt-or-le}
 use Rattle.cases.specs.Curves.{differs, differing}
-use Rattle.cases.proofs.Curves.{differs-small, differing-step, differing-old, differing-new}
+use Rattle.cases.proofs.Curves.{differing-step, differing-old, differing-new}
 use Rattle.cases.proofs.changed.Statement.{statement}
 use Rattle.cases.proofs.changed.Tie as tie
 
@@ -41,12 +41,8 @@ shared-slice-read-differ-2 c = search needs
 differ-requires : tie.Need-differ-requires Inv-loop μ-loop
 differ-requires c κs = search needs
 
--- a slot counts at most once
-one : (c : tie.After-differ Inv-loop μ-loop) → c .differ .result ≤ 1
-one c = subst (λ (n : ℕ). n ≤ 1) (sym (c .differ .ensures)) (differs-small _ _ _ _ _)
-
 add-n : tie.Need-add-n Inv-loop μ-loop
-add-n c = omega (arith, one (c), c .before .before .before .before .loop .inv .1)
+add-n c = omega (arith, c .differ .ensures .1, c .before .before .before .before .loop .inv .1)
 
 add-i : tie.Need-add-i Inv-loop μ-loop
 add-i c = search needs
@@ -59,7 +55,7 @@ loop-again c =
     let l = c .before .before .before .before in
     let a = l .before .before .before .before .args in
     let e = differing-step (a .first) (a .past) (now (a .old)) (now (a .new)) (l .loop .i) (omega arith) (omega arith) in
-    (search needs, omega (arith, one c, l .loop .inv .1), omega (arith, e, c .differ .ensures, l .loop .inv .2))
+    (search needs, omega (arith, c .differ .ensures .1, l .loop .inv .1), omega (arith, e, c .differ .ensures .0, l .loop .inv .2))
 
 returns : tie.Need-returns Inv-loop μ-loop
 returns c =

@@ -16,7 +16,7 @@ returns : tie.Need-returns
 returns c =
     let v = c .before in
     let u = v .before in
-    differs-not _ _ _ _ _ (sym (u .bits-of .ensures) ∙ c .if1 .taken ∙ v .bits-of2 .ensures)
+    (differs-not _ _ _ _ _ (sym (u .bits-of .ensures) ∙ c .if1 .taken ∙ v .bits-of2 .ensures), search needs)
 
 -- the bits differ
 unlike : (c : tie.Else1) → toBits binary64 (c .before .before .before .args .x) ≡ toBits binary64 (c .before .before .before .args .y) → ⊥
@@ -26,13 +26,13 @@ unlike c e =
     c .if1 .left (u .bits-of .ensures ∙ e ∙ sym (v .bits-of2 .ensures))
 
 returns-2 : tie.Need-returns-2
-returns-2 c = differs-before _ _ _ _ _ (unlike (c .before)) (c .if2 .taken)
+returns-2 c = (differs-before _ _ _ _ _ (unlike (c .before)) (c .if2 .taken), search needs)
 
 returns-3 : tie.Need-returns-3
-returns-3 c = differs-behind _ _ _ _ _ (unlike (c .before .before)) (c .before .if2 .left) (c .if3 .taken)
+returns-3 c = (differs-behind _ _ _ _ _ (unlike (c .before .before)) (c .before .if2 .left) (c .if3 .taken), search needs)
 
 returns-4 : tie.Need-returns-4
-returns-4 c = differs-inside _ _ _ _ _ (unlike (c .before .before)) (c .before .if2 .left) (c .if3 .left)
+returns-4 c = (differs-inside _ _ _ _ _ (unlike (c .before .before)) (c .before .if2 .left) (c .if3 .left), search needs)
 
 pub differ-spec : {M : Type 1} → statement M
 differ-spec =

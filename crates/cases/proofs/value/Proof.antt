@@ -66,10 +66,20 @@ unfolding valueOf
 returns-14 c = sym (ap valueOf (c .match .keys14))
 
 returns-15 : tie.Need-returns-15
+unfolding valueOf
+returns-15 c = sym (ap valueOf (c .match .keys15))
+
+returns-16 : tie.Need-returns-16
+unfolding valueOf
+returns-16 c = sym (ap valueOf (c .match .keys16))
+
+returns-17 : tie.Need-returns-17
 unfolding valueOf farOf
-returns-15 c =
+returns-17 c =
     let r = c .before .match .rest in
     rw (
+      ne-eqb _ _ (r .0 .0 .0 .0 .0 .0 .0 .0 .0 .0 .0 .0 .0 .0 .0 .1),
+      ne-eqb _ _ (r .0 .0 .0 .0 .0 .0 .0 .0 .0 .0 .0 .0 .0 .0 .1),
       ne-eqb _ _ (r .0 .0 .0 .0 .0 .0 .0 .0 .0 .0 .0 .0 .0 .1),
       ne-eqb _ _ (r .0 .0 .0 .0 .0 .0 .0 .0 .0 .0 .0 .0 .1),
       ne-eqb _ _ (r .0 .0 .0 .0 .0 .0 .0 .0 .0 .0 .0 .1),
@@ -105,4 +115,6 @@ value-spec =
     returns-12
     returns-13
     returns-14
-    returns-15)
+    returns-15
+    returns-16
+    returns-17)
