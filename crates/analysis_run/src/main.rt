@@ -3,7 +3,8 @@
 //
 // The clicks are four frames apart, from frame 1 on, at rate 2,048: eight frames a second, so 120 beats a minute. The lags are 2 to 16.
 //
-// The cases stand in tables, one to a line, with bars between the columns: the label, then the numbers, and here and there what they are about.
+// The cases stand in tables, one to a line, with bars between the columns: the label, then the numbers that the function
+// of that name takes, where (1) is column 1, and here and there what they are about.
 ghost use Prim.Native.Nat.{_≤_, _+_};
 ghost use lib.ListN.{length};
 use lags::TempoOpts;
@@ -11,6 +12,43 @@ use stability::Stability;
 use tempo::Candidate;
 use tempo::Tempo;
 use track::Analysis;
+
+const ENVELOPE: usize = 1;
+
+const MAGNITUDES: usize = 2;
+
+const ROOM: usize = 3;
+
+fn main() {
+    clicks();
+    magnitudes();
+    rooms();
+    bounds();
+}
+
+fn table(call: usize, lines: &[u8]) {
+    let n = cases::marks(lines, b'\n');
+    let mut k = 0;
+    while k < n {
+        run(call, cases::part(lines, b'\n', k));
+        k += 1;
+    }
+}
+
+fn run(call: usize, line: &[u8]) {
+    show::words(cases::part(line, b'|', 0));
+    if call == ENVELOPE {
+        return of_envelope(line);
+    }
+    if call == MAGNITUDES {
+        return of_slab(line);
+    }
+    named(
+        cases::column(line, 1),
+        cases::column_u32(line, 2),
+        TempoOpts::new(),
+    );
+}
 
 fn tempo_is(t: Tempo) {
     match t {
@@ -164,80 +202,29 @@ fn lent(envelope: &[f64], rate: u32, short: usize) {
     lists_are(&onsets, &back, &beats, &downbeats);
 }
 
-// The columns: so many slots of the envelope, the rate, and the slice that is short.
-fn of_envelope(envelope: &[f64], line: &[u8]) {
-    label(line);
+// The first (1) slots of the clicks, or of no numbers where (4) is 1, at rate (2), with slice (3) short.
+fn of_envelope(line: &[u8]) {
+    let e = envelope_of(cases::column(line, 4));
     lent(
-        &envelope[0..numbers::least(number(line, 1), envelope.len())],
-        rate(number(line, 2)),
-        number(line, 3),
+        &e[0..cases::column_within(line, 1, 48)],
+        cases::column_u32(line, 2),
+        cases::column(line, 3),
     );
 }
 
-fn of_envelopes(envelope: &[f64], lines: &[u8]) {
-    let mut at = 0;
-    while at < lines.len() {
-        let end = bytes::scan::find(lines, at, lines.len(), b'\n');
-        of_envelope(envelope, &lines[at..end]);
-        at = end + 1;
+fn envelope_of(odd: usize) -> [f64; 48] {
+    let mut e = [0.0f64 / 0.0; 48];
+    if odd == 1 {
+        return e;
     }
+    cases::spell(b"040004000400040004000400040004000400040004000400", &mut e);
+    e
 }
 
 // Two slots more in each slice; exactly the room, then each of the eleven slices one short; and what is refused.
 fn clicks() {
-    let e = [
-        0.0f64,
-        4.0,
-        0.0,
-        0.0,
-        0.0,
-        4.0,
-        0.0,
-        0.0,
-        0.0,
-        4.0,
-        0.0,
-        0.0,
-        0.0,
-        4.0,
-        0.0,
-        0.0,
-        0.0,
-        4.0,
-        0.0,
-        0.0,
-        0.0,
-        4.0,
-        0.0,
-        0.0,
-        0.0,
-        4.0,
-        0.0,
-        0.0,
-        0.0,
-        4.0,
-        0.0,
-        0.0,
-        0.0,
-        4.0,
-        0.0,
-        0.0,
-        0.0,
-        4.0,
-        0.0,
-        0.0,
-        0.0,
-        4.0,
-        0.0,
-        0.0,
-        0.0,
-        4.0,
-        0.0,
-        0.0,
-    ];
-    let odd = [0.0f64 / 0.0; 48];
-    of_envelopes(
-        &e,
+    table(
+        ENVELOPE,
         b"clicks:|48|2048|12
 seventeen slots of them:|17|2048|12
 one of them:|4|2048|12
@@ -252,107 +239,100 @@ short 7:|48|2048|7
 short 8:|48|2048|8
 short 9:|48|2048|9
 short 10:|48|2048|10
-short 11:|48|2048|11",
-    );
-    of_envelopes(
-        &odd,
-        b"a NaN:|48|2048|0
-3 before 4:|48|2048|11",
-    );
-    of_envelopes(
-        &e,
-        b"rate 0:|48|0|0
+short 11:|48|2048|11
+a NaN:|48|2048|0|1
+3 before 4:|48|2048|11|1
+rate 0:|48|0|0
 rate 192,001:|48|192001|0
-1 before 3:|48|0|11",
+1 before 3:|48|0|11\n",
     );
 }
 
-// The magnitudes whose flux is the clicks, and what is refused of them.
+// The magnitudes whose flux is the clicks.
+const CLICKS: [f32; 48] = [
+    0.0,
+    4.0,
+    0.0,
+    0.0,
+    0.0,
+    4.0,
+    0.0,
+    0.0,
+    0.0,
+    4.0,
+    0.0,
+    0.0,
+    0.0,
+    4.0,
+    0.0,
+    0.0,
+    0.0,
+    4.0,
+    0.0,
+    0.0,
+    0.0,
+    4.0,
+    0.0,
+    0.0,
+    0.0,
+    4.0,
+    0.0,
+    0.0,
+    0.0,
+    4.0,
+    0.0,
+    0.0,
+    0.0,
+    4.0,
+    0.0,
+    0.0,
+    0.0,
+    4.0,
+    0.0,
+    0.0,
+    0.0,
+    4.0,
+    0.0,
+    0.0,
+    0.0,
+    4.0,
+    0.0,
+    0.0,
+];
+
+// The magnitudes, and what is refused of them.
 fn magnitudes() {
-    let m = [
-        0.0f32,
-        4.0,
-        0.0,
-        0.0,
-        0.0,
-        4.0,
-        0.0,
-        0.0,
-        0.0,
-        4.0,
-        0.0,
-        0.0,
-        0.0,
-        4.0,
-        0.0,
-        0.0,
-        0.0,
-        4.0,
-        0.0,
-        0.0,
-        0.0,
-        4.0,
-        0.0,
-        0.0,
-        0.0,
-        4.0,
-        0.0,
-        0.0,
-        0.0,
-        4.0,
-        0.0,
-        0.0,
-        0.0,
-        4.0,
-        0.0,
-        0.0,
-        0.0,
-        4.0,
-        0.0,
-        0.0,
-        0.0,
-        4.0,
-        0.0,
-        0.0,
-        0.0,
-        4.0,
-        0.0,
-        0.0,
-    ];
-    let infinite = [1.0f32 / 0.0; 48];
-    of_each(
-        &m,
-        b"magnitudes 0:|48|48|1|48|clicks of one bin
-magnitudes 1:|48|24|2|48|two bins
-magnitudes 2:|48|48|1|47|flux one short
-magnitudes 3:|0|48|0|48|no bins
-magnitudes 4:|48|0|4097|48|4,097 bins
-magnitudes 5:|47|24|2|48|half a row
-magnitudes 6:|0|0|1|48|no rows
-magnitudes 7:|0|1048577|1|48|1,048,577 rows
-magnitudes 8:|47|24|2|23|2 before 3",
+    table(
+        MAGNITUDES,
+        b"magnitudes 0:|48|48|1|48|0|clicks of one bin
+magnitudes 1:|48|24|2|48|0|two bins
+magnitudes 2:|48|48|1|47|0|flux one short
+magnitudes 3:|0|48|0|48|0|no bins
+magnitudes 4:|48|0|4097|48|0|4,097 bins
+magnitudes 5:|47|24|2|48|0|half a row
+magnitudes 6:|0|0|1|48|0|no rows
+magnitudes 7:|0|1048577|1|48|0|1,048,577 rows
+magnitudes 8:|47|24|2|23|0|2 before 3
+an infinity:|48|48|1|48|1\n",
     );
-    of_each(&infinite, b"an infinity:|48|48|1|48");
 }
 
-fn of_each(magnitudes: &[f32], lines: &[u8]) {
-    let mut at = 0;
-    while at < lines.len() {
-        let end = bytes::scan::find(lines, at, lines.len(), b'\n');
-        of_line(magnitudes, &lines[at..end]);
-        at = end + 1;
-    }
-}
-
-// The columns: so many of the magnitudes, rows, bins, room for the flux.
-fn of_line(magnitudes: &[f32], line: &[u8]) {
-    label(line);
+// The first (1) of the magnitudes, or of infinities where (5) is 1, (2) rows of (3) bins, and room (4) for the flux.
+fn of_slab(line: &[u8]) {
+    let m = slab_of(cases::column(line, 5));
     of_magnitudes(
-        &magnitudes[0..numbers::least(number(line, 1), magnitudes.len())],
-        number(line, 2),
-        number(line, 3),
-        number(line, 4),
+        &m[0..cases::column_within(line, 1, 48)],
+        cases::column(line, 2),
+        cases::column(line, 3),
+        cases::column(line, 4),
     );
+}
+
+fn slab_of(odd: usize) -> [f32; 48] {
+    if odd == 1 {
+        return [1.0f32 / 0.0; 48];
+    }
+    CLICKS
 }
 
 // Everything but the flux has exactly its room; the flux is shown with the slots that are not lent.
@@ -405,48 +385,24 @@ fn named(rows: usize, rate: u32, opts: TempoOpts) {
     show::end();
 }
 
-// N frames of so many minutes: 1 + (samples - 1,024) div 256.
+// N frames of so many minutes: 1 + (samples - 1,024) div 256. 3, 10 and 60 minutes at 44,100 and at 48,000, then the bounds of both.
 fn rooms() {
-    // 3, 10 and 60 minutes at 44,100 and at 48,000, then the bounds of both
-    let rows = [
-        31004usize,
-        103356,
-        620153,
-        33747,
-        112497,
-        674997,
-        0,
-        1048576,
-        1048577,
-        48,
-        48,
-        20,
-        48,
-    ];
-    let rates = [
-        44100u32,
-        44100,
-        44100,
-        48000,
-        48000,
-        48000,
-        1,
-        48000,
-        48000,
-        0,
-        192001,
-        2048,
-        2048,
-    ];
-    let mut k = 0;
-    while k < 13 {
-        show::words(b"frames, rate");
-        show::count(rows[k]);
-        show::small(rates[k]);
-        show::words(b":");
-        named(rows[k], rates[k], TempoOpts::new());
-        k += 1;
-    }
+    table(
+        ROOM,
+        b"frames, rate 31004 44100:|31004|44100
+frames, rate 103356 44100:|103356|44100
+frames, rate 620153 44100:|620153|44100
+frames, rate 33747 48000:|33747|48000
+frames, rate 112497 48000:|112497|48000
+frames, rate 674997 48000:|674997|48000
+frames, rate 0 1:|0|1
+frames, rate 1048576 48000:|1048576|48000
+frames, rate 1048577 48000:|1048577|48000
+frames, rate 48 0:|48|0
+frames, rate 48 192001:|48|192001
+frames, rate 20 2048:|20|2048
+frames, rate 48 2048:|48|2048\n",
+    );
 }
 
 fn bounds() {
@@ -455,56 +411,4 @@ fn bounds() {
     named(48, 48000, TempoOpts::between(30.0, nan));
     show::words(b"0 and 0:");
     named(48, 48000, TempoOpts::between(0.0, 0.0));
-}
-
-fn main() {
-    clicks();
-    magnitudes();
-    rooms();
-    bounds();
-}
-
-// ---- the tables
-
-// Column 0 of a line.
-fn label(line: &[u8]) {
-    show::words(&line[0..bytes::scan::find(line, 0, line.len(), b'|')]);
-}
-
-// The number in a column of a line.
-fn number(line: &[u8], column: usize) -> usize {
-    let mut left = column;
-    let mut n = 0;
-    let mut i = 0;
-    while i < line.len() {
-        let byte = line[i];
-        if byte == b'|' {
-            if left == 0 {
-                return n;
-            }
-            left -= 1;
-            n = 0;
-        } else {
-            n = with_digit(n, byte);
-        }
-        i += 1;
-    }
-    n
-}
-
-// The number with a digit more, and the largest of all where that comes near it or above it. Other bytes leave it.
-fn with_digit(n: usize, byte: u8) -> usize {
-    let digit = std::num::wrapping_sub_u8(byte, b'0');
-    if digit > 9 {
-        return n;
-    }
-    if n > 1844674407370955160 {
-        return 18446744073709551615;
-    }
-    n * 10 + digit as usize
-}
-
-// The number as a u32, or the largest of them.
-fn rate(n: usize) -> u32 {
-    numbers::least(n, 4294967295) as u32
 }

@@ -2,77 +2,77 @@
 ghost use Prim.Native.Nat.{_≤_};
 use bars::BarBeat;
 
-// The cases of `downbeats`, each up to its colon: the envelope, by its letter, and the values of it from one number up to the next; the beats
+// The cases of `downbeats`, one to a line: the envelope, by its letter, and the values of it from one number up to the next; the beats
 // likewise; how many of twelve slots are lent; and what the line begins with. Those of `downbeats_in` begin with m and have the meter instead: their
 // envelope and beats are b09 and b09, and all twelve slots are lent.
 fn grids() {
     each_case(
         b"\
-          a06 a03 3 M11:\
-          b09 b09 9 nine beats:\
-          b09 b08 8 the fourth phase:\
-          b09 b56 c one beat:\
-          b09 b00 0 no beats, no room:\
-          b09 c06 c not ascending, twice the same:\
-          a01 b19 8 a tie of all four:\
-          b04 d06 6 beats past the envelope:\
-          b00 d06 6 no envelope:\
-          c06 b03 4 negative, an empty phase wins:\
-          c06 b04 4 negative, no phase is empty:\
-          c06 e04 4 -0 is as great as +0:\
-          c02 b04 4 a beat past the envelope beats a negative one:\
-          b02 f02 2 frame 1,048,575:\
-          b02 g02 2 frame 1,048,576:\
-          b02 h02 2 frame 4,294,967,295, first:\
-          b02 g02 1 1 before 3:\
-          b04 i05 5 a slot for each of five beats:\
-          b04 i05 4 one slot too few:\
-          b04 i01 0 no room:\
-          d02 b02 2 size 2^150:\
-          e02 b02 2 the next float above 2^150:\
-          k02 b01 2 a NaN that no beat reads:\
-          k23 b02 2 an infinity:\
-          k34 b02 2 minus infinity:\
-          k12 b00 0 a NaN and no beats:\
-          k04 b02 1 3 before 4:\
-          m       0 meter 0:\
-          m       1 meter 1:\
-          m       2 meter 2:\
-          m       3 meter 3:\
-          m       g meter 16:\
-          m       h meter 17:",
+          a06 a03 3 M11:\n\
+          b09 b09 9 nine beats:\n\
+          b09 b08 8 the fourth phase:\n\
+          b09 b56 c one beat:\n\
+          b09 b00 0 no beats, no room:\n\
+          b09 c06 c not ascending, twice the same:\n\
+          a01 b19 8 a tie of all four:\n\
+          b04 d06 6 beats past the envelope:\n\
+          b00 d06 6 no envelope:\n\
+          c06 b03 4 negative, an empty phase wins:\n\
+          c06 b04 4 negative, no phase is empty:\n\
+          c06 e04 4 -0 is as great as +0:\n\
+          c02 b04 4 a beat past the envelope beats a negative one:\n\
+          b02 f02 2 frame 1,048,575:\n\
+          b02 g02 2 frame 1,048,576:\n\
+          b02 h02 2 frame 4,294,967,295, first:\n\
+          b02 g02 1 1 before 3:\n\
+          b04 i05 5 a slot for each of five beats:\n\
+          b04 i05 4 one slot too few:\n\
+          b04 i01 0 no room:\n\
+          d02 b02 2 size 2^150:\n\
+          e02 b02 2 the next float above 2^150:\n\
+          k02 b01 2 a NaN that no beat reads:\n\
+          k23 b02 2 an infinity:\n\
+          k34 b02 2 minus infinity:\n\
+          k12 b00 0 a NaN and no beats:\n\
+          k04 b02 1 3 before 4:\n\
+          m       0 meter 0:\n\
+          m       1 meter 1:\n\
+          m       2 meter 2:\n\
+          m       3 meter 3:\n\
+          m       g meter 16:\n\
+          m       h meter 17:\n",
     );
 }
 
-// The cases of `bar_beat_at`, each up to its colon: the time, as a letter and the value's place; the downbeats, by their letter, and the values from
+// The cases of `bar_beat_at`, one to a line: the time, as a letter and the value's place; the downbeats, by their letter, and the values from
 // one number up to the next; the beats likewise; and what the line begins with.
 fn places() {
     each_case(
         b"\
-          t l0 g02 f08 before the first bar:\
-          t l1 g02 f08 on the first downbeat:\
-          t l2 g02 f08 between beats:\
-          t l3 g02 f08 on a beat:\
-          t l4 g02 f08 on the second downbeat:\
-          t l5 g02 f08 past the last beat:\
-          t l2 g00 f08 no downbeats:\
-          t l2 g02 f00 no beats:\
-          t l2 g00 f00 neither:\
-          t i0 h01 h02 a slack before:\
-          t i1 h01 h02 more than a slack before:\
-          t i2 i34 h02 a downbeat a slack late:\
-          t i2 i45 h02 a downbeat later than that:\
-          t i2 h01 i05 beats at both slacks:\
-          t i2 h12 j02 a beat a slack before its bar:\
-          t i2 h12 i13 a beat earlier than that:\
-          t k1 k06 k06 time NaN:\
-          t k2 k06 k06 time infinity:\
-          t k3 k06 k06 time minus infinity:\
-          t l6 k06 k06 time 2.5:\
-          t l6 k12 k06 a downbeat NaN alone:\
-          t k2 k23 k06 a downbeat infinity alone:\
-          t l8 k34 k06 a downbeat minus infinity alone:\
-          t l7 k04 k06 not ascending, the last that is reached:",
+          t l0 g02 f08 before the first bar:\n\
+          t l1 g02 f08 on the first downbeat:\n\
+          t l2 g02 f08 between beats:\n\
+          t l3 g02 f08 on a beat:\n\
+          t l4 g02 f08 on the second downbeat:\n\
+          t l5 g02 f08 past the last beat:\n\
+          t l2 g00 f08 no downbeats:\n\
+          t l2 g02 f00 no beats:\n\
+          t l2 g00 f00 neither:\n\
+          t i0 h01 h02 a slack before:\n\
+          t i1 h01 h02 more than a slack before:\n\
+          t i2 i34 h02 a downbeat a slack late:\n\
+          t i2 i45 h02 a downbeat later than that:\n\
+          t i2 h01 i05 beats at both slacks:\n\
+          t i2 h12 j02 a beat a slack before its bar:\n\
+          t i2 h12 i13 a beat earlier than that:\n\
+          t k1 k06 k06 time NaN:\n\
+          t k2 k06 k06 time infinity:\n\
+          t k3 k06 k06 time minus infinity:\n\
+          t l6 k06 k06 time 2.5:\n\
+          t l6 k12 k06 a downbeat NaN alone:\n\
+          t k2 k23 k06 a downbeat infinity alone:\n\
+          t l8 k34 k06 a downbeat minus infinity alone:\n\
+          t l7 k04 k06 not ascending, the last that is reached:\n",
     );
 }
 
@@ -103,7 +103,7 @@ const VALUES: [[f64; 9]; 12] = [
 ];
 
 fn values_of(byte: u8) -> [f64; 9] {
-    let k = letter(byte);
+    let k = cases::letter(byte);
     if k != 10 && k < 12 {
         return VALUES[k];
     }
@@ -135,44 +135,20 @@ const FRAMES: [[u32; 9]; 9] = [
 ];
 
 fn frames_of(byte: u8) -> [u32; 9] {
-    let k = letter(byte);
+    let k = cases::letter(byte);
     if k < 9 {
         return FRAMES[k];
     }
     [0; 9]
 }
 
-// The place of a letter from a on.
-fn letter(byte: u8) -> usize {
-    (byte % 97) as usize
-}
-
-// The value of a digit, at most so much.
-fn digit(byte: u8, most: usize) -> usize
-    ensures { λ r. ⌜ r ≤ most ⌝ }
-{
-    numbers::least((byte % 48) as usize, most)
-}
-
-// The value of a digit, or of a letter from ten on.
-fn size(byte: u8) -> usize {
-    if byte < 97 {
-        return (byte % 48) as usize;
-    }
-    (byte - 87) as usize
-}
-
 // Runs each case of a text.
 fn each_case(text: &[u8]) {
-    let mut from = 0;
-    let mut i = 0;
-    while i < text.len() {
-        let past = i + 1;
-        if text[i] == 58 {
-            case(&text[from..past]);
-            from = past;
-        }
-        i = past;
+    let n = cases::marks(text, b'\n');
+    let mut k = 0;
+    while k < n {
+        case(cases::part(text, b'\n', k));
+        k += 1;
     }
 }
 
@@ -181,7 +157,7 @@ fn case(c: &[u8]) {
         return;
     }
     if c[0] == 109 {
-        in_meter(size(c[8]), &c[10..]);
+        in_meter(cases::digit(c[8], 17), &c[10..]);
         return;
     }
     if c[0] == 116 {
@@ -196,8 +172,8 @@ fn in_room(c: &[u8]) {
         return;
     }
     show::words(&c[10..]);
-    let past = digit(c[2], 9);
-    let from = digit(c[1], past);
+    let past = cases::digit(c[2], 9);
+    let from = cases::digit(c[1], past);
     let envelope = values_of(c[0]);
     with_beats(&envelope[from..past], c);
 }
@@ -206,17 +182,19 @@ fn with_beats(envelope: &[f64], c: &[u8]) {
     if c.len() < 10 {
         return;
     }
-    let room = size(c[8]);
-    let past = digit(c[6], 9);
-    let from = digit(c[5], past);
+    let room = cases::digit(c[8], 12);
+    let past = cases::digit(c[6], 9);
+    let from = cases::digit(c[5], past);
     let beats = frames_of(c[4]);
     lent(envelope, &beats[from..past], room);
 }
 
 // What is answered where the first `room` slots are lent, and all of them afterwards.
-fn lent(envelope: &[f64], beats: &[u32], room: usize) {
+fn lent(envelope: &[f64], beats: &[u32], room: usize)
+    requires { ⌜ room ≤ 12 ⌝ }
+{
     let mut frames = [77u32; 12];
-    let r = bars::downbeats(envelope, beats, &mut frames[0..numbers::least(room, 12)]);
+    let r = bars::downbeats(envelope, beats, &mut frames[0..room]);
     told(r.number, r.count, &frames);
 }
 
@@ -242,9 +220,9 @@ fn at(c: &[u8]) {
         return;
     }
     show::words(&c[13..]);
-    let time = value_of(c[2], digit(c[3], 8));
-    let past = digit(c[7], 9);
-    let from = digit(c[6], past);
+    let time = value_of(c[2], cases::digit(c[3], 8));
+    let past = cases::digit(c[7], 9);
+    let from = cases::digit(c[6], past);
     let downbeats = values_of(c[5]);
     among_beats(time, &downbeats[from..past], c);
 }
@@ -260,8 +238,8 @@ fn among_beats(time: f64, downbeats: &[f64], c: &[u8]) {
     if c.len() < 13 {
         return;
     }
-    let past = digit(c[11], 9);
-    let from = digit(c[10], past);
+    let past = cases::digit(c[11], 9);
+    let from = cases::digit(c[10], past);
     let beats = values_of(c[9]);
     place(bars::bar_beat_at(time, downbeats, &beats[from..past]));
 }

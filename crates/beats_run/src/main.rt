@@ -1,73 +1,73 @@
 // Runs `beats::beat_grid` on both sides of each boundary and prints what it answers; the file stdout holds what must come out.
 ghost use Prim.Native.Nat.{_≤_};
 
-// The cases, each up to its colon: the envelope, by its letter, and the frames of it from one number up to the next; so many slots lent of score, of
+// The cases, one to a line: the envelope, by its letter, and the frames of it from one number up to the next; so many slots lent of score, of
 // back and of beats; the period, a digit or its letter; and what the line begins with. Envelopes s and t are taken whole, with fifty slots of each.
 fn grids() {
     each_grid(
         b"\
-          a06 888 2 M11:\
-          b04 888 2 M12:\
-          b00 888 2 no frames:\
-          a12 888 2 one frame:\
-          a02 888 2 two frames:\
-          a16 888 2 M11 from its second frame:\
-          c08 888 0 period 0:\
-          c08 888 1 period 1:\
-          c08 888 2 period 2:\
-          c08 888 3 period 3:\
-          c08 888 4 period 4:\
-          c08 888 5 period 5:\
-          c08 888 8 period 8, the envelope's length:\
-          c08 888 9 period 9:\
-          d06 888 d period 2,048:\
-          d06 888 e period 2,049:\
-          d06 888 f period 45,000:\
-          c08 888 g period 45,001:\
-          c08 888 h period 18,446,744,073,709,551,615:\
-          e08 888 4 frame 0 for t below half:\
-          e08 888 1 period 1, two earlier frames:\
-          e08 888 2 period 2, equal extensions:\
-          e08 888 3 period 3:\
-          e08 888 7 period 7:\
-          e08 888 c period 100:\
-          f04 888 a the first frame alone:\
-          g06 888 2 the first frame, then below zero:\
-          h06 888 c a plateau:\
-          h06 888 1 a plateau, period 1:\
-          h06 888 2 a plateau, period 2:\
-          i06 888 b two ends with one score:\
-          j06 888 2 -0 and values below zero:\
-          k04 888 2 zeros alone:\
-          l04 888 2 variance below 2^-52:\
-          m04 888 2 variance above 2^-52:\
-          n04 888 2 variance 2^-52:\
-          o04 888 2 the next variance:\
-          c06 666 2 exactly full:\
-          c06 566 2 score one short:\
-          c06 656 2 back one short:\
-          c06 665 2 beats one short:\
-          c06 787 2 more room than frames:\
-          c00 000 2 no room, no frames:\
-          c06 000 0 no room, period 0:\
-          c06 665 0 room asked where nothing is answered:\
-          c06 665 g 1 before 3:\
-          p03 888 2 size 2^150:\
-          q03 888 2 the next float above 2^150:\
-          r02 888 2 a NaN:\
-          r23 888 2 an infinity:\
-          r34 888 2 minus infinity:\
-          r02 888 0 a NaN, period 0:\
-          r04 388 2 3 before 4:\
-          r04 888 g 1 before 4:\
-          s.. ... 6 pulses, period 6:\
-          s.. ... 7 pulses, period 7:\
-          s.. ... 8 pulses, period 8:\
-          s.. ... i pulses, period 12:\
-          s.. ... j pulses, period 20:\
-          t.. ... k ties, period 16:\
-          t.. ... l ties, period 24:\
-          t.. ... m ties, period 30:",
+          a06 888 2 M11:\n\
+          b04 888 2 M12:\n\
+          b00 888 2 no frames:\n\
+          a12 888 2 one frame:\n\
+          a02 888 2 two frames:\n\
+          a16 888 2 M11 from its second frame:\n\
+          c08 888 0 period 0:\n\
+          c08 888 1 period 1:\n\
+          c08 888 2 period 2:\n\
+          c08 888 3 period 3:\n\
+          c08 888 4 period 4:\n\
+          c08 888 5 period 5:\n\
+          c08 888 8 period 8, the envelope's length:\n\
+          c08 888 9 period 9:\n\
+          d06 888 d period 2,048:\n\
+          d06 888 e period 2,049:\n\
+          d06 888 f period 45,000:\n\
+          c08 888 g period 45,001:\n\
+          c08 888 h period 18,446,744,073,709,551,615:\n\
+          e08 888 4 frame 0 for t below half:\n\
+          e08 888 1 period 1, two earlier frames:\n\
+          e08 888 2 period 2, equal extensions:\n\
+          e08 888 3 period 3:\n\
+          e08 888 7 period 7:\n\
+          e08 888 c period 100:\n\
+          f04 888 a the first frame alone:\n\
+          g06 888 2 the first frame, then below zero:\n\
+          h06 888 c a plateau:\n\
+          h06 888 1 a plateau, period 1:\n\
+          h06 888 2 a plateau, period 2:\n\
+          i06 888 b two ends with one score:\n\
+          j06 888 2 -0 and values below zero:\n\
+          k04 888 2 zeros alone:\n\
+          l04 888 2 variance below 2^-52:\n\
+          m04 888 2 variance above 2^-52:\n\
+          n04 888 2 variance 2^-52:\n\
+          o04 888 2 the next variance:\n\
+          c06 666 2 exactly full:\n\
+          c06 566 2 score one short:\n\
+          c06 656 2 back one short:\n\
+          c06 665 2 beats one short:\n\
+          c06 787 2 more room than frames:\n\
+          c00 000 2 no room, no frames:\n\
+          c06 000 0 no room, period 0:\n\
+          c06 665 0 room asked where nothing is answered:\n\
+          c06 665 g 1 before 3:\n\
+          p03 888 2 size 2^150:\n\
+          q03 888 2 the next float above 2^150:\n\
+          r02 888 2 a NaN:\n\
+          r23 888 2 an infinity:\n\
+          r34 888 2 minus infinity:\n\
+          r02 888 0 a NaN, period 0:\n\
+          r04 388 2 3 before 4:\n\
+          r04 888 g 1 before 4:\n\
+          s.. ... 6 pulses, period 6:\n\
+          s.. ... 7 pulses, period 7:\n\
+          s.. ... 8 pulses, period 8:\n\
+          s.. ... i pulses, period 12:\n\
+          s.. ... j pulses, period 20:\n\
+          t.. ... k ties, period 16:\n\
+          t.. ... l ties, period 24:\n\
+          t.. ... m ties, period 30:\n",
     );
 }
 
@@ -121,17 +121,8 @@ const TOP: f64 = 1427247692705959881058285969449495136382746624.0;
 
 const ABOVE: f64 = 1427247692705960197970935322542740166810075136.0;
 
-// The place of a letter from a on; the value of a digit.
-fn letter(byte: u8) -> usize {
-    (byte % 97) as usize
-}
-
-fn digit(byte: u8) -> usize {
-    (byte % 48) as usize
-}
-
 fn envelope_of(byte: u8) -> [f64; 8] {
-    let k = letter(byte);
+    let k = cases::letter(byte);
     if k < 17 {
         return ENVELOPES[k];
     }
@@ -158,9 +149,9 @@ const LONG_PERIODS: [usize; 13] = [
 
 fn period_of(byte: u8) -> usize {
     if byte < 97 {
-        return digit(byte);
+        return cases::digit(byte, 9);
     }
-    let k = letter(byte);
+    let k = cases::letter(byte);
     if k < 13 {
         return LONG_PERIODS[k];
     }
@@ -169,15 +160,11 @@ fn period_of(byte: u8) -> usize {
 
 // Runs each case of a text.
 fn each_grid(text: &[u8]) {
-    let mut from = 0;
-    let mut i = 0;
-    while i < text.len() {
-        let past = i + 1;
-        if text[i] == 58 {
-            grid(&text[from..past]);
-            from = past;
-        }
-        i = past;
+    let n = cases::marks(text, b'\n');
+    let mut k = 0;
+    while k < n {
+        grid(cases::part(text, b'\n', k));
+        k += 1;
     }
 }
 
@@ -190,15 +177,15 @@ fn grid(c: &[u8]) {
         return;
     }
     let e = envelope_of(c[0]);
-    let past = numbers::least(digit(c[2]), 8);
-    let from = numbers::least(digit(c[1]), past);
+    let past = cases::digit(c[2], 8);
+    let from = cases::digit(c[1], past);
     show::words(&c[10..]);
     run(
         &e[from..past],
         period_of(c[8]),
-        digit(c[4]),
-        digit(c[5]),
-        digit(c[6]),
+        cases::digit(c[4], 50),
+        cases::digit(c[5], 50),
+        cases::digit(c[6], 50),
         8,
     );
 }

@@ -3,52 +3,52 @@
 ghost use Prim.Native.Nat.{_≤_};
 use median::Answer;
 
-// The cases, each up to its colon: a dot for median_of, or for mad_of the median by its letter; the values by their letter, from one number up to the
+// The cases, one to a line: a dot for median_of, or for mad_of the median by its letter; the values by their letter, from one number up to the
 // next; how many of five slots are lent; and what the line begins with.
 fn main() {
     each_case(
         b"\
-          . a04 4 median of 4, 1, 3, 2 in 4 slots:\
-          . a04 5 in 5 slots:\
-          . a04 3 in 3 slots:\
-          . a03 3 of the first 3 in 3 slots:\
-          . a02 2 of the first 2 in 2 slots:\
-          . a01 1 of the first in 1 slot:\
-          . a01 0 of the first in no slot:\
-          . a00 5 of none in 5 slots:\
-          . a00 0 of none in no slot:\
-          . b03 3 median of 2^150, -2^150, 2^150:\
-          . c02 2 of 1 and the next above 2^150:\
-          . d02 2 of the next below -2^150 and 1:\
-          . h03 3 of 1, 2, nan:\
-          . h03 2 of 1, 2, nan in 2 slots:\
-          . h34 1 of infinity:\
-          . h45 1 of -infinity:\
-          . e02 2 median of 0, -0:\
-          . e14 3 of -0, -0, 0:\
-          . e25 3 of -0, 0, 0:\
-          . e05 5 of 0, -0, -0, 0, 0:\
-          . f05 5 of 5, -1, -7, -2.5, 0.5:\
-          . f15 4 of -1, -7, -2.5, 0.5:\
-          a a04 4 distances of 4, 1, 3, 2 from 3 in 4 slots:\
-          a a04 5 in 5 slots:\
-          a a04 3 in 3 slots:\
-          a a01 1 of the first in 1 slot:\
-          a a01 0 of the first in no slot:\
-          a a00 5 of none in 5 slots:\
-          b b12 1 distance of -2^150 from 2^150:\
-          c c12 1 of the next above 2^150 from 1:\
-          d b12 1 of -2^150 from the next above 2^150:\
-          e b12 1 from its negative:\
-          i b12 1 from nan:\
-          j b12 1 from infinity:\
-          i b12 0 from nan in no slot:\
-          i b00 0 of none from nan:\
-          f e12 1 distance of -0 from 0:\
-          g e01 1 of 0 from -0:\
-          a a23 1 of 3 from 3:\
-          a e01 1 of 0 from 3:\
-          h g02 2 of 0.5, -0.5 from 0.25:",
+          . a04 4 median of 4, 1, 3, 2 in 4 slots:\n\
+          . a04 5 in 5 slots:\n\
+          . a04 3 in 3 slots:\n\
+          . a03 3 of the first 3 in 3 slots:\n\
+          . a02 2 of the first 2 in 2 slots:\n\
+          . a01 1 of the first in 1 slot:\n\
+          . a01 0 of the first in no slot:\n\
+          . a00 5 of none in 5 slots:\n\
+          . a00 0 of none in no slot:\n\
+          . b03 3 median of 2^150, -2^150, 2^150:\n\
+          . c02 2 of 1 and the next above 2^150:\n\
+          . d02 2 of the next below -2^150 and 1:\n\
+          . h03 3 of 1, 2, nan:\n\
+          . h03 2 of 1, 2, nan in 2 slots:\n\
+          . h34 1 of infinity:\n\
+          . h45 1 of -infinity:\n\
+          . e02 2 median of 0, -0:\n\
+          . e14 3 of -0, -0, 0:\n\
+          . e25 3 of -0, 0, 0:\n\
+          . e05 5 of 0, -0, -0, 0, 0:\n\
+          . f05 5 of 5, -1, -7, -2.5, 0.5:\n\
+          . f15 4 of -1, -7, -2.5, 0.5:\n\
+          a a04 4 distances of 4, 1, 3, 2 from 3 in 4 slots:\n\
+          a a04 5 in 5 slots:\n\
+          a a04 3 in 3 slots:\n\
+          a a01 1 of the first in 1 slot:\n\
+          a a01 0 of the first in no slot:\n\
+          a a00 5 of none in 5 slots:\n\
+          b b12 1 distance of -2^150 from 2^150:\n\
+          c c12 1 of the next above 2^150 from 1:\n\
+          d b12 1 of -2^150 from the next above 2^150:\n\
+          e b12 1 from its negative:\n\
+          i b12 1 from nan:\n\
+          j b12 1 from infinity:\n\
+          i b12 0 from nan in no slot:\n\
+          i b00 0 of none from nan:\n\
+          f e12 1 distance of -0 from 0:\n\
+          g e01 1 of 0 from -0:\n\
+          a a23 1 of 3 from 3:\n\
+          a e01 1 of 0 from 3:\n\
+          h g02 2 of 0.5, -0.5 from 0.25:\n",
     );
 }
 
@@ -69,7 +69,7 @@ const VALUES: [[f64; 5]; 7] = [
 ];
 
 fn values_of(byte: u8) -> [f64; 5] {
-    let k = (byte % 97) as usize;
+    let k = cases::letter(byte);
     if k < 7 {
         return VALUES[k];
     }
@@ -90,7 +90,7 @@ const MEDIANS: [f64; 8] = [
 ];
 
 fn median_from(byte: u8) -> f64 {
-    let k = (byte % 97) as usize;
+    let k = cases::letter(byte);
     if k < 8 {
         return MEDIANS[k];
     }
@@ -100,33 +100,13 @@ fn median_from(byte: u8) -> f64 {
     1.0 / 0.0
 }
 
-fn least(n: usize, most: usize) -> usize
-    ensures { λ r. ⌜ r ≤ most ⌝ }
-{
-    if n < most {
-        return n;
-    }
-    most
-}
-
-// The value of a digit, at most so much.
-fn digit(byte: u8, most: usize) -> usize
-    ensures { λ r. ⌜ r ≤ most ⌝ }
-{
-    least((byte % 48) as usize, most)
-}
-
 // Runs each case of a text.
 fn each_case(text: &[u8]) {
-    let mut from = 0;
-    let mut i = 0;
-    while i < text.len() {
-        let past = i + 1;
-        if text[i] == 58 {
-            case(&text[from..past]);
-            from = past;
-        }
-        i = past;
+    let n = cases::marks(text, b'\n');
+    let mut k = 0;
+    while k < n {
+        case(cases::part(text, b'\n', k));
+        k += 1;
     }
 }
 
@@ -136,9 +116,9 @@ fn case(c: &[u8]) {
     }
     show::words(&c[8..]);
     let kind = c[0];
-    let room = digit(c[6], 5);
-    let past = digit(c[4], 5);
-    let from = digit(c[3], past);
+    let room = cases::digit(c[6], 5);
+    let past = cases::digit(c[4], 5);
+    let from = cases::digit(c[3], past);
     let values = values_of(c[2]);
     line(kind, &values[from..past], room);
 }
@@ -154,14 +134,14 @@ fn line(kind: u8, values: &[f64], room: usize) {
 // The median with the first `room` of five slots lent.
 fn median_line(values: &[f64], room: usize) {
     let mut work = [9.0f64; 5];
-    let a = median::median_of(values, &mut work[0..least(room, 5)]);
-    told(a, least(values.len(), 5), &work);
+    let a = median::median_of(values, &mut work[0..numbers::least(room, 5)]);
+    told(a, numbers::least(values.len(), 5), &work);
 }
 
 fn mad_line(values: &[f64], median: f64, room: usize) {
     let mut work = [9.0f64; 5];
-    let a = median::mad_of(values, median, &mut work[0..least(room, 5)]);
-    told(a, least(values.len(), 5), &work);
+    let a = median::mad_of(values, median, &mut work[0..numbers::least(room, 5)]);
+    told(a, numbers::least(values.len(), 5), &work);
 }
 
 // The end of a line: the answer, and the slots that must not have changed.

@@ -1,9 +1,19 @@
 // Runs the reader of NumPy headers and values on both sides of each boundary of document 01 and prints what it answers. The file stdout holds
 // what must come out, written from the paper: a header's text is exactly as it gives it.
+//
+// The cases stand in tables, each up to its dollar sign, with bars between the columns: the label, then what the function of that name takes, where (1)
+// is column 1.
 ghost use Prim.Native.Nat.{_≤_};
-ghost use lib.ListN.{length};
 use npy::Header;
 use npy::Preamble;
+
+const PREAMBLE: usize = 1;
+
+const HEADER: usize = 2;
+
+const VALUE: usize = 3;
+
+const ROW: usize = 4;
 
 fn main() {
     preambles();
@@ -13,14 +23,38 @@ fn main() {
     bad_numbers();
     bad_texts();
     values();
-    odd_values();
     rows();
+}
+
+fn table(call: usize, text: &[u8]) {
+    let n = cases::marks(text, b'$');
+    let mut k = 0;
+    while k < n {
+        run(call, cases::part(text, b'$', k));
+        k += 1;
+    }
+}
+
+fn run(call: usize, line: &[u8]) {
+    show::words(cases::part(line, b'|', 0));
+    if call == PREAMBLE {
+        return preamble(cases::part(line, b'|', 1));
+    }
+    if call == HEADER {
+        return header(cases::part(line, b'|', 1));
+    }
+    if call == VALUE {
+        return value(line);
+    }
+    row(
+        cases::column_within(line, 1, 13),
+        cases::column_within(line, 2, 4),
+    );
 }
 
 // ---- the ten bytes
 
-fn preamble(label: &[u8], bytes: &[u8]) {
-    show::words(label);
+fn preamble(bytes: &[u8]) {
     match npy::read_preamble(bytes) {
         Preamble::Malformed => show::words(b" malformed"),
         Preamble::Length(size) => show::count(size),
@@ -29,21 +63,24 @@ fn preamble(label: &[u8], bytes: &[u8]) {
 }
 
 fn preambles() {
-    preamble(b"length 118", b"\x93NUMPY\x01\x00\x76\x00");
-    preamble(b"length 0", b"\x93NUMPY\x01\x00\x00\x00");
-    preamble(b"length 65535", b"\x93NUMPY\x01\x00\xff\xff");
-    preamble(b"eleven bytes", b"\x93NUMPY\x01\x00\x01\x02\x03");
-    preamble(b"nine bytes", b"\x93NUMPY\x01\x00\x76");
-    preamble(b"no bytes", b"");
-    preamble(b"version 2.0", b"\x93NUMPY\x02\x00\x76\x00");
-    preamble(b"version 1.1", b"\x93NUMPY\x01\x01\x76\x00");
-    preamble(b"another magic", b"\x92NUMPY\x01\x00\x76\x00");
+    table(
+        PREAMBLE,
+        b"\
+          length 118|\x93NUMPY\x01\x00\x76\x00$\
+          length 0|\x93NUMPY\x01\x00\x00\x00$\
+          length 65535|\x93NUMPY\x01\x00\xff\xff$\
+          eleven bytes|\x93NUMPY\x01\x00\x01\x02\x03$\
+          nine bytes|\x93NUMPY\x01\x00\x76$\
+          no bytes|$\
+          version 2.0|\x93NUMPY\x02\x00\x76\x00$\
+          version 1.1|\x93NUMPY\x01\x01\x76\x00$\
+          another magic|\x92NUMPY\x01\x00\x76\x00$",
+    );
 }
 
 // ---- the header's text
 
-fn header(label: &[u8], text: &[u8]) {
-    show::words(label);
+fn header(text: &[u8]) {
     match npy::read_header(text) {
         Header::Malformed => show::words(b" malformed"),
         Header::Shape(rows, bins) => {
@@ -55,190 +92,134 @@ fn header(label: &[u8], text: &[u8]) {
 }
 
 fn shapes() {
-    header(
-        b"(4, 1)",
-        b"{'descr': '<f4', 'fortran_order': False, 'shape': (4, 1), }\n",
-    );
-    header(
-        b"(0, 0)",
-        b"{'descr': '<f4', 'fortran_order': False, 'shape': (0, 0), }\n",
-    );
-    header(
-        b"(8000, 4096)",
-        b"{'descr': '<f4', 'fortran_order': False, 'shape': (8000, 4096), }\n",
-    );
-    header(
-        b"(10, 100)",
-        b"{'descr': '<f4', 'fortran_order': False, 'shape': (10, 100), }\n",
+    table(
+        HEADER,
+        b"\
+          (4, 1)|{'descr': '<f4', 'fortran_order': False, 'shape': (4, 1), }\n$\
+          (0, 0)|{'descr': '<f4', 'fortran_order': False, 'shape': (0, 0), }\n$\
+          (8000, 4096)|{'descr': '<f4', 'fortran_order': False, 'shape': (8000, 4096), }\n$\
+          (10, 100)|{'descr': '<f4', 'fortran_order': False, 'shape': (10, 100), }\n$",
     );
 }
 
 // A number above 4,294,967,295 is told as that.
 fn large_shapes() {
-    header(
-        b"the largest that is told",
-        b"{'descr': '<f4', 'fortran_order': False, 'shape': (4294967295, 4294967294), }\n",
-    );
-    header(
-        b"one more",
-        b"{'descr': '<f4', 'fortran_order': False, 'shape': (4294967296, 1), }\n",
-    );
-    header(
-        b"too large for a word",
-        b"{'descr': '<f4', 'fortran_order': False, 'shape': (1, 18446744073709551616), }\n",
-    );
-    header(
-        b"thirty digits",
-        b"{'descr': '<f4', 'fortran_order': False, 'shape': (100000000000000000000000000000, 3), }\n",
+    table(
+        HEADER,
+        b"\
+          the largest that is told|{'descr': '<f4', 'fortran_order': False, 'shape': (4294967295, 4294967294), }\n$\
+          one more|{'descr': '<f4', 'fortran_order': False, 'shape': (4294967296, 1), }\n$\
+          too large for a word|{'descr': '<f4', 'fortran_order': False, 'shape': (1, 18446744073709551616), }\n$\
+          thirty digits|{'descr': '<f4', 'fortran_order': False, 'shape': (100000000000000000000000000000, 3), }\n$",
     );
 }
 
 fn ends() {
-    header(
-        b"one space",
-        b"{'descr': '<f4', 'fortran_order': False, 'shape': (4, 1), } \n",
-    );
-    header(
-        b"seven spaces",
-        b"{'descr': '<f4', 'fortran_order': False, 'shape': (4, 1), }       \n",
-    );
-    header(
-        b"no line feed",
-        b"{'descr': '<f4', 'fortran_order': False, 'shape': (4, 1), }   ",
-    );
-    header(
-        b"a byte behind the line feed",
-        b"{'descr': '<f4', 'fortran_order': False, 'shape': (4, 1), }  \n ",
-    );
-    header(
-        b"a tab",
-        b"{'descr': '<f4', 'fortran_order': False, 'shape': (4, 1), }\t\n",
-    );
-    header(
-        b"a carriage return",
-        b"{'descr': '<f4', 'fortran_order': False, 'shape': (4, 1), }\r\n",
+    table(
+        HEADER,
+        b"\
+          one space|{'descr': '<f4', 'fortran_order': False, 'shape': (4, 1), } \n$\
+          seven spaces|{'descr': '<f4', 'fortran_order': False, 'shape': (4, 1), }       \n$\
+          no line feed|{'descr': '<f4', 'fortran_order': False, 'shape': (4, 1), }   $\
+          a byte behind the line feed|{'descr': '<f4', 'fortran_order': False, 'shape': (4, 1), }  \n $\
+          a tab|{'descr': '<f4', 'fortran_order': False, 'shape': (4, 1), }\t\n$\
+          a carriage return|{'descr': '<f4', 'fortran_order': False, 'shape': (4, 1), }\r\n$",
     );
 }
 
 fn bad_numbers() {
-    header(
-        b"a needless zero before N",
-        b"{'descr': '<f4', 'fortran_order': False, 'shape': (04, 1), }\n",
-    );
-    header(
-        b"a needless zero before B",
-        b"{'descr': '<f4', 'fortran_order': False, 'shape': (4, 00), }\n",
-    );
-    header(
-        b"no N",
-        b"{'descr': '<f4', 'fortran_order': False, 'shape': (, 1), }\n",
-    );
-    header(
-        b"a sign",
-        b"{'descr': '<f4', 'fortran_order': False, 'shape': (-4, 1), }\n",
-    );
-    header(
-        b"one dimension",
-        b"{'descr': '<f4', 'fortran_order': False, 'shape': (4,), }\n",
-    );
-    header(
-        b"three dimensions",
-        b"{'descr': '<f4', 'fortran_order': False, 'shape': (4, 1, 1), }\n",
-    );
-    header(
-        b"no space between",
-        b"{'descr': '<f4', 'fortran_order': False, 'shape': (4,1), }\n",
+    table(
+        HEADER,
+        b"\
+          a needless zero before N|{'descr': '<f4', 'fortran_order': False, 'shape': (04, 1), }\n$\
+          a needless zero before B|{'descr': '<f4', 'fortran_order': False, 'shape': (4, 00), }\n$\
+          no N|{'descr': '<f4', 'fortran_order': False, 'shape': (, 1), }\n$\
+          a sign|{'descr': '<f4', 'fortran_order': False, 'shape': (-4, 1), }\n$\
+          one dimension|{'descr': '<f4', 'fortran_order': False, 'shape': (4,), }\n$\
+          three dimensions|{'descr': '<f4', 'fortran_order': False, 'shape': (4, 1, 1), }\n$\
+          no space between|{'descr': '<f4', 'fortran_order': False, 'shape': (4,1), }\n$",
     );
 }
 
 fn bad_texts() {
-    header(
-        b"another type",
-        b"{'descr': '<f8', 'fortran_order': False, 'shape': (4, 1), }\n",
+    table(
+        HEADER,
+        b"\
+          another type|{'descr': '<f8', 'fortran_order': False, 'shape': (4, 1), }\n$\
+          the other order|{'descr': '<f4', 'fortran_order': True, 'shape': (4, 1), }\n$\
+          a space in front| {'descr': '<f4', 'fortran_order': False, 'shape': (4, 1), }\n$\
+          cut in the front|{'descr': '<f4', 'fortran_order': False, 'shape': $\
+          cut behind N|{'descr': '<f4', 'fortran_order': False, 'shape': (4$\
+          cut behind B|{'descr': '<f4', 'fortran_order': False, 'shape': (4, 1$\
+          empty|$",
     );
-    header(
-        b"the other order",
-        b"{'descr': '<f4', 'fortran_order': True, 'shape': (4, 1), }\n",
-    );
-    header(
-        b"a space in front",
-        b" {'descr': '<f4', 'fortran_order': False, 'shape': (4, 1), }\n",
-    );
-    header(
-        b"cut in the front",
-        b"{'descr': '<f4', 'fortran_order': False, 'shape': ",
-    );
-    header(
-        b"cut behind N",
-        b"{'descr': '<f4', 'fortran_order': False, 'shape': (4",
-    );
-    header(
-        b"cut behind B",
-        b"{'descr': '<f4', 'fortran_order': False, 'shape': (4, 1",
-    );
-    header(b"empty", b"");
 }
 
 // ---- values, by their bits as f64
 
-fn value(label: &[u8], a: u8, b: u8, c: u8, d: u8) {
-    show::words(label);
-    show::float(std::num::f32_to_f64_with_nan(npy::value_of(a, b, c, d)));
+// Of the bytes (1) to (4).
+fn value(line: &[u8]) {
+    float(npy::value_of(byte(line, 1), byte(line, 2), byte(line, 3), byte(line, 4)));
     show::end();
 }
 
-fn values() {
-    value(b"one", 0, 0, 128, 63);
-    value(b"minus two", 0, 0, 0, 192);
-    value(b"zero", 0, 0, 0, 0);
-    value(b"minus zero", 0, 0, 0, 128);
-    value(b"the least above zero", 1, 0, 0, 0);
-    value(b"2^126", 0, 0, 128, 126);
-    value(b"the largest", 255, 255, 127, 127);
+fn byte(line: &[u8], k: usize) -> u8 {
+    cases::column_within(line, k, 255) as u8
 }
 
-fn odd_values() {
-    value(b"infinity", 0, 0, 128, 127);
-    value(b"minus infinity", 0, 0, 128, 255);
-    value(b"the first NaN", 1, 0, 128, 127);
-    value(b"the last NaN", 255, 255, 255, 127);
-    value(b"the first NaN with a sign", 1, 0, 128, 255);
-    value(b"the last NaN with a sign", 255, 255, 255, 255);
+fn float(x: f32) {
+    show::float(std::num::f32_to_f64_with_nan(x));
+}
+
+fn values() {
+    table(
+        VALUE,
+        b"\
+          one|0|0|128|63$\
+          minus two|0|0|0|192$\
+          zero|0|0|0|0$\
+          minus zero|0|0|0|128$\
+          the least above zero|1|0|0|0$\
+          2^126|0|0|128|126$\
+          the largest|255|255|127|127$\
+          infinity|0|0|128|127$\
+          minus infinity|0|0|128|255$\
+          the first NaN|1|0|128|127$\
+          the last NaN|255|255|255|127$\
+          the first NaN with a sign|1|0|128|255$\
+          the last NaN with a sign|255|255|255|255$",
+    );
 }
 
 // ---- a row: as many values as the bytes hold whole and the row has slots for
 
-fn row(label: &[u8], many: usize, slots: usize)
+// The first `many` bytes of thirteen, into the first slots of four.
+fn row(many: usize, slots: usize)
     requires { ⌜ (many ≤ 13) × (slots ≤ 4) ⌝ }
 {
     let bytes = [0u8, 0, 128, 63, 0, 0, 0, 64, 0, 0, 64, 64, 7];
     let mut out = [9.0f32; 4];
-    show::words(label);
-    part(&bytes[0..many], &mut out, slots);
+    npy::read_values(&bytes[0..many], &mut out[0..slots]);
+    four(&out);
+}
+
+fn four(row: &[f32; 4]) {
+    float(row[0]);
+    float(row[1]);
+    float(row[2]);
+    float(row[3]);
     show::end();
 }
 
-fn part(bytes: &[u8], out: &mut [f32], slots: usize)
-    requires { ⌜ (slots ≤ length (now out)) × (4 ≤ length (now out)) ⌝ }
-{
-    npy::read_values(bytes, &mut out[0..slots]);
-    four(out);
-}
-
-fn four(row: &[f32])
-    requires { ⌜ 4 ≤ length (now row) ⌝ }
-{
-    show::float(std::num::f32_to_f64_with_nan(row[0]));
-    show::float(std::num::f32_to_f64_with_nan(row[1]));
-    show::float(std::num::f32_to_f64_with_nan(row[2]));
-    show::float(std::num::f32_to_f64_with_nan(row[3]));
-}
-
 fn rows() {
-    row(b"three values in four slots", 12, 4);
-    row(b"three values and a byte in four slots", 13, 4);
-    row(b"two values and three bytes in four slots", 11, 4);
-    row(b"three values in two slots", 12, 2);
-    row(b"three bytes in four slots", 3, 4);
-    row(b"no bytes in no slots", 0, 0);
+    table(
+        ROW,
+        b"\
+          three values in four slots|12|4$\
+          three values and a byte in four slots|13|4$\
+          two values and three bytes in four slots|11|4$\
+          three values in two slots|12|2$\
+          three bytes in four slots|3|4$\
+          no bytes in no slots|0|0$",
+    );
 }

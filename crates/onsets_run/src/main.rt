@@ -2,7 +2,8 @@
 // holds: that is proved only. Small inputs too. Prints the number, the count and each slot that is promised, those that were not lent
 // too. The file stdout holds what must come out: numbers by document 01, values by the Rust.
 //
-// The cases stand in tables, one to a line, with bars between the columns: the label, then the numbers that the function of that name takes.
+// The cases stand in tables, one to a line, with bars between the columns: the label, then the numbers that the function of that name takes, where (1) is
+// column 1.
 ghost use Prim.Native.Nat.{_≤_};
 use numbers::Listing;
 
@@ -55,20 +56,20 @@ flux of 0, above 2^126|20|22|2|1|2|3
 flux of below -2^126, 0|22|24|2|1|2|3
 flux of 0, infinity|24|26|2|1|2|3
 flux of nan, 0|26|28|2|1|2|3
-flux of nan, 0 in 1 slot|26|28|2|1|1|3",
+flux of nan, 0 in 1 slot|26|28|2|1|1|3\n",
     );
 }
 
-// The magnitudes from c[1] to c[2], as c[3] rows of c[4] bins, into the first c[5] slots; c[6] slots are shown.
-fn flux(c: [usize; 10]) {
-    let end = numbers::least(c[2], 28);
+// The magnitudes from (1) to (2), as (3) rows of (4) bins, into the first (5) slots; (6) slots are shown.
+fn flux(line: &[u8]) {
+    let end = cases::column_within(line, 2, 28);
     flux_of(
-        numbers::least(c[1], end),
+        cases::column_within(line, 1, end),
         end,
-        c[3],
-        c[4],
-        numbers::least(c[5], 26),
-        c[6],
+        cases::column(line, 3),
+        cases::column(line, 4),
+        cases::column_within(line, 5, 26),
+        cases::column(line, 6),
     );
 }
 
@@ -143,21 +144,21 @@ threshold of 0, above 2^150|27|29|3|2|3|2|2
 threshold of below -2^150, 0|29|31|3|2|3|2|2
 threshold of 0, -infinity|31|33|3|2|3|2|2
 threshold of nan, 0|33|35|3|2|3|2|2
-threshold of nan, 0 with 1|33|35|3|1|3|2|2",
+threshold of nan, 0 with 1|33|35|3|1|3|2|2\n",
     );
 }
 
-// The slots from c[1] to c[2], into the first c[3] slots, with c[4] to sort in; c[5] slots are shown, and those to sort in from c[6] to c[7].
-fn threshold(c: [usize; 10]) {
-    let end = numbers::least(c[2], 35);
+// The slots from (1) to (2), into the first (3) slots, with (4) to sort in; (5) slots are shown, and those to sort in from (6) to (7).
+fn threshold(line: &[u8]) {
+    let end = cases::column_within(line, 2, 35);
     threshold_of(
-        numbers::least(c[1], end),
+        cases::column_within(line, 1, end),
         end,
-        numbers::least(c[3], 26),
-        numbers::least(c[4], 26),
-        c[5],
-        c[6],
-        c[7],
+        cases::column_within(line, 3, 26),
+        cases::column_within(line, 4, 26),
+        cases::column(line, 5),
+        cases::column(line, 6),
+        cases::column(line, 7),
     );
 }
 
@@ -251,22 +252,22 @@ onsets of 0, 2^150, -1 above -2^150|33|36|31|34|48000|3|3
 onsets of above 2^150|36|39|25|28|48000|3|3
 onsets above what is above 2^150|39|42|34|37|48000|3|3
 onsets of nan|42|45|25|28|48000|3|3
-onsets above nan|39|42|37|40|48000|3|3",
+onsets above nan|39|42|37|40|48000|3|3\n",
     );
 }
 
-// The slots from c[1] to c[2] with the thresholds from c[3] to c[4], at rate c[5], into the first c[6] slots; c[7] are shown.
-fn onsets(c: [usize; 10]) {
-    let end = numbers::least(c[2], 45);
-    let high = numbers::least(c[4], 40);
+// The slots from (1) to (2) with the thresholds from (3) to (4), at rate (5), into the first (6) slots; (7) are shown.
+fn onsets(line: &[u8]) {
+    let end = cases::column_within(line, 2, 45);
+    let high = cases::column_within(line, 4, 40);
     onsets_of(
-        numbers::least(c[1], end),
+        cases::column_within(line, 1, end),
         end,
-        numbers::least(c[3], high),
+        cases::column_within(line, 3, high),
         high,
-        small(c[5]),
-        numbers::least(c[6], 26),
-        c[7],
+        cases::column_u32(line, 5),
+        cases::column_within(line, 6, 26),
+        cases::column(line, 7),
     );
 }
 
@@ -411,23 +412,23 @@ none of 0 in 0 slots|0|0|0|0|24|24|6|0|3
 -2^150|1|2|0|2|51|54|9|2|2
 below -2^150|1|2|0|2|54|57|9|2|2
 nan|1|2|0|2|57|60|9|2|2
-nan in 1 slot|1|2|0|2|57|60|9|1|2",
+nan in 1 slot|1|2|0|2|57|60|9|1|2\n",
     );
 }
 
-// The first c[4] of the peaks c[1] to c[3], of the curve from c[5] to c[6], with gap c[7], into the first c[8] slots; c[9] are shown.
-fn suppression(c: [usize; 10]) {
-    let end = numbers::least(c[6], 60);
+// The first (4) of the peaks (1) to (3), of the curve from (5) to (6), with gap (7), into the first (8) slots; (9) are shown.
+fn suppression(line: &[u8]) {
+    let end = cases::column_within(line, 6, 60);
     suppression_of(
-        small(c[1]),
-        small(c[2]),
-        small(c[3]),
-        numbers::least(c[4], 3),
-        numbers::least(c[5], end),
+        cases::column_u32(line, 1),
+        cases::column_u32(line, 2),
+        cases::column_u32(line, 3),
+        cases::column_within(line, 4, 3),
+        cases::column_within(line, 5, end),
         end,
-        c[7],
-        numbers::least(c[8], 26),
-        c[9],
+        cases::column(line, 7),
+        cases::column_within(line, 8, 26),
+        cases::column(line, 9),
     );
 }
 
@@ -533,17 +534,17 @@ times at 0|1048575|4|0|5
 times of frame 1048576 in 3 slots|1048576|4|48000|3
 times of 4 frames in 4 slots|1048575|4|48000|4
 times of 4 frames in 3 slots|1048575|4|48000|3
-times of 0 frames in 0 slots|1048576|0|48000|0",
+times of 0 frames in 0 slots|1048576|0|48000|0\n",
     );
 }
 
-// The first c[2] of four frames, the last of them c[1], at rate c[3], into the first c[4] of five slots.
-fn times(c: [usize; 10]) {
+// The first (2) of four frames, the last of them (1), at rate (3), into the first (4) of five slots.
+fn times(line: &[u8]) {
     times_of(
-        small(c[1]),
-        numbers::least(c[2], 4),
-        small(c[3]),
-        numbers::least(c[4], 26),
+        cases::column_u32(line, 1),
+        cases::column_within(line, 2, 4),
+        cases::column_u32(line, 3),
+        cases::column_within(line, 4, 26),
     );
 }
 
@@ -566,87 +567,43 @@ gap at 8533 is|8533
 gap at 8534 is|8534
 gap at 44100 is|44100
 gap at 48000 is|48000
-gap at 192000 is|192000",
+gap at 192000 is|192000\n",
     );
 }
 
-// The gap at rate c[1].
-fn gap(c: [usize; 10]) {
-    show::count(onsets::gap_of(small(c[1])));
+// The gap at rate (1).
+fn gap(line: &[u8]) {
+    show::count(onsets::gap_of(cases::column_u32(line, 1)));
     show::end();
 }
 
 // ---- the tables
 
 fn table(call: usize, lines: &[u8]) {
-    let mut at = 0;
-    while at < lines.len() {
-        let end = bytes::scan::find(lines, at, lines.len(), b'\n');
-        line(call, &lines[at..end]);
-        at = end + 1;
+    let n = cases::marks(lines, b'\n');
+    let mut k = 0;
+    while k < n {
+        run(call, cases::part(lines, b'\n', k));
+        k += 1;
     }
 }
 
-fn line(call: usize, line: &[u8]) {
-    show::words(&line[0..bytes::scan::find(line, 0, line.len(), b'|')]);
-    run(call, columns(line));
-}
-
-fn run(call: usize, c: [usize; 10]) {
+fn run(call: usize, line: &[u8]) {
+    show::words(cases::part(line, b'|', 0));
     if call == FLUX {
-        return flux(c);
+        return flux(line);
     }
     if call == THRESHOLD {
-        return threshold(c);
+        return threshold(line);
     }
     if call == ONSETS {
-        return onsets(c);
+        return onsets(line);
     }
     if call == SUPPRESSION {
-        return suppression(c);
+        return suppression(line);
     }
     if call == TIMES {
-        return times(c);
+        return times(line);
     }
-    gap(c);
-}
-
-// The numbers in the columns of a line. Column 0, the label, means nothing.
-fn columns(line: &[u8]) -> [usize; 10] {
-    let mut c = [0usize; 10];
-    let mut k = 0;
-    let mut i = 0;
-    while i < line.len() {
-        k = column_at(k, line[i]);
-        c[k] = with_digit(c[k], line[i]);
-        i += 1;
-    }
-    c
-}
-
-// The column of a byte after column k: the next where it is a bar.
-fn column_at(k: usize, byte: u8) -> usize
-    ensures { λ r. ⌜ r ≤ 9 ⌝ }
-{
-    if byte == b'|' {
-        return numbers::least(k, 8) + 1;
-    }
-    numbers::least(k, 9)
-}
-
-// The number with a digit more, and the largest of all where that comes near it or above it. Other bytes leave it.
-fn with_digit(n: usize, byte: u8) -> usize {
-    let digit = std::num::wrapping_sub_u8(byte, b'0');
-    if digit > 9 {
-        return n;
-    }
-    if n > 1844674407370955160 {
-        return 18446744073709551615;
-    }
-    n * 10 + digit as usize
-}
-
-// The number as a u32, or the largest of them.
-fn small(n: usize) -> u32 {
-    numbers::least(n, 4294967295) as u32
+    gap(line);
 }

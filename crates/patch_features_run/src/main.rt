@@ -1,6 +1,9 @@
 // Repairs of the features of a track of 36 rows, one after the other, refused and empty ones among them. After each, the curves are compared with those of
 // an analysis from nothing of the edited rows, and with those before it outside the slots that the answer names and at pairs that touch no replaced row:
 // no slot may differ, those behind the curves neither, and the rows replaced must be the new ones. The file stdout holds what must come out.
+//
+// The cases stand in tables, one to a line, with bars between the columns: the label, the numbers and values that the function of that name takes, where
+// (1) is column 1, and what they are about.
 ghost use Prim.Native.Nat.{_≤_, _<_};
 ghost use lib.ListN.{length};
 use patch_features::PatchedFeatures;
@@ -11,7 +14,7 @@ struct State {
     novelty: [f64; 38],
 }
 
-// a feature value from -5 to 5
+// A feature value from -5 to 5
 fn feature(seed: u32, k: u32) -> f64
     requires { ⌜ (seed < 1000) × (k < 1000) ⌝ }
 {
@@ -68,48 +71,21 @@ fn analysed() -> State {
     }
 }
 
-fn same_bits(a: f64, b: f64) -> bool {
-    floats::bits::bits_of(a) == floats::bits::bits_of(b)
-}
-
-// 1 where slot i lies outside first up to past and is not the same
-fn differ_outside(i: usize, first: usize, past: usize, same: bool) -> usize
+// 1 where slot i is of a pair that touches none of rows a up to b, and x and y differ.
+fn untouched(i: usize, a: usize, b: usize, x: f64, y: f64) -> usize
     ensures { λ r. ⌜ r ≤ 1 ⌝ }
 {
-    if same {
-        return 0;
-    }
-    if i < first {
-        return 1;
-    }
-    if past <= i {
-        return 1;
-    }
-    0
+    let own = cases::differ(i / 17, a, b, x, y);
+    let other = cases::differ(i / 17 + i % 17, a, b, x, y);
+    numbers::least(own, other)
 }
 
-// how many slots differ outside first up to past
-fn changed(old: &[f64], new: &[f64], first: usize, past: usize) -> usize {
-    let most = numbers::least(old.len(), new.len());
-    let mut count = 0;
-    let mut i = 0;
-    while i < most {
-        let same = same_bits(old[i], new[i]);
-        count += differ_outside(i, first, past, same);
-        i += 1;
-    }
-    count
-}
-
-// how many slots of pairs that touch none of rows a up to b differ
+// How many slots of pairs that touch none of rows a up to b differ.
 fn untouched_changed(old: &[f64; 614], new: &[f64; 614], a: usize, b: usize) -> usize {
     let mut count = 0;
     let mut i = 0;
     while i < 612 {
-        let same = same_bits(old[i], new[i]);
-        let own = differ_outside(i / 17, a, b, same);
-        let other = differ_outside(i / 17 + i % 17, a, b, same);
-        count += numbers::least(own, other);
+        count += untouched(i, a, b, old[i], new[i]);
         i += 1;
     }
     count
@@ -150,10 +126,10 @@ fn told(
     let n = named_in(answer);
     told_alone(answer);
     show::words(b", similarity changed");
-    show::count(changed(old, similarity, 0, 0));
+    show::count(cases::changed(old, similarity, 0, 0));
     show::words(b", changed outside");
-    show::count(changed(old, similarity, n[0], n[1]));
-    show::count(changed(old_novelty, novelty, n[2], n[3]));
+    show::count(cases::changed(old, similarity, n[0], n[1]));
+    show::count(cases::changed(old_novelty, novelty, n[2], n[3]));
 }
 
 // How many slots of each curve differ from an analysis from nothing.
@@ -161,8 +137,8 @@ fn compared(features: &[f64; 576], similarity: &[f64; 614], novelty: &[f64; 38])
     let fresh_similarity = similarity_of(features);
     let fresh_novelty = novelty_of(&fresh_similarity);
     show::words(b", not fresh");
-    show::count(changed(&fresh_similarity, similarity, 0, 0));
-    show::count(changed(&fresh_novelty, novelty, 0, 0));
+    show::count(cases::changed(&fresh_similarity, similarity, 0, 0));
+    show::count(cases::changed(&fresh_novelty, novelty, 0, 0));
     show::end();
 }
 
@@ -190,9 +166,9 @@ fn step(was: State, start: usize, new: &[f64], a: usize, b: usize) -> State
     show::words(b", untouched");
     show::count(untouched_changed(&old_similarity, &similarity, a, b));
     show::words(b", not new");
-    show::count(changed(&features[first..past], new, 0, 0));
+    show::count(cases::changed(&features[first..past], new, 0, 0));
     show::words(b", features");
-    show::count(changed(&old_features, &features, first, past));
+    show::count(cases::changed(&old_features, &features, first, past));
     compared(&features, &similarity, &novelty);
     State {
         features,
@@ -215,57 +191,55 @@ fn new_rows(seed: usize) -> [f64; 576] {
     rows
 }
 
-// A step: where it starts, so many new slots, the rows from a up to b that it should replace, and the seed of the new rows.
-const STEPS: [[usize; 5]; 24] = [
-    [0, 16, 0, 1, 1], // 0: row 0
-    [35, 16, 35, 36, 2], // 1: row 35
-    [18, 16, 18, 19, 3], // 2: row 18
-    [10, 48, 10, 13, 4], // 3: rows 10 to 12
-    [0, 576, 0, 36, 5], // 4: whole track
-    [20, 256, 20, 36, 6], // 5: rows 20 to 35
-    [0, 0, 0, 0, 0], // 6: none at 0
-    [18, 0, 0, 0, 0], // 7: none at 18
-    [36, 0, 0, 0, 0], // 8: none at 36
-    [37, 0, 0, 0, 0], // 9: none at 37
-    [3, 32, 3, 5, 7], // 10: rows 3 and 4
-    [5, 32, 5, 7, 8], // 11: rows 5 and 6
-    [5, 64, 5, 9, 9], // 12: rows 5 to 8
-    [7, 64, 7, 11, 10], // 13: rows 7 to 10
-    [7, 64, 7, 11, 10], // 14: rows 7 to 10 again
-    [1, 16, 1, 2, 11], // 15: row 1
-    [37, 16, 0, 0, 1], // 16: start 37
-    [2, 16, 2, 3, 12], // 17: row 2
-    [5, 24, 0, 0, 13], // 18: half a row
-    [35, 32, 0, 0, 14], // 19: past the end
-    [20, 16, 20, 21, 100], // 20: row 20 of zeros
-    [36, 16, 0, 0, 15], // 21: at the row count
-    [8, 16, 0, 0, 101], // 22: no number
-    [33, 16, 33, 34, 16], // 23: row 33
-];
-
-fn step_at(k: usize) -> [usize; 5] {
-    STEPS[numbers::least(k, 23)]
+fn steps(was: State) -> State {
+    each_step(
+        was,
+        b"step 0:|0|16|0|1|1|row 0
+step 1:|35|16|35|36|2|row 35
+step 2:|18|16|18|19|3|row 18
+step 3:|10|48|10|13|4|rows 10 to 12
+step 4:|0|576|0|36|5|whole track
+step 5:|20|256|20|36|6|rows 20 to 35
+step 6:|0|0|0|0|0|none at 0
+step 7:|18|0|0|0|0|none at 18
+step 8:|36|0|0|0|0|none at 36
+step 9:|37|0|0|0|0|none at 37
+step 10:|3|32|3|5|7|rows 3 and 4
+step 11:|5|32|5|7|8|rows 5 and 6
+step 12:|5|64|5|9|9|rows 5 to 8
+step 13:|7|64|7|11|10|rows 7 to 10
+step 14:|7|64|7|11|10|rows 7 to 10 again
+step 15:|1|16|1|2|11|row 1
+step 16:|37|16|0|0|1|start 37
+step 17:|2|16|2|3|12|row 2
+step 18:|5|24|0|0|13|half a row
+step 19:|35|32|0|0|14|past the end
+step 20:|20|16|20|21|100|row 20 of zeros
+step 21:|36|16|0|0|15|at the row count
+step 22:|8|16|0|0|101|no number
+step 23:|33|16|33|34|16|row 33\n",
+    )
 }
 
-fn steps(was: State) -> State {
+fn each_step(was: State, lines: &[u8]) -> State {
+    let n = cases::marks(lines, b'\n');
     let mut state = was;
     let mut k = 0;
-    while k < 24 {
-        show::words(b"step");
-        show::count(k);
-        show::words(b":");
-        state = step_of(state, step_at(k));
+    while k < n {
+        state = step_of(state, cases::part(lines, b'\n', k));
         k += 1;
     }
     state
 }
 
-fn step_of(was: State, c: [usize; 5]) -> State {
-    let b = numbers::least(c[3], 36);
-    let a = numbers::least(c[2], b);
-    let n = numbers::least(c[1], 576);
-    let rows = new_rows(c[4]);
-    step(was, c[0], &rows[0..n], a, b)
+// From row (1) on so many new slots (2), which should replace the rows (3) up to (4); the new rows are those of seed (5).
+fn step_of(was: State, line: &[u8]) -> State {
+    let b = cases::column_within(line, 4, 36);
+    let a = cases::column_within(line, 3, b);
+    let n = cases::column_within(line, 2, 576);
+    let rows = new_rows(cases::column(line, 5));
+    show::words(cases::part(line, b'|', 0));
+    step(was, cases::column(line, 1), &rows[0..n], a, b)
 }
 
 fn names_none(answer: PatchedFeatures) -> bool {
@@ -305,13 +279,13 @@ fn unchanged(was: State, features: [f64; 576], similarity: [f64; 614], novelty: 
     let old_features = was.features;
     let old_similarity = was.similarity;
     let old_novelty = was.novelty;
-    if changed(&old_features, &features, 0, 0) != 0 {
+    if cases::changed(&old_features, &features, 0, 0) != 0 {
         return false;
     }
-    if changed(&old_similarity, &similarity, 0, 0) != 0 {
+    if cases::changed(&old_similarity, &similarity, 0, 0) != 0 {
         return false;
     }
-    changed(&old_novelty, &novelty, 0, 0) == 0
+    cases::changed(&old_novelty, &novelty, 0, 0) == 0
 }
 
 fn none_anywhere(was: State) {
@@ -344,27 +318,42 @@ fn told_alone(answer: PatchedFeatures) {
     }
 }
 
-// One row, its first old and new features x[0] and x[1], with lent curves that are not its own and begin with x[2] and x[3]. The numbers c: rows,
-// start, so many new slots, and so many slots of each curve. Shown are the answer, how many features changed, and the novelty with its slot
-// that is not lent.
-fn line(c: [usize; 5], x: [f64; 4]) {
-    let slots = numbers::least(c[2], 16);
-    let room = numbers::least(c[3], 18);
-    let curve = numbers::least(c[4], 2);
-    let was = row(x[0]);
-    let new = row(x[1]);
-    let mut features = was;
-    let mut similarity = pairs(x[2]);
-    let mut novelty = [x[3], 0.0];
-    let answer = patch_features::patch_features(
-        &mut features,
-        c[0],
-        c[1],
-        &new[0..slots],
-        &mut similarity[0..room],
-        &mut novelty[0..curve],
+// One row, its first old and new features (6) and (7), with lent curves that are not its own and begin with (8) and (9). (1) rows, start (2), (3) new
+// slots, and so many slots of each curve: (4) and (5). Shown are the answer, how many features changed, and the novelty with its slot that is not
+// lent.
+fn line(line: &[u8]) {
+    show::words(cases::part(line, b'|', 0));
+    let new = row(value(line, 7));
+    patched(
+        line,
+        row(value(line, 6)),
+        &new[0..cases::column_within(line, 3, 16)],
+        pairs(value(line, 8)),
+        [value(line, 9), 0.0],
     );
-    told_alone(answer);
+}
+
+// The value that a column has as its one byte.
+fn value(line: &[u8], k: usize) -> f64 {
+    let text = cases::part(line, b'|', k);
+    if text.len() == 0 {
+        return 0.0;
+    }
+    cases::value(text[0])
+}
+
+fn patched(line: &[u8], was: [f64; 16], new: &[f64], was_pairs: [f64; 18], was_novelty: [f64; 2]) {
+    let mut features = was;
+    let mut similarity = was_pairs;
+    let mut novelty = was_novelty;
+    told_alone(patch_features::patch_features(
+        &mut features,
+        cases::column(line, 1),
+        cases::column(line, 2),
+        new,
+        &mut similarity[0..cases::column_within(line, 4, 18)],
+        &mut novelty[0..cases::column_within(line, 5, 2)],
+    ));
     left(&was, &features, &novelty);
 }
 
@@ -385,90 +374,47 @@ fn pairs(first: f64) -> [f64; 18] {
 
 fn left(was: &[f64; 16], features: &[f64; 16], novelty: &[f64; 2]) {
     show::words(b", features changed");
-    show::count(changed(was, features, 0, 0));
+    show::count(cases::changed(was, features, 0, 0));
     show::words(b", novelty");
     show::floats(novelty);
     show::end();
 }
 
-const ROOMS: [[usize; 5]; 10] = [
-    [1, 0, 16, 17, 1], // 0: one row
-    [1, 0, 16, 18, 2], // 1: more room
-    [1, 0, 16, 16, 1], // 2: short similarity
-    [1, 0, 16, 17, 0], // 3: short novelty
-    [1, 0, 0, 17, 0], // 4: short novelty, no rows
-    [50001, 0, 16, 17, 1], // 5: 50,001 rows
-    [50000, 0, 16, 17, 1], // 6: 50,000 rows
-    [1, 2, 0, 17, 1], // 7: no rows at 2
-    [1, 1, 16, 17, 1], // 8: a row at 1
-    [1, 1, 0, 17, 1], // 9: no rows at 1
-];
-
-fn room_at(k: usize) -> [usize; 5] {
-    ROOMS[numbers::least(k, 9)]
-}
-
-// 2^150, and the next float above it.
-const MOST: f64 = 1427247692705959881058285969449495136382746624.0;
-
-const ABOVE: f64 = 1427247692705960197970936026506845510558547968.0;
-
-// The values, in the room of case 0; 7 stands for no number.
-const VALUES: [f64; 13] = [
-    1.0, // 0: similarity 1
-    1.0000000000000002, // 1: similarity above 1
-    -1.0000000000000002, // 2: similarity below -1
-    7.0, // 3: similarity no number
-    MOST, // 4: novelty 2^150
-    ABOVE, // 5: novelty above 2^150
-    7.0, // 6: novelty no number
-    7.0, // 7: old no number
-    -MOST, // 8: old -2^150
-    -ABOVE, // 9: old below -2^150
-    7.0, // 10: new no number
-    MOST, // 11: new 2^150
-    ABOVE, // 12: new above 2^150
-];
-
-fn value_at(k: usize) -> f64 {
-    let x = VALUES[numbers::least(k, 12)];
-    if x == 7.0 {
-        return 0.0 / 0.0;
-    }
-    x
-}
-
-// Their places among the four: 0: the old feature, 1: the new one, 2: the similarity, 3: the novelty.
-const PLACES: [usize; 13] = [2, 2, 2, 2, 3, 3, 3, 0, 0, 0, 1, 1, 1];
-
-fn values_at(k: usize) -> [f64; 4] {
-    let mut x = [1.0, 1.0, 0.0, 0.5];
-    x[numbers::least(PLACES[numbers::least(k, 12)], 3)] = value_at(k);
-    x
-}
-
-// The rooms, then the values.
-fn lines() {
+fn each_line(lines: &[u8]) {
+    let n = cases::marks(lines, b'\n');
     let mut k = 0;
-    while k < 23 {
-        one_line(k);
+    while k < n {
+        line(cases::part(lines, b'\n', k));
         k += 1;
     }
 }
 
-fn one_line(k: usize) {
-    if k < 10 {
-        show::words(b"room");
-        show::count(k);
-        show::words(b":");
-        line(room_at(k), [1.0, 1.0, 0.0, 0.5]);
-        return;
-    }
-    let v = k - 10;
-    show::words(b"value");
-    show::count(v);
-    show::words(b":");
-    line(room_at(0), values_at(v));
+fn lines() {
+    each_line(
+        b"room 0:|1|0|16|17|1|1|1|0|h|one row
+room 1:|1|0|16|18|2|1|1|0|h|more room
+room 2:|1|0|16|16|1|1|1|0|h|short similarity
+room 3:|1|0|16|17|0|1|1|0|h|short novelty
+room 4:|1|0|0|17|0|1|1|0|h|short novelty, no rows
+room 5:|50001|0|16|17|1|1|1|0|h|50,001 rows
+room 6:|50000|0|16|17|1|1|1|0|h|50,000 rows
+room 7:|1|2|0|17|1|1|1|0|h|no rows at 2
+room 8:|1|1|16|17|1|1|1|0|h|a row at 1
+room 9:|1|1|0|17|1|1|1|0|h|no rows at 1
+value 0:|1|0|16|17|1|1|1|1|h|similarity 1
+value 1:|1|0|16|17|1|1|1|v|h|similarity above 1
+value 2:|1|0|16|17|1|1|1|w|h|similarity below -1
+value 3:|1|0|16|17|1|1|1|n|h|similarity no number
+value 4:|1|0|16|17|1|1|1|0|b|novelty 2^150
+value 5:|1|0|16|17|1|1|1|0|a|novelty above 2^150
+value 6:|1|0|16|17|1|1|1|0|n|novelty no number
+value 7:|1|0|16|17|1|n|1|0|h|old no number
+value 8:|1|0|16|17|1|c|1|0|h|old -2^150
+value 9:|1|0|16|17|1|d|1|0|h|old below -2^150
+value 10:|1|0|16|17|1|1|n|0|h|new no number
+value 11:|1|0|16|17|1|1|b|0|h|new 2^150
+value 12:|1|0|16|17|1|1|a|0|h|new above 2^150\n",
+    );
 }
 
 fn main() {

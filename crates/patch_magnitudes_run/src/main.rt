@@ -2,8 +2,10 @@
 // those of an analysis from nothing of the edited rows, and with those before it outside the slots that the answer names: all 32 slots of
 // each curve must be alike, the two behind the curve too, none may have changed outside, and the rows replaced must be the new ones. The file
 // stdout holds what must come out.
+//
+// The cases stand in tables, one to a line, with bars between the columns: the label, the numbers and texts that the function of that name takes, where
+// (1) is column 1, and what they are about.
 ghost use Prim.Native.Nat.{_≤_};
-ghost use lib.ListN.{length};
 use patch_magnitudes::Patched;
 
 struct State {
@@ -12,25 +14,39 @@ struct State {
     threshold: [f64; 32],
 }
 
-fn fresh(magnitudes: &[f32], flux: &mut [f64], threshold: &mut [f64])
-    requires { ⌜ 30 ≤ length (now flux) ⌝ }
-{
-    let mut work = [0.0f64; 21];
-    flux::spectral_flux(magnitudes, 30, 2, flux);
-    threshold::adaptive_threshold(&flux[0..30], threshold, &mut work);
+fn main() {
+    let s = steps(analysed());
+    none_anywhere(s);
+    lines();
+    widest();
 }
 
-// Slot 31 of the flux is no number: slots beyond the curve are not read.
+// Slot 31 is no number: slots beyond the curve are not read.
 fn lent() -> [f64; 32] {
     let mut curve = [9.0f64; 32];
     curve[31] = 0.0f64 / 0.0;
     curve
 }
 
-fn analysed(magnitudes: [f32; 60]) -> State {
+// An analysis from nothing: the flux of the rows, and the threshold of it.
+fn flux_of(magnitudes: &[f32; 60]) -> [f64; 32] {
     let mut flux = lent();
+    flux::spectral_flux(magnitudes, 30, 2, &mut flux);
+    flux
+}
+
+fn threshold_of(flux: &[f64; 32]) -> [f64; 32] {
+    let curve = &flux[..];
     let mut threshold = lent();
-    fresh(&magnitudes, &mut flux, &mut threshold);
+    let mut work = [0.0f64; 21];
+    threshold::adaptive_threshold(&curve[0..30], &mut threshold, &mut work);
+    threshold
+}
+
+fn analysed() -> State {
+    let magnitudes = track();
+    let flux = flux_of(&magnitudes);
+    let threshold = threshold_of(&flux);
     State {
         magnitudes,
         flux,
@@ -38,11 +54,38 @@ fn analysed(magnitudes: [f32; 60]) -> State {
     }
 }
 
-fn same_bits(a: f64, b: f64) -> bool {
-    floats::bits::bits_of(a) == floats::bits::bits_of(b)
+fn track() -> [f32; 60] {
+    let mut magnitudes = [0.0f32; 60];
+    spell(
+        b"CBEAAACAZgEABAEAABAEABrh]rCBABCAAABEECvkCBBBACECECAA][EEAACC",
+        &mut magnitudes,
+    );
+    magnitudes
 }
 
-// 1 where slot i lies outside first up to past and is not the same
+// A magnitude of a byte: its distance from A in quarters, but for what is far from 0.
+fn spelled(byte: u8) -> f32 {
+    match byte {
+        b'1' => 85070591730234615865843651857942052864.0, // 2^126
+        b'2' => 85070601871439417999505073614676459520.0, // the next above it
+        b'3' => -1.0f32 / 0.0,
+        b'z' => 1.0f32 / 0.0,
+        _ => (byte as f32 - 65.0) / 4.0,
+    }
+}
+
+fn spell(text: &[u8], values: &mut [f32]) {
+    let most = numbers::least(text.len(), values.len());
+    let mut i = 0;
+    while i < most {
+        values[i] = spelled(text[i]);
+        i += 1;
+    }
+}
+
+// ---- what has changed
+
+// 1 where slot i lies outside first up to past and is not the same.
 fn differ_outside(i: usize, first: usize, past: usize, same: bool) -> usize
     ensures { λ r. ⌜ r ≤ 1 ⌝ }
 {
@@ -58,18 +101,7 @@ fn differ_outside(i: usize, first: usize, past: usize, same: bool) -> usize
     0
 }
 
-// how many slots differ outside first up to past
-fn changed(old: &[f64; 32], new: &[f64; 32], first: usize, past: usize) -> usize {
-    let mut count = 0;
-    let mut i = 0;
-    while i < 32 {
-        let same = same_bits(old[i], new[i]);
-        count += differ_outside(i, first, past, same);
-        i += 1;
-    }
-    count
-}
-
+// How many magnitudes differ outside first up to past.
 fn magnitudes_changed(old: &[f32], new: &[f32], first: usize, past: usize) -> usize {
     let most = numbers::least(old.len(), new.len());
     let mut count = 0;
@@ -80,6 +112,11 @@ fn magnitudes_changed(old: &[f32], new: &[f32], first: usize, past: usize) -> us
         i += 1;
     }
     count
+}
+
+// How many slots of a curve differ outside first up to past.
+fn changed(old: &[f64; 32], new: &[f64; 32], first: usize, past: usize) -> usize {
+    cases::changed(old, new, first, past)
 }
 
 fn named(first: usize, past: usize) {
@@ -118,25 +155,23 @@ fn told(
     show::count(changed(old_threshold, threshold, n[2], n[3]));
 }
 
-// How many magnitudes changed outside the rows replaced, and how many slots of each curve differ from an analysis from nothing.
-fn compared(
-    old: &[f32; 60],
-    magnitudes: &[f32; 60],
-    at: usize,
-    past: usize,
-    flux: &[f64; 32],
-    threshold: &[f64; 32],
-) {
-    let mut fresh_flux = lent();
-    let mut fresh_threshold = lent();
-    fresh(magnitudes, &mut fresh_flux, &mut fresh_threshold);
+// How many magnitudes changed outside the rows replaced.
+fn kept(old: &[f32; 60], magnitudes: &[f32; 60], at: usize, past: usize) {
     show::words(b", magnitudes");
     show::count(magnitudes_changed(old, magnitudes, at, past));
+}
+
+// How many slots of each curve differ from an analysis from nothing.
+fn compared(magnitudes: &[f32; 60], flux: &[f64; 32], threshold: &[f64; 32]) {
+    let fresh = flux_of(magnitudes);
     show::words(b", not fresh");
-    show::count(changed(&fresh_flux, flux, 0, 0));
+    show::count(changed(&fresh, flux, 0, 0));
+    let fresh_threshold = threshold_of(&fresh);
     show::count(changed(&fresh_threshold, threshold, 0, 0));
     show::end();
 }
+
+// ---- steps
 
 // One patch and its line; `at` and `past` are the slots of the rows that it replaces, 0 and 0 where it should replace none.
 fn step(was: State, start: usize, new: &[f32], at: usize, past: usize) -> State
@@ -162,7 +197,8 @@ fn step(was: State, start: usize, new: &[f32], at: usize, past: usize) -> State
     told(answer, &old_flux, &flux, &old_threshold, &threshold);
     show::words(b", not new");
     show::count(magnitudes_changed(&magnitudes[at..past], new, 0, 0));
-    compared(&old_magnitudes, &magnitudes, at, past, &flux, &threshold);
+    kept(&old_magnitudes, &magnitudes, at, past);
+    compared(&magnitudes, &flux, &threshold);
     State {
         magnitudes,
         flux,
@@ -170,77 +206,67 @@ fn step(was: State, start: usize, new: &[f32], at: usize, past: usize) -> State
     }
 }
 
-// A magnitude of a byte: its distance from A in quarters; z: infinite.
-fn spelled(byte: u8) -> f32 {
-    if byte == 122 {
-        return 1.0f32 / 0.0;
-    }
-    (byte as f32 - 65.0) / 4.0
+// From row (1) on the rows that (2) spells; the slots (3) up to (4) are those of the rows that it should replace.
+fn step_of(was: State, line: &[u8]) -> State {
+    let text = cases::part(line, b'|', 2);
+    let past = cases::column_within(line, 4, 60);
+    let at = cases::column_within(line, 3, past);
+    let mut values = [0.0f32; 60];
+    spell(text, &mut values);
+    show::words(cases::part(line, b'|', 0));
+    step(
+        was,
+        cases::column(line, 1),
+        &values[0..numbers::least(text.len(), 60)],
+        at,
+        past,
+    )
 }
 
-fn spell(text: &[u8], values: &mut [f32]) {
-    let most = numbers::least(text.len(), values.len());
-    let mut i = 0;
-    while i < most {
-        values[i] = spelled(text[i]);
-        i += 1;
-    }
-}
-
-// A step: where it starts, its new slots in the text from the second number up to the third, and the slots of the rows that it should replace.
-fn steps(was: State) -> State {
-    let cases = [
-        [0usize, 0, 2, 0, 2], // 0: row 0
-        [29, 2, 4, 58, 60], // 1: row 29
-        [14, 4, 6, 28, 30], // 2: row 14
-        [10, 6, 12, 20, 26], // 3: rows 10 to 12
-        [0, 12, 72, 0, 60], // 4: whole track
-        [20, 72, 92, 40, 60], // 5: rows 20 to 29
-        [0, 92, 92, 0, 0], // 6: none at 0
-        [1, 92, 92, 0, 0], // 7: none at 1
-        [14, 92, 92, 0, 0], // 8: none at 14
-        [29, 92, 92, 0, 0], // 9: none at 29
-        [30, 92, 92, 0, 0], // 10: none at 30
-        [31, 92, 92, 0, 0], // 11: none at 31
-        [3, 92, 96, 6, 10], // 12: rows 3 and 4
-        [5, 96, 100, 10, 14], // 13: rows 5 and 6
-        [5, 100, 108, 10, 18], // 14: rows 5 to 8
-        [7, 108, 116, 14, 22], // 15: rows 7 to 10
-        [7, 116, 124, 14, 22], // 16: rows 7 to 10 again
-        [1, 124, 126, 2, 4], // 17: row 1
-        [31, 126, 128, 0, 0], // 18: start 31
-        [2, 128, 130, 4, 6], // 19: row 2
-        [5, 130, 133, 0, 0], // 20: half a row
-        [29, 133, 137, 0, 0], // 21: past the end
-        [28, 137, 139, 56, 58], // 22: row 28
-        [30, 139, 141, 0, 0], // 23: at the row count
-        [8, 141, 143, 0, 0], // 24: infinite
-        [17, 143, 145, 34, 36], // 25: row 17
-    ];
+fn each_step(was: State, lines: &[u8]) -> State {
+    let n = cases::marks(lines, b'\n');
     let mut state = was;
     let mut k = 0;
-    while k < 26 {
-        show::words(b"step");
-        show::count(k);
-        show::words(b":");
-        state = step_of(state, cases[k]);
+    while k < n {
+        state = step_of(state, cases::part(lines, b'\n', k));
         k += 1;
     }
     state
 }
 
-fn step_of(was: State, c: [usize; 5]) -> State {
-    let mut values = [0.0f32; 145];
-    spell(
-        b"BmAABmBGA``BADMCAADMCAADMCAAdmCAADMCAADMCAADMCaadMCAADMCAADMCAaDMCAADMCAmGGmA`BABAG`B`mAmBABmA`GGB`ABG`BBAAB`mGGBBAG`mGGBBAGmA`m`GGGEAmmBBAG`Ezm`",
-        &mut values,
-    );
-    let to = numbers::least(c[2], 145);
-    let from = numbers::least(c[1], to);
-    let past = numbers::least(c[4], 60);
-    let at = numbers::least(c[3], past);
-    step(was, c[0], &values[from..to], at, past)
+fn steps(was: State) -> State {
+    each_step(
+        was,
+        b"step 0:|0|Bm|0|2|row 0
+step 1:|29|AA|58|60|row 29
+step 2:|14|Bm|28|30|row 14
+step 3:|10|BGA``B|20|26|rows 10 to 12
+step 4:|0|ADMCAADMCAADMCAAdmCAADMCAADMCAADMCaadMCAADMCAADMCAaDMCAADMCA|0|60|whole track
+step 5:|20|mGGmA`BABAG`B`mAmBAB|40|60|rows 20 to 29
+step 6:|0||0|0|none at 0
+step 7:|1||0|0|none at 1
+step 8:|14||0|0|none at 14
+step 9:|29||0|0|none at 29
+step 10:|30||0|0|none at 30
+step 11:|31||0|0|none at 31
+step 12:|3|mA`G|6|10|rows 3 and 4
+step 13:|5|GB`A|10|14|rows 5 and 6
+step 14:|5|BG`BBAAB|10|18|rows 5 to 8
+step 15:|7|`mGGBBAG|14|22|rows 7 to 10
+step 16:|7|`mGGBBAG|14|22|rows 7 to 10 again
+step 17:|1|mA|2|4|row 1
+step 18:|31|`m|0|0|start 31
+step 19:|2|`G|4|6|row 2
+step 20:|5|GGE|0|0|half a row
+step 21:|29|AmmB|0|0|past the end
+step 22:|28|BA|56|58|row 28
+step 23:|30|G`|0|0|at the row count
+step 24:|8|Ez|0|0|infinite
+step 25:|17|m`|34|36|row 17\n",
+    )
 }
+
+// ---- empty patches
 
 fn names_none(answer: Patched) -> bool {
     match answer {
@@ -298,14 +324,7 @@ fn none_anywhere(was: State) {
     show::end();
 }
 
-fn track() -> [f32; 60] {
-    let mut magnitudes = [0.0f32; 60];
-    spell(
-        b"CBEAAACAZgEABAEAABAEABrh]rCBABCAAABEECvkCBBBACECECAA][EEAACC",
-        &mut magnitudes,
-    );
-    magnitudes
-}
+// ---- rooms and values
 
 fn told_alone(answer: Patched) {
     match answer {
@@ -327,30 +346,49 @@ fn told_alone(answer: Patched) {
     }
 }
 
-// A track of 3 rows of 1 bin, 0, y[0], 5, whose new row is y[1], with lent curves that are not its own and begin with x[0] and x[1]. The numbers
-// c: rows, bins, start, new slots, and so many slots of the flux, of the threshold and of the work slice. Shown are the answer, how many rows
-// changed, the four slots that the flux is lent from, and the two behind the three that are sorted in.
-fn line(c: [usize; 7], x: [f64; 2], y: [f32; 2]) {
-    let was = [0.0f32, y[0], 5.0];
-    let mut magnitudes = was;
-    let new = [y[1]; 1];
-    let mut flux = [0.0f64; 4];
-    flux[0] = x[0];
-    flux[3] = 0.0f64 / 0.0;
-    let mut threshold = [0.0f64; 4];
-    threshold[0] = x[1];
-    let mut work = [7.0f64; 5];
-    let answer = patch_magnitudes::patch_magnitudes(
-        &mut magnitudes,
-        c[0],
-        c[1],
-        c[2],
-        &new[0..numbers::least(c[3], 1)],
-        &mut flux[0..numbers::least(c[4], 4)],
-        &mut threshold[0..numbers::least(c[5], 4)],
-        &mut work[0..numbers::least(c[6], 5)],
+// A track of 3 rows of 1 bin, with lent curves that are not its own: the rows that (4) spells and the new one that (5) spells, the flux (6) and the
+// threshold (7). (1) rows, (2) bins, start (3), (8) new slots, and so many slots lent: (9) of the flux, (10) of the threshold and (11) of the work
+// slice. Shown are the answer, how many rows changed, the four slots that the flux is lent from, and the two behind the three that are sorted in.
+fn line(line: &[u8]) {
+    show::words(cases::part(line, b'|', 0));
+    let was = rows_of(cases::part(line, b'|', 4));
+    let new = rows_of(cases::part(line, b'|', 5));
+    patched(
+        line,
+        was,
+        &new[0..cases::column_within(line, 8, 1)],
+        curve_of(cases::part(line, b'|', 6)),
+        curve_of(cases::part(line, b'|', 7)),
     );
-    told_alone(answer);
+}
+
+fn rows_of(text: &[u8]) -> [f32; 3] {
+    let mut rows = [0.0f32; 3];
+    spell(text, &mut rows);
+    rows
+}
+
+fn curve_of(text: &[u8]) -> [f64; 4] {
+    let mut curve = [0.0f64; 4];
+    cases::spell(text, &mut curve);
+    curve
+}
+
+fn patched(line: &[u8], was: [f32; 3], new: &[f32], was_flux: [f64; 4], was_threshold: [f64; 4]) {
+    let mut magnitudes = was;
+    let mut flux = was_flux;
+    let mut threshold = was_threshold;
+    let mut work = [7.0f64; 5];
+    told_alone(patch_magnitudes::patch_magnitudes(
+        &mut magnitudes,
+        cases::column(line, 1),
+        cases::column(line, 2),
+        cases::column(line, 3),
+        new,
+        &mut flux[0..cases::column_within(line, 9, 4)],
+        &mut threshold[0..cases::column_within(line, 10, 4)],
+        &mut work[0..cases::column_within(line, 11, 5)],
+    ));
     left(&was, &magnitudes, &flux, &work);
 }
 
@@ -365,79 +403,48 @@ fn left(was: &[f32; 3], magnitudes: &[f32; 3], flux: &[f64; 4], work: &[f64; 5])
     show::end();
 }
 
-fn rooms() {
-    let cases = [
-        [3usize, 1, 1, 1, 3, 3, 3], // 0: row 1
-        [3, 1, 1, 1, 4, 4, 4], // 1: more room
-        [3, 1, 1, 1, 2, 3, 3], // 2: short flux
-        [3, 1, 1, 1, 3, 2, 3], // 3: short threshold
-        [3, 1, 1, 1, 3, 3, 2], // 4: short work
-        [3, 1, 1, 0, 3, 3, 2], // 5: short work, no rows
-        [3, 0, 1, 1, 2, 3, 3], // 6: no bins
-        [3, 4097, 1, 1, 2, 3, 3], // 7: 4,097 bins
-        [1048577, 1, 1, 1, 2, 3, 3], // 8: 1,048,577 rows
-        [1048576, 1, 1, 1, 2, 3, 3], // 9: 1,048,576 rows
-        [3, 1, 4, 0, 2, 3, 3], // 10: no rows at 4
-        [2, 1, 1, 1, 1, 3, 3], // 11: two rows of three
-        [3, 1, 3, 1, 1, 3, 3], // 12: a row at 3
-        [3, 1, 3, 0, 3, 3, 3], // 13: no rows at 3
-    ];
+fn each_line(lines: &[u8]) {
+    let n = cases::marks(lines, b'\n');
     let mut k = 0;
-    while k < 14 {
-        show::words(b"room");
-        show::count(k);
-        show::words(b":");
-        line(cases[k], [0.0, 0.0], [0.0, 2.0]);
+    while k < n {
+        line(cases::part(lines, b'\n', k));
         k += 1;
     }
 }
 
-fn values() {
-    let nan = 0.0f64 / 0.0;
-    let most = 1427247692705959881058285969449495136382746624.0f64; // 2^150
-    let above = 1427247692705960197970936026506845510558547968.0f64;
-    let large = 85070591730234615865843651857942052864.0f32; // 2^126
-    let larger = 85070601871439417999505073614676459520.0f32;
-    let infinite = 1.0f32 / 0.0;
-    let curves = [
-        [nan, 0.0], // 0: flux no number
-        [most, 0.0], // 1: flux 2^150
-        [above, 0.0], // 2: flux above 2^150
-        [0.0, 0.0], // 3: new 2^126
-        [0.0, 0.0], // 4: new above 2^126
-        [0.0, 0.0], // 5: new minus infinity
-        [0.0, 0.0], // 6: fine
-        [0.0, nan], // 7: threshold no number
-        [0.0, -most], // 8: threshold -2^150
-        [0.0, -above], // 9: threshold below -2^150
-        [0.0, 0.0], // 10: old infinite
-        [0.0, 0.0], // 11: old 2^126
-        [0.0, 0.0], // 12: old above 2^126
-    ];
-    let magnitudes = [
-        [0.0, 2.0],
-        [0.0, 2.0],
-        [0.0, 2.0],
-        [0.0, large],
-        [0.0, larger],
-        [0.0, -infinite],
-        [0.0, 2.0],
-        [0.0, 2.0],
-        [0.0, 2.0],
-        [0.0, 2.0],
-        [infinite, 2.0],
-        [large, 2.0],
-        [larger, 2.0],
-    ];
-    let mut k = 0;
-    while k < 13 {
-        show::words(b"value");
-        show::count(k);
-        show::words(b":");
-        line([3, 1, 1, 1, 3, 3, 5], curves[k], magnitudes[k]);
-        k += 1;
-    }
+fn lines() {
+    each_line(
+        b"room 0:|3|1|1|AAU|I|000n|0000|1|3|3|3|row 1
+room 1:|3|1|1|AAU|I|000n|0000|1|4|4|4|more room
+room 2:|3|1|1|AAU|I|000n|0000|1|2|3|3|short flux
+room 3:|3|1|1|AAU|I|000n|0000|1|3|2|3|short threshold
+room 4:|3|1|1|AAU|I|000n|0000|1|3|3|2|short work
+room 5:|3|1|1|AAU|I|000n|0000|0|3|3|2|short work, no rows
+room 6:|3|0|1|AAU|I|000n|0000|1|2|3|3|no bins
+room 7:|3|4097|1|AAU|I|000n|0000|1|2|3|3|4,097 bins
+room 8:|1048577|1|1|AAU|I|000n|0000|1|2|3|3|1,048,577 rows
+room 9:|1048576|1|1|AAU|I|000n|0000|1|2|3|3|1,048,576 rows
+room 10:|3|1|4|AAU|I|000n|0000|0|2|3|3|no rows at 4
+room 11:|2|1|1|AAU|I|000n|0000|1|1|3|3|two rows of three
+room 12:|3|1|3|AAU|I|000n|0000|1|1|3|3|a row at 3
+room 13:|3|1|3|AAU|I|000n|0000|0|3|3|3|no rows at 3
+value 0:|3|1|1|AAU|I|n00n|0000|1|3|3|5|flux no number
+value 1:|3|1|1|AAU|I|b00n|0000|1|3|3|5|flux 2^150
+value 2:|3|1|1|AAU|I|a00n|0000|1|3|3|5|flux above 2^150
+value 3:|3|1|1|AAU|1|000n|0000|1|3|3|5|new 2^126
+value 4:|3|1|1|AAU|2|000n|0000|1|3|3|5|new above 2^126
+value 5:|3|1|1|AAU|3|000n|0000|1|3|3|5|new minus infinity
+value 6:|3|1|1|AAU|I|000n|0000|1|3|3|5|fine
+value 7:|3|1|1|AAU|I|000n|n000|1|3|3|5|threshold no number
+value 8:|3|1|1|AAU|I|000n|c000|1|3|3|5|threshold -2^150
+value 9:|3|1|1|AAU|I|000n|d000|1|3|3|5|threshold below -2^150
+value 10:|3|1|1|AzU|I|000n|0000|1|3|3|5|old infinite
+value 11:|3|1|1|A1U|I|000n|0000|1|3|3|5|old 2^126
+value 12:|3|1|1|A2U|I|000n|0000|1|3|3|5|old above 2^126\n",
+    );
 }
+
+// ---- the widest rows
 
 // Two rows of 4,096 bins, the second replaced by ones.
 fn widest() {
@@ -447,7 +454,7 @@ fn widest() {
     let mut threshold = [0.0f64; 2];
     let mut work = [0.0f64; 2];
     show::words(b"4,096 bins:");
-    let answer = patch_magnitudes::patch_magnitudes(
+    told_alone(patch_magnitudes::patch_magnitudes(
         &mut magnitudes,
         2,
         4096,
@@ -456,19 +463,15 @@ fn widest() {
         &mut flux,
         &mut threshold,
         &mut work,
-    );
-    told_alone(answer);
-    show::words(b", not new");
-    show::count(magnitudes_changed(&magnitudes[4096..8192], &new, 0, 0));
-    show::words(b", flux");
-    show::floats(&flux);
-    show::end();
+    ));
+    wide(&magnitudes, &new, &flux);
 }
 
-fn main() {
-    let s = steps(analysed(track()));
-    none_anywhere(s);
-    rooms();
-    values();
-    widest();
+fn wide(magnitudes: &[f32; 8192], new: &[f32; 4096], flux: &[f64; 2]) {
+    let rows = &magnitudes[..];
+    show::words(b", not new");
+    show::count(magnitudes_changed(&rows[4096..8192], new, 0, 0));
+    show::words(b", flux");
+    show::floats(flux);
+    show::end();
 }

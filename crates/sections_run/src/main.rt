@@ -3,7 +3,7 @@
 // novelty's slots, and whole at a refusal. The file stdout holds what must come out: numbers by document 01, values by the Rust.
 //
 // The cases stand in tables, one to a line, with bars between the columns: the label, for boundaries the curve, and the numbers that the function
-// of that name takes.
+// of that name takes, where (1) is column 1.
 ghost use Prim.Native.Nat.{_≤_};
 use sections::Sections;
 
@@ -66,7 +66,7 @@ length 1 at rate 192000|015h07105q09h070150h30h0|1|192000|10|26|26
 length 2147483648 at rate 1|015h07105q09h070150h30h0|2147483648|1|10|26|26
 length 2147483648 at rate 192000|015h07105q09h070150h30h0|2147483648|192000|10|26|26
 length 24000 at rate 48000, gap 8|015h07105q09h070150h30h0|24000|48000|10|26|26
-length 0 in 23 slots|015h07105q09h070150h30h0|0|48000|10|23|26",
+length 0 in 23 slots|015h07105q09h070150h30h0|0|48000|10|23|26\n",
     );
 }
 
@@ -79,87 +79,36 @@ two of three thirds|00t0000t0000t000|192000|48000|3|26|26
 the greater of two zeros|mmmmzmmmm0mmmmmm|192000|48000|2|26|26
 a flat curve|ffffffffffffffff|192000|48000|10|26|26
 a peak at the threshold|0202020205020202|192000|48000|10|26|26
-a peak above the threshold|020202020u020202|192000|48000|10|26|26",
+a peak above the threshold|020202020u020202|192000|48000|10|26|26\n",
     );
 }
 
 fn values() {
     table(
         BOUNDARIES,
-        b"2^150 and -2^150|000b00000B000000|192000|48000|10|26|26
+        b"2^150 and -2^150|000b00000c000000|192000|48000|10|26|26
 the next above 2^150|000a000000000000|192000|48000|10|26|26
-the next below -2^150|000000000A000000|192000|48000|10|26|26
+the next below -2^150|000000000d000000|192000|48000|10|26|26
 a nan|000000000n000000|192000|48000|10|26|26
 infinity|000i000000000000|192000|48000|10|26|26
--infinity|000000000I000000|192000|48000|10|26|26
+-infinity|000000000j000000|192000|48000|10|26|26
 a nan in 15 slots|000000000n000000|192000|48000|10|15|26
-a nan in 15 rows|000000000n00000|192000|48000|10|26|26",
+a nan in 15 rows|000000000n00000|192000|48000|10|26|26\n",
     );
 }
 
-// What a byte of a curve stands for: a letter for a value that is no digit.
-fn value(byte: u8) -> f64 {
-    match byte {
-        b'q' => 0.25,
-        b'h' => 0.5,
-        b't' => 0.1,
-        b'f' => 2.5,
-        b'u' => 5.000000000000001,
-        b'z' => -0.0,
-        b'm' => -1.0,
-        _ => far_value(byte),
-    }
-}
-
-// 2^150, the next above it, their negatives, infinity, minus infinity, and what is no number.
-fn far_value(byte: u8) -> f64 {
-    match byte {
-        b'b' => 1427247692705959881058285969449495136382746624.0,
-        b'B' => -1427247692705959881058285969449495136382746624.0,
-        b'a' => 1427247692705960197970936026506845510558547968.0,
-        b'A' => -1427247692705960197970936026506845510558547968.0,
-        b'i' => 1.0 / 0.0,
-        b'I' => -1.0 / 0.0,
-        b'n' => 0.0 / 0.0,
-        _ => byte as f64 - 48.0,
-    }
-}
-
-fn spell(text: &[u8], values: &mut [f64]) {
-    let most = numbers::least(text.len(), values.len());
-    let mut i = 0;
-    while i < most {
-        values[i] = value(text[i]);
-        i += 1;
-    }
-}
-
-// The curve that the text spells after a bar, c[2] samples at rate c[3], at most c[4] sections, the first c[5] slots of rows and c[6] of work.
-fn boundaries(text: &[u8], c: [usize; 10]) {
-    let from = numbers::least(1, text.len());
-    let end = bytes::scan::find(text, from, text.len(), b'|');
-    boundaries_by(
-        &text[from..end],
-        c[2] as u64,
-        small(c[3]),
-        c[4],
-        numbers::least(c[5], 26),
-        numbers::least(c[6], 26),
-    );
-}
-
-fn boundaries_by(text: &[u8], samples: u64, rate: u32, most: usize, room: usize, space: usize)
-    requires { ⌜ (room ≤ 26) × (space ≤ 26) ⌝ }
-{
+// The curve that (1) spells, (2) samples at rate (3), at most (4) sections, the first (5) slots of rows and (6) of work.
+fn boundaries(line: &[u8]) {
+    let text = cases::part(line, b'|', 1);
     let mut curve = [0.0f64; 24];
-    spell(text, &mut curve);
+    cases::spell(text, &mut curve);
     boundaries_of(
         &curve[0..numbers::least(text.len(), 24)],
-        samples,
-        rate,
-        most,
-        room,
-        space,
+        cases::column(line, 2) as u64,
+        cases::column_u32(line, 3),
+        cases::column(line, 4),
+        cases::column_within(line, 5, 26),
+        cases::column_within(line, 6, 26),
     );
 }
 
@@ -256,19 +205,19 @@ times at length 2147483649, rate 1|6|8|2147483649|1|2
 times at length 1, rate 0|6|8|1|0|2
 times at length 1, rate 1|6|8|1|1|2
 times at length 1, rate 192001|6|8|1|192001|2
-times at length 2147483648, rate 192000|6|8|2147483648|192000|2",
+times at length 2147483648, rate 192000|6|8|2147483648|192000|2\n",
     );
 }
 
-// The rows from c[1] to c[2], c[3] samples at rate c[4], into the first c[5] of six slots.
-fn times(c: [usize; 10]) {
-    let end = numbers::least(c[2], 8);
+// The rows from (1) to (2), (3) samples at rate (4), into the first (5) of six slots.
+fn times(line: &[u8]) {
+    let end = cases::column_within(line, 2, 8);
     times_of(
-        numbers::least(c[1], end),
+        cases::column_within(line, 1, end),
         end,
-        c[3] as u64,
-        small(c[4]),
-        numbers::least(c[5], 6),
+        cases::column(line, 3) as u64,
+        cases::column_u32(line, 4),
+        cases::column_within(line, 5, 6),
     );
 }
 
@@ -301,14 +250,14 @@ gap 192000 48000|192000|48000
 gap 191999 48000|191999|48000
 gap 192001 48000|192001|48000
 gap 7 44100|7|44100
-gap 11025 44100|11025|44100",
+gap 11025 44100|11025|44100\n",
     );
 }
 
-// The gap of c[1] samples at rate c[2].
-fn gap(c: [usize; 10]) {
-    let samples = c[1] as u64;
-    let rate = small(c[2]);
+// The gap of (1) samples at rate (2).
+fn gap(line: &[u8]) {
+    let samples = cases::column(line, 1) as u64;
+    let rate = cases::column_u32(line, 2);
     show::count(sections::section_gap(samples, rate));
     show::float(sections::frame_ms(samples, rate));
     show::end();
@@ -317,67 +266,21 @@ fn gap(c: [usize; 10]) {
 // ---- the tables
 
 fn table(call: usize, lines: &[u8]) {
-    let mut at = 0;
-    while at < lines.len() {
-        let end = bytes::scan::find(lines, at, lines.len(), b'\n');
-        line(call, &lines[at..end]);
-        at = end + 1;
+    let n = cases::marks(lines, b'\n');
+    let mut k = 0;
+    while k < n {
+        run(call, cases::part(lines, b'\n', k));
+        k += 1;
     }
 }
 
-fn line(call: usize, line: &[u8]) {
-    let bar = bytes::scan::find(line, 0, line.len(), b'|');
-    show::words(&line[0..bar]);
-    run(call, &line[bar..], columns(line));
-}
-
-// The text is what stands behind the label.
-fn run(call: usize, text: &[u8], c: [usize; 10]) {
+fn run(call: usize, line: &[u8]) {
+    show::words(cases::part(line, b'|', 0));
     if call == TIMES {
-        return times(c);
+        return times(line);
     }
     if call == GAPS {
-        return gap(c);
+        return gap(line);
     }
-    boundaries(text, c);
-}
-
-// The numbers in the columns of a line. Column 0, the label, means nothing.
-fn columns(line: &[u8]) -> [usize; 10] {
-    let mut c = [0usize; 10];
-    let mut k = 0;
-    let mut i = 0;
-    while i < line.len() {
-        k = column_at(k, line[i]);
-        c[k] = with_digit(c[k], line[i]);
-        i += 1;
-    }
-    c
-}
-
-// The column of a byte after column k: the next where it is a bar.
-fn column_at(k: usize, byte: u8) -> usize
-    ensures { λ r. ⌜ r ≤ 9 ⌝ }
-{
-    if byte == b'|' {
-        return numbers::least(k, 8) + 1;
-    }
-    numbers::least(k, 9)
-}
-
-// The number with a digit more, and the largest of all where that comes near it or above it. Other bytes leave it.
-fn with_digit(n: usize, byte: u8) -> usize {
-    let digit = std::num::wrapping_sub_u8(byte, b'0');
-    if digit > 9 {
-        return n;
-    }
-    if n > 1844674407370955160 {
-        return 18446744073709551615;
-    }
-    n * 10 + digit as usize
-}
-
-// The number as a u32, or the largest of them.
-fn small(n: usize) -> u32 {
-    numbers::least(n, 4294967295) as u32
+    boundaries(line);
 }

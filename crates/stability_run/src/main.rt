@@ -1,6 +1,6 @@
 // Runs `stability::stability_of` on both sides of each boundary and prints what it answers; the file stdout holds what must come out.
 //
-// The cases stand in tables, one to a line, with bars between the columns: the label, then the numbers that `run` takes.
+// The cases stand in tables, one to a line, with bars between the columns: the label, then the numbers that `run` takes, where (1) is column 1.
 ghost use Prim.Native.Nat.{_≤_};
 use lags::TempoOpts;
 use stability::Stability;
@@ -35,18 +35,18 @@ whole lag 2:|0|30|512|0|2|5|5|5
 whole lag 1:|0|30|512|0|1|5|5|5
 whole lag 0:|0|30|512|0|0|5|5|5
 whole lag 6:|0|30|512|0|6|5|5|5
-whole lag 45,000:|0|30|512|0|45000|5|5|5",
+whole lag 45,000:|0|30|512|0|45000|5|5|5\n",
     );
 }
 
 fn contents() {
     table(
-        b"000000000000000000000000hhhhhhhhhhhhhhhhhhhhhhhh010101010101000000000000z1z1z1zzzzzzzzzzzzz1z1z1",
+        b"000000000000000000000000ffffffffffffffffffffffff010101010101000000000000z1z1z1zzzzzzzzzzzzz1z1z1",
         PAST_LAGS,
         b"all zero:|0|24|512|0|2|5|5|5
 constant:|24|48|512|0|2|5|5|5
 two windows flat:|48|72|512|0|2|5|5|5
-two windows of -0:|72|96|512|0|4|5|5|5",
+two windows of -0:|72|96|512|0|4|5|5|5\n",
     );
 }
 
@@ -60,13 +60,13 @@ rate 0:|0|12|0|0|4|5|5|5
 rate 192,001:|0|12|192001|1|4|5|5|5
 rate 192,000, lags 150 to 151, no windows:|0|12|192000|1|4|5|5|5
 upper bound infinite:|0|12|512|2|4|5|5|5
-lower bound a NaN:|0|12|512|3|4|5|5|5",
+lower bound a NaN:|0|12|512|3|4|5|5|5\n",
     );
 }
 
 fn values() {
     table(
-        b"03010301030ni3010301030103010301030a",
+        b"03010301030nj3010301030103010301030a",
         ALL_FIVE,
         b"a NaN:|0|12|512|0|4|5|5|5
 a NaN, whole lag 0:|0|12|512|0|0|5|5|5
@@ -74,7 +74,7 @@ a NaN alone:|11|12|512|0|4|5|5|5
 minus infinity:|12|24|512|0|4|5|5|5
 the next above 2^150:|24|36|512|0|4|5|5|5
 too little room and a NaN:|0|12|512|0|4|3|3|3
-too little room and whole lag 45,001:|0|12|512|0|45001|3|3|3",
+too little room and whole lag 45,001:|0|12|512|0|45001|3|3|3\n",
     );
 }
 
@@ -86,7 +86,7 @@ fn rooms() {
 clarity one short:|0|12|512|0|4|3|4|4
 weight one short:|0|12|512|0|4|4|3|4
 work one short:|0|12|512|0|4|4|4|3
-work one short for no slots:|0|0|512|0|4|4|4|3",
+work one short for no slots:|0|0|512|0|4|4|4|3\n",
     );
 }
 
@@ -102,7 +102,7 @@ periods 5, 5, 10 and 7, whole lag 3:|0|92|2560|0|3|19|19|19
 periods 5, 5, 10 and 7, whole lag 2:|0|92|2560|0|2|19|19|19
 periods 5, 5, 10 and 7, whole lag 7:|0|92|2560|0|7|19|19|19
 periods 5, 5, 10 and 7, whole lag 14:|0|92|2560|0|14|19|19|19
-periods 5, 5, 10 and 7, whole lag 4:|0|92|2560|0|4|19|19|19",
+periods 5, 5, 10 and 7, whole lag 4:|0|92|2560|0|4|19|19|19\n",
     );
     table(
         b"0070000000700000007000007000000000000000700000700070007000700070000070000000070000000070",
@@ -115,7 +115,7 @@ periods 8, 16, 4 and 9, whole lag 9:|0|88|2560|0|9|19|19|19
 periods 8, 16, 4 and 9, whole lag 18:|0|88|2560|0|18|19|19|19
 periods 8, 16, 4 and 9, whole lag 17:|0|88|2560|0|17|19|19|19
 periods 8, 16, 4 and 9, whole lag 19:|0|88|2560|0|19|19|19|19
-periods 8, 16, 4 and 9, whole lag 32:|0|88|2560|0|32|19|19|19",
+periods 8, 16, 4 and 9, whole lag 32:|0|88|2560|0|32|19|19|19\n",
     );
     table(
         b"7850255171607909669091111465697778188049170317974054293825773564363363953227501421774366875975104904",
@@ -124,7 +124,7 @@ periods 8, 16, 4 and 9, whole lag 32:|0|88|2560|0|32|19|19|19",
 noise, whole lag 10:|0|100|2560|0|10|19|19|19
 noise, whole lag 11:|0|100|2560|0|11|19|19|19
 noise, whole lag 12:|0|100|2560|0|12|19|19|19
-noise, whole lag 13:|0|100|2560|0|13|19|19|19",
+noise, whole lag 13:|0|100|2560|0|13|19|19|19\n",
     );
 }
 
@@ -139,62 +139,32 @@ const NOTHING: usize = 5;
 
 fn table(text: &[u8], shown: usize, lines: &[u8]) {
     let mut envelope = [0.0f64; 100];
-    spell(text, &mut envelope);
-    let mut at = 0;
-    while at < lines.len() {
-        let end = bytes::scan::find(lines, at, lines.len(), b'\n');
-        line(&envelope, shown, &lines[at..end]);
-        at = end + 1;
+    cases::spell(text, &mut envelope);
+    each(&envelope, shown, lines);
+}
+
+fn each(envelope: &[f64], shown: usize, lines: &[u8]) {
+    let n = cases::marks(lines, b'\n');
+    let mut k = 0;
+    while k < n {
+        run(envelope, shown, cases::part(lines, b'\n', k));
+        k += 1;
     }
 }
 
-fn line(envelope: &[f64], shown: usize, line: &[u8]) {
-    show::words(&line[0..bytes::scan::find(line, 0, line.len(), b'|')]);
-    run(envelope, shown, columns(line));
-}
-
-fn spell(text: &[u8], values: &mut [f64]) {
-    let most = numbers::least(text.len(), values.len());
-    let mut i = 0;
-    while i < most {
-        values[i] = value(text[i]);
-        i += 1;
-    }
-}
-
-// What a byte of an envelope stands for: a letter for a value that is no digit.
-fn value(byte: u8) -> f64 {
-    if byte == b'h' {
-        return 2.5;
-    }
-    if byte == b'z' {
-        return -0.0;
-    }
-    if byte == b'n' {
-        return 0.0 / 0.0;
-    }
-    if byte == b'i' {
-        return -1.0 / 0.0;
-    }
-    // the next above 2^150
-    if byte == b'a' {
-        return 1427247692705960198167543979640382187474485248.0;
-    }
-    byte as f64 - 48.0
-}
-
-// The slots from c[1] to c[2] of the envelope, at rate c[3], the bounds c[4] of the tempo, the whole lag c[5], and so many slots lent: c[6] of
-// clarity, c[7] of weight, c[8] of work.
-fn run(envelope: &[f64], shown: usize, c: [usize; 10]) {
-    let end = numbers::least(c[2], envelope.len());
+// The slots from (1) to (2) of the envelope, at rate (3), the bounds (4) of the tempo, the whole lag (5), and so many slots lent: (6) of
+// clarity, (7) of weight, (8) of work.
+fn run(envelope: &[f64], shown: usize, line: &[u8]) {
+    show::words(cases::part(line, b'|', 0));
+    let end = cases::column_within(line, 2, envelope.len());
     stability(
-        &envelope[numbers::least(c[1], end)..end],
-        small(c[3]),
-        bounds_of(c[4]),
-        c[5],
-        numbers::least(c[6], 19),
-        numbers::least(c[7], 19),
-        numbers::least(c[8], 19),
+        &envelope[cases::column_within(line, 1, end)..end],
+        cases::column_u32(line, 3),
+        bounds_of(cases::column(line, 4)),
+        cases::column(line, 5),
+        cases::column_within(line, 6, 19),
+        cases::column_within(line, 7, 19),
+        cases::column_within(line, 8, 19),
         shown,
     );
 }
@@ -238,46 +208,6 @@ fn bounds_of(k: usize) -> TempoOpts {
         return TempoOpts::between(0.0 / 0.0, 300.0);
     }
     TempoOpts::new()
-}
-
-// The numbers in the columns of a line. Column 0, the label, means nothing.
-fn columns(line: &[u8]) -> [usize; 10] {
-    let mut c = [0usize; 10];
-    let mut k = 0;
-    let mut i = 0;
-    while i < line.len() {
-        k = column_at(k, line[i]);
-        c[k] = with_digit(c[k], line[i]);
-        i += 1;
-    }
-    c
-}
-
-// The column of a byte after column k: the next where it is a bar.
-fn column_at(k: usize, byte: u8) -> usize
-    ensures { λ r. ⌜ r ≤ 9 ⌝ }
-{
-    if byte == b'|' {
-        return numbers::least(k, 8) + 1;
-    }
-    numbers::least(k, 9)
-}
-
-// The number with a digit more, and the largest of all where that comes near it or above it. Other bytes leave it.
-fn with_digit(n: usize, byte: u8) -> usize {
-    let digit = std::num::wrapping_sub_u8(byte, b'0');
-    if digit > 9 {
-        return n;
-    }
-    if n > 1844674407370955160 {
-        return 18446744073709551615;
-    }
-    n * 10 + digit as usize
-}
-
-// The number as a u32, or the largest of them.
-fn small(n: usize) -> u32 {
-    numbers::least(n, 4294967295) as u32
 }
 
 // The slots of a lent slice that a table shows.

@@ -2,85 +2,44 @@
 // formula, and all of them at a refusal, must be as they were (9). The file stdout holds what must come out.
 ghost use Prim.Native.Nat.{_≤_};
 
-// The cases of the refusals, each up to its colon: s for similarity or n for novelty; what is lent to it, which is the first digit in every slot,
-// but one in slot 17 and, in the slot that is told, the value by its letter; how many slots of that are lent; the rows; how many slots are lent to
+// The cases of the refusals, one to a line: s for similarity or n for novelty; what is lent to it, which is the first digit in every slot,
+// but one in slot 17 and, in the slot that is told, the value by its letter or digit; how many slots of that are lent; the rows; how many slots are lent to
 // be written, of eighteen for similarity and of three for novelty; and what the line begins with. Letters from a on are numbers from ten on, and
 // rows y and z 50,000 and 50,001. A lower number goes before a higher one; a slot that the kernel never reads, 16, is judged too.
 fn refusals() {
     each_case(
         b"\
-          s 10a 0 z 0 similarity, 50001 rows:\
-          s 10a 0 y 0 similarity, 50000 rows without values:\
-          s 10a f 1 i similarity, 15 values:\
-          s 10a h 1 i similarity, 17 values:\
-          s 10a g 1 g similarity, 16 slots:\
-          s 10a g 1 h similarity, 17 slots:\
-          s 10a g 1 i similarity, 18 slots:\
-          s 10a 0 0 i similarity, no rows:\
-          s 07e g 1 h 2^150:\
-          s 07f g 1 h -2^150:\
-          s 07g g 1 h above 2^150:\
-          s 07h g 1 h NaN:\
-          s 07i g 1 h infinity:\
-          s 10h f 1 g NaN and 15 values and 16 slots:\
-          s 10h g 1 g NaN and 16 slots:\
-          n 00a 0 z 0 novelty, 50001 rows:\
-          n 00a 0 y 0 novelty, 50000 rows without slots:\
-          n 00a x 2 3 novelty, 33 similarities:\
-          n 00a z 2 3 novelty, 35 similarities:\
-          n 00a y 2 1 novelty, 1 slot:\
-          n 00a y 2 2 novelty, 2 slots:\
-          n 00a y 2 3 novelty, 3 slots:\
-          n 00a 0 0 3 novelty, no rows:\
-          n 00a h 1 1 1:\
-          n 00b h 1 1 -1:\
-          n 00c h 1 1 above 1:\
-          n 00d h 1 1 below -1:\
-          n 00h h 1 1 NaN:\
-          n 0ga h 1 1 unread 1:\
-          n 0gc h 1 1 unread above 1:",
+          s 101 0 z 0 similarity, 50001 rows:\n\
+          s 101 0 y 0 similarity, 50000 rows without values:\n\
+          s 101 f 1 i similarity, 15 values:\n\
+          s 101 h 1 i similarity, 17 values:\n\
+          s 101 g 1 g similarity, 16 slots:\n\
+          s 101 g 1 h similarity, 17 slots:\n\
+          s 101 g 1 i similarity, 18 slots:\n\
+          s 101 0 0 i similarity, no rows:\n\
+          s 07b g 1 h 2^150:\n\
+          s 07c g 1 h -2^150:\n\
+          s 07a g 1 h above 2^150:\n\
+          s 07n g 1 h NaN:\n\
+          s 07i g 1 h infinity:\n\
+          s 10n f 1 g NaN and 15 values and 16 slots:\n\
+          s 10n g 1 g NaN and 16 slots:\n\
+          n 001 0 z 0 novelty, 50001 rows:\n\
+          n 001 0 y 0 novelty, 50000 rows without slots:\n\
+          n 001 x 2 3 novelty, 33 similarities:\n\
+          n 001 z 2 3 novelty, 35 similarities:\n\
+          n 001 y 2 1 novelty, 1 slot:\n\
+          n 001 y 2 2 novelty, 2 slots:\n\
+          n 001 y 2 3 novelty, 3 slots:\n\
+          n 001 0 0 3 novelty, no rows:\n\
+          n 001 h 1 1 1:\n\
+          n 00m h 1 1 -1:\n\
+          n 00v h 1 1 above 1:\n\
+          n 00w h 1 1 below -1:\n\
+          n 00n h 1 1 NaN:\n\
+          n 0g1 h 1 1 unread 1:\n\
+          n 0gv h 1 1 unread above 1:\n",
     );
-}
-
-// Values by their letters; h and i are no constants.
-const VALUES: [f64; 7] = [
-    1.0, // a
-    -1.0, // b
-    1.0000000000000002, // c
-    -1.0000000000000002, // d
-    1427247692705959881058285969449495136382746624.0, // e: 2^150
-    -1427247692705959881058285969449495136382746624.0, // f
-    1427247692705960197971075569830217498126155776.0, // g
-];
-
-fn value_of(byte: u8) -> f64 {
-    let k = (byte % 97) as usize;
-    if k < 7 {
-        return VALUES[k];
-    }
-    if k == 7 {
-        return 0.0 / 0.0;
-    }
-    1.0 / 0.0
-}
-
-fn least(n: usize, most: usize) -> usize
-    ensures { λ r. ⌜ r ≤ most ⌝ }
-{
-    if n < most {
-        return n;
-    }
-    most
-}
-
-// The value of a digit, or of a letter from ten on, at most so much.
-fn number(byte: u8, most: usize) -> usize
-    ensures { λ r. ⌜ r ≤ most ⌝ }
-{
-    if byte < 97 {
-        return least((byte % 48) as usize, most);
-    }
-    least((byte - 87) as usize, most)
 }
 
 fn rows_of(byte: u8) -> usize {
@@ -90,20 +49,16 @@ fn rows_of(byte: u8) -> usize {
     if byte == 122 {
         return 50001;
     }
-    number(byte, 9)
+    cases::digit(byte, 9)
 }
 
 // Runs each case of a text.
 fn each_case(text: &[u8]) {
-    let mut from = 0;
-    let mut i = 0;
-    while i < text.len() {
-        let past = i + 1;
-        if text[i] == 58 {
-            case(&text[from..past]);
-            from = past;
-        }
-        i = past;
+    let n = cases::marks(text, b'\n');
+    let mut k = 0;
+    while k < n {
+        case(cases::part(text, b'\n', k));
+        k += 1;
     }
 }
 
@@ -113,10 +68,10 @@ fn case(c: &[u8]) {
     }
     show::words(&c[12..]);
     let kind = c[0];
-    let n = number(c[6], 35);
+    let n = cases::digit(c[6], 35);
     let rows = rows_of(c[8]);
-    let room = number(c[10], 18);
-    let lent = values_lent(c[2], number(c[3], 34), value_of(c[4]));
+    let room = cases::digit(c[10], 18);
+    let lent = values_lent(c[2], cases::digit(c[3], 34), cases::value(c[4]));
     refusal(kind, &lent[0..n], rows, room);
 }
 
@@ -152,7 +107,11 @@ struct Similar {
 // The answer of similarity where the first `room` slots are lent, and all of them afterwards.
 fn similarity_of(features: &[f64], rows: usize, room: usize) -> Similar {
     let mut slots = [9.0f64; 2210];
-    let number = similarities::similarity(features, rows, &mut slots[0..least(room, 2210)]);
+    let number = similarities::similarity(
+        features,
+        rows,
+        &mut slots[0..numbers::least(room, 2210)],
+    );
     Similar { number, slots }
 }
 
@@ -171,7 +130,7 @@ struct Novel {
 
 fn novelty_of(similarity: &[f64], rows: usize, room: usize) -> Novel {
     let mut slots = [9.0f64; 131];
-    let number = novelties::novelty(similarity, rows, &mut slots[0..least(room, 131)]);
+    let number = novelties::novelty(similarity, rows, &mut slots[0..numbers::least(room, 131)]);
     Novel { number, slots }
 }
 

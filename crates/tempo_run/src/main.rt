@@ -1,4 +1,6 @@
 // Runs `tempo::estimate` on both sides of each boundary and prints what it answers; the file stdout holds what must come out.
+//
+// The cases stand in tables, one to a line, with bars between the columns: the label, then what `run` takes, where (1) is column 1.
 ghost use Prim.Native.Nat.{_≤_};
 ghost use lib.ListN.{length};
 use lags::TempoOpts;
@@ -31,253 +33,231 @@ fn answer(e: TempoEstimate) {
     candidate(e.candidates[2]);
 }
 
-// The first n slots of a lent slice afterwards, lent or not.
-fn first(xs: &[f64], n: usize)
-    requires { ⌜ n ≤ length (now xs) ⌝ }
-{
-    show::floats(&xs[0..n]);
+fn main() {
+    lengths();
+    contents();
+    bounds();
+    rooms();
+    envelopes();
+    track();
 }
 
-fn left(clarity: &[f64; 20], weight: &[f64; 20], work: &[f64; 20], n: usize)
-    requires { ⌜ n ≤ 20 ⌝ }
-{
-    show::words(b", clarity");
-    first(clarity, n);
-    show::words(b", weight");
-    first(weight, n);
-    show::words(b", work");
-    first(work, n);
-    show::end();
-}
+// ---- the cases
 
-// The answer, and the slices afterwards. The room: so many slots of clarity, of weight, of work, and so many of each shown.
-fn run(envelope: &[f64], onsets: usize, rate: u32, opts: TempoOpts, room: [usize; 4]) {
-    let mut clarity = [9.0f64; 20];
-    let mut weight = [8.0f64; 20];
-    let mut work = [7.0f64; 20];
-    show::words(b":");
-    answer(tempo::estimate(
-        envelope,
-        onsets,
-        rate,
-        opts,
-        &mut clarity[0..numbers::least(room[0], 20)],
-        &mut weight[0..numbers::least(room[1], 20)],
-        &mut work[0..numbers::least(room[2], 20)],
-    ));
-    left(&clarity, &weight, &work, numbers::least(room[3], 20));
-}
-
-// rate 512, defaults: lags 1 to 4; room for five
-fn four_lags(envelope: &[f64], onsets: usize) {
-    run(envelope, onsets, 512, TempoOpts::new(), [5, 5, 5, 5]);
-}
-
-// No slots, two, three, max_lag + 1, max_lag + 2 and eight; then one onset and none.
+// Rate 512, defaults: lags 1 to 4, and room for five. No slots, two, three, max_lag + 1, max_lag + 2 and eight; then one onset and none.
 fn lengths() {
-    let e = [0.0f64, 3.0, 0.0, 1.0, 0.0, 3.0, 0.0, 1.0];
-    let slots = [0usize, 2, 3, 5, 6, 8, 8, 8];
-    let onsets = [2usize, 2, 2, 2, 2, 2, 1, 0];
-    let mut k = 0;
-    while k < 8 {
-        show::words(b"slots, onsets");
-        show::count(slots[k]);
-        show::count(onsets[k]);
-        four_lags(&e[0..numbers::least(slots[k], 8)], onsets[k]);
-        k += 1;
-    }
+    table(
+        b"slots, onsets 0 2:|03010301|0|2|512|0|5|5|5|5
+slots, onsets 2 2:|03010301|2|2|512|0|5|5|5|5
+slots, onsets 3 2:|03010301|3|2|512|0|5|5|5|5
+slots, onsets 5 2:|03010301|5|2|512|0|5|5|5|5
+slots, onsets 6 2:|03010301|6|2|512|0|5|5|5|5
+slots, onsets 8 2:|03010301|8|2|512|0|5|5|5|5
+slots, onsets 8 1:|03010301|8|1|512|0|5|5|5|5
+slots, onsets 8 0:|03010301|8|0|512|0|5|5|5|5\n",
+    );
 }
 
-fn of_eight(envelope: [f64; 8]) {
-    four_lags(&envelope, 2);
-}
-
-// 2^-27 and its negative, twice: the sum of squares about the mean is 2^-52 itself. One value a little larger, and it is above.
-// In envelope 8 the one product at lag 2 is -2^-900, and the clarity rounds to -0, which holding to a range keeps.
 fn contents() {
-    let nan = 0.0f64 / 0.0;
-    let inf = 1.0f64 / 0.0;
-    let m = 1427247692705959881058285969449495136382746624.0f64; // 2^150
-    let above = 1427247692705960198167543979640382187474485248.0f64;
-    let d = 1.0 / m;
-    let least = -(d * d * d * d * d * d * d);
-    let x = 0.000000007450580596923828125f64;
-    let y = 0.00000000745059f64;
-    let f = 0.0000001f64;
-    let g = 0.00000001f64;
-    let envelopes = [
-        [2.5f64, 2.5, 2.5, 2.5, 2.5, 2.5, 2.5, 2.5], // 0: constant
-        [0.0, 0.0, 0.0, 0.0, 0.0, 0.0, 0.0, 0.0], // 1: all zero
-        [-0.0, 3.0, -0.0, 1.0, 0.0, 3.0, -0.0, 1.0], // 2: signed zeros
-        [0.0, 0.0, 0.0, 5.0, 0.0, 0.0, 0.0, 0.0], // 3: one pulse, no weight above 0
-        [0.0, f, 0.0, f, 0.0, f, 0.0, f], // 4: energy above 2^-52
-        [0.0, g, 0.0, g, 0.0, g, 0.0, g], // 5: energy below 2^-52
-        [x, -x, x, -x, 0.0, 0.0, 0.0, 0.0], // 6: energy of 2^-52
-        [x, -x, x, -y, 0.0, 0.0, 0.0, 0.0], // 7: energy just above 2^-52
-        [m, 0.0, least, 0.0, 0.0, 0.0, 0.0, -m], // 8: a clarity of -0
-        [0.0, -3.0, 0.0, -1.0, 0.0, -3.0, 0.0, -1.0], // 9: negative values
-        [m, 0.0, 0.0, m, 0.0, 0.0, 0.0, 0.0], // 10: 2^150
-        [-m, 0.0, 0.0, -m, 0.0, 0.0, 0.0, 0.0], // 11: -2^150
-        [0.0, 3.0, 0.0, 1.0, 0.0, 3.0, 0.0, nan], // 12: a NaN
-        [inf, 3.0, 0.0, 1.0, 0.0, 3.0, 0.0, 1.0], // 13: an infinity
-        [0.0, 3.0, 0.0, -inf, 0.0, 3.0, 0.0, 1.0], // 14: minus infinity
-        [0.0, 3.0, 0.0, 1.0, 0.0, 3.0, 0.0, above], // 15: the next above 2^150
-    ];
-    let mut k = 0;
-    while k < 16 {
-        show::words(b"envelope");
-        show::count(k);
-        of_eight(envelopes[k]);
-        k += 1;
-    }
-}
-
-fn no_number() {
-    let n = [0.0f64, 3.0, 0.0, 1.0, 0.0, 3.0, 0.0, 0.0f64 / 0.0];
-    show::words(b"a NaN, one onset");
-    four_lags(&n, 1);
-    show::words(b"a NaN alone");
-    four_lags(&n[7..8], 2);
+    table(
+        b"envelope 0:|ffffffff|8|2|512|0|5|5|5|5|constant
+envelope 1:|00000000|8|2|512|0|5|5|5|5|all zero
+envelope 2:|z3z103z1|8|2|512|0|5|5|5|5|signed zeros
+envelope 3:|00050000|8|2|512|0|5|5|5|5|one pulse, no weight above 0
+envelope 4:||0|2|512|0|5|5|5|5|energy above 2^-52
+envelope 5:||1|2|512|0|5|5|5|5|energy below 2^-52
+envelope 6:||2|2|512|0|5|5|5|5|energy of 2^-52
+envelope 7:||3|2|512|0|5|5|5|5|energy just above 2^-52
+envelope 8:||4|2|512|0|5|5|5|5|a clarity of -0
+envelope 9:||5|2|512|0|5|5|5|5|negative values
+envelope 10:|b00b0000|8|2|512|0|5|5|5|5|2^150
+envelope 11:|c00c0000|8|2|512|0|5|5|5|5|-2^150
+envelope 12:|0301030n|8|2|512|0|5|5|5|5|a NaN
+envelope 13:|i3010301|8|2|512|0|5|5|5|5|an infinity
+envelope 14:|030j0301|8|2|512|0|5|5|5|5|minus infinity
+envelope 15:|0301030a|8|2|512|0|5|5|5|5|the next above 2^150
+a NaN, one onset:|0301030n|8|1|512|0|5|5|5|5
+a NaN alone:|n|1|2|512|0|5|5|5|5\n",
+    );
 }
 
 fn bounds() {
-    let e = [0.0f64, 3.0, 0.0, 1.0, 0.0, 3.0, 0.0, 1.0];
-    let nan = 0.0f64 / 0.0;
-    let inf = 1.0f64 / 0.0;
-    let d = TempoOpts::new();
-    let narrow = TempoOpts::between(299.0, 300.0);
-    let slots = [8usize, 8, 4, 3, 8, 8, 8, 8, 8, 8, 8, 8, 8, 8];
-    let rates = [
-        0u32,
-        1,
-        1,
-        1,
-        192000,
-        192001,
-        4294967295,
-        512,
-        512,
-        512,
-        512,
-        512,
-        512,
-        512,
-    ];
-    let opts = [
-        d, // 0: rate 0
-        d, // 1: rate 1, lags 1 to 2
-        d, // 2: rate 1, four slots
-        d, // 3: rate 1, three slots
-        narrow, // 4: rate 192,000, lags 150 to 151
-        narrow, // 5: rate 192,001
-        narrow, // 6: rate 4,294,967,295
-        TempoOpts::between(30.0, inf), // 7: upper bound infinite
-        TempoOpts::between(-inf, 300.0), // 8: lower bound minus infinite
-        TempoOpts::between(nan, 300.0), // 9: lower bound a NaN
-        TempoOpts::between(30.0, nan), // 10: upper bound a NaN
-        TempoOpts::between(300.0, 30.0), // 11: reversed
-        TempoOpts::new().with_min_bpm(24.0), // 12: the lower bound that makes five lags
-        TempoOpts::new().with_min_bpm(20.0), // 13: the lower bound that makes six lags
-    ];
-    let mut k = 0;
-    while k < 14 {
-        show::words(b"bounds");
-        show::count(k);
-        run(
-            &e[0..numbers::least(slots[k], 8)],
-            2,
-            rates[k],
-            opts[k],
-            [5, 5, 5, 5],
-        );
-        k += 1;
-    }
+    table(
+        b"bounds 0:|03010301|8|2|0|0|5|5|5|5|rate 0
+bounds 1:|03010301|8|2|1|0|5|5|5|5|rate 1, lags 1 to 2
+bounds 2:|03010301|4|2|1|0|5|5|5|5|rate 1, four slots
+bounds 3:|03010301|3|2|1|0|5|5|5|5|rate 1, three slots
+bounds 4:|03010301|8|2|192000|1|5|5|5|5|rate 192,000, lags 150 to 151
+bounds 5:|03010301|8|2|192001|1|5|5|5|5|rate 192,001
+bounds 6:|03010301|8|2|4294967295|1|5|5|5|5|rate 4,294,967,295
+bounds 7:|03010301|8|2|512|2|5|5|5|5|upper bound infinite
+bounds 8:|03010301|8|2|512|3|5|5|5|5|lower bound minus infinite
+bounds 9:|03010301|8|2|512|4|5|5|5|5|lower bound a NaN
+bounds 10:|03010301|8|2|512|5|5|5|5|5|upper bound a NaN
+bounds 11:|03010301|8|2|512|6|5|5|5|5|reversed
+bounds 12:|03010301|8|2|512|7|5|5|5|5|the lower bound that makes five lags
+bounds 13:|03010301|8|2|512|8|5|5|5|5|the lower bound that makes six lags\n",
+    );
 }
 
-// room for so many lags in each slice; the slots not lent are shown too
+// Room for so many lags in each slice; the slots not lent are shown too.
 fn rooms() {
-    let e = [0.0f64, 3.0, 0.0, 1.0, 0.0, 3.0, 0.0, 1.0];
-    let n = [0.0f64 / 0.0, 3.0, 0.0, 1.0, 0.0, 3.0, 0.0, 1.0];
-    let rooms = [
-        [4usize, 4, 4, 5], // 0: just enough room
-        [3, 4, 4, 5], // 1: clarity one short
-        [4, 3, 4, 5], // 2: weight one short
-        [4, 4, 3, 5], // 3: work one short
-        [4, 4, 3, 5], // 4: one short for no slots
-        [3, 4, 4, 5], // 5: one short and rate 0
-    ];
-    let slots = [8usize, 8, 8, 8, 0, 8];
-    let rates = [512u32, 512, 512, 512, 512, 0];
+    table(
+        b"room 0:|03010301|8|2|512|0|4|4|4|5|just enough room
+room 1:|03010301|8|2|512|0|3|4|4|5|clarity one short
+room 2:|03010301|8|2|512|0|4|3|4|5|weight one short
+room 3:|03010301|8|2|512|0|4|4|3|5|work one short
+room 4:|03010301|0|2|512|0|4|4|3|5|one short for no slots
+room 5:|03010301|8|2|0|0|3|4|4|5|one short and rate 0
+one short and a NaN:|n3010301|8|2|512|0|3|4|4|5\n",
+    );
+}
+
+// Rate 2,560, defaults: lags 2 to 20, and room for one more.
+fn envelopes() {
+    table(
+        b"period 5:|0400004000040000400004000040000400004000|60|2|2560|0|20|20|20|20
+periods 6 and 4:|305030008000305030008000305030008000305030008000|60|2|2560|0|20|20|20|20
+period 7 and noise:|101800201262000116002102602220281000207102021|60|2|2560|0|20|20|20|20
+noise:|8219935181909378657975432319487574911|60|2|2560|0|20|20|20|20
+noise, max_lag + 2 slots:|8625276018955597971147|60|2|2560|0|20|20|20|20
+periods 3 and 8:|200207200200270200200900200207200200270200200900200207200200|60|2|2560|0|20|20|20|20
+a ramp:|0123456789:;<=>?@ABCDEFGHIJKLM|60|2|2560|0|20|20|20|20
+a late burst:|000000000000000000000000000000090090090090|60|2|2560|0|20|20|20|20
+one bar:|801111101180100100119001|60|2|2560|0|20|20|20|20\n",
+    );
+}
+
+// 2^-27 and its negative, twice: the sum of squares about the mean is 2^-52 itself. One value a little larger, and it is above.
+const X: f64 = 0.000000007450580596923828125;
+
+const Y: f64 = 0.00000000745059;
+
+// 2^150, and 2^-1050.
+const TOP: f64 = 1427247692705959881058285969449495136382746624.0;
+
+const LEAST: f64 = 8.289046e-317;
+
+// Envelopes 4 to 9. In envelope 8 the one product at lag 2 is -2^-900, and the clarity rounds to -0, which holding to a range keeps.
+const ENVELOPES: [[f64; 8]; 6] = [
+    [
+        0.0,
+        0.0000001,
+        0.0,
+        0.0000001,
+        0.0,
+        0.0000001,
+        0.0,
+        0.0000001,
+    ],
+    [
+        0.0,
+        0.00000001,
+        0.0,
+        0.00000001,
+        0.0,
+        0.00000001,
+        0.0,
+        0.00000001,
+    ],
+    [X, -X, X, -X, 0.0, 0.0, 0.0, 0.0],
+    [X, -X, X, -Y, 0.0, 0.0, 0.0, 0.0],
+    [TOP, 0.0, -LEAST, 0.0, 0.0, 0.0, 0.0, -TOP],
+    [0.0, -3.0, 0.0, -1.0, 0.0, -3.0, 0.0, -1.0],
+];
+
+// ---- the tables
+
+fn table(lines: &[u8]) {
+    let n = cases::marks(lines, b'\n');
     let mut k = 0;
-    while k < 6 {
-        show::words(b"room");
-        show::count(k);
-        run(
-            &e[0..numbers::least(slots[k], 8)],
-            2,
-            rates[k],
-            TempoOpts::new(),
-            rooms[k],
-        );
+    while k < n {
+        run(cases::part(lines, b'\n', k));
         k += 1;
     }
-    show::words(b"one short and a NaN");
-    run(&n, 2, 512, TempoOpts::new(), [3, 4, 4, 5]);
 }
 
-// The value of a byte: its distance from the digit 0.
-fn spelled(byte: u8) -> f64 {
-    byte as f64 - 48.0
+// The envelope that (1) spells, at most its first (2) slots, or envelope (2) of the constants where (1) is empty; and what `estimate` takes.
+fn run(line: &[u8]) {
+    let text = cases::part(line, b'|', 1);
+    show::words(cases::part(line, b'|', 0));
+    if text.len() == 0 {
+        return of_eight(ENVELOPES[cases::column_within(line, 2, 5)], line);
+    }
+    let mut e = [0.0f64; 60];
+    cases::spell(text, &mut e);
+    let n = numbers::least(text.len(), 60);
+    estimate(&e[0..cases::column_within(line, 2, n)], line);
 }
 
-fn spell(text: &[u8], values: &mut [f64]) {
-    let most = numbers::least(text.len(), values.len());
-    let mut i = 0;
-    while i < most {
-        values[i] = spelled(text[i]);
-        i += 1;
+fn of_eight(envelope: [f64; 8], line: &[u8]) {
+    estimate(&envelope, line);
+}
+
+// (3) onsets, at rate (4), the bounds (5) of the tempo, and so many slots lent: (6) of clarity, (7) of weight, (8) of work; (9) of each are shown.
+fn estimate(envelope: &[f64], line: &[u8]) {
+    let mut clarity = [9.0f64; 20];
+    let mut weight = [8.0f64; 20];
+    let mut work = [7.0f64; 20];
+    answer(tempo::estimate(
+        envelope,
+        cases::column(line, 3),
+        cases::column_u32(line, 4),
+        bounds_of(cases::column(line, 5)),
+        &mut clarity[0..cases::column_within(line, 6, 20)],
+        &mut weight[0..cases::column_within(line, 7, 20)],
+        &mut work[0..cases::column_within(line, 8, 20)],
+    ));
+    left(&clarity, &weight, &work, cases::column_within(line, 9, 20));
+}
+
+// The first n slots of each lent slice afterwards, lent or not.
+fn left(clarity: &[f64; 20], weight: &[f64; 20], work: &[f64; 20], n: usize)
+    requires { ⌜ n ≤ 20 ⌝ }
+{
+    first(b", clarity", clarity, n);
+    first(b", weight", weight, n);
+    first(b", work", work, n);
+    show::end();
+}
+
+fn first(name: &[u8], xs: &[f64], n: usize)
+    requires { ⌜ n ≤ length (now xs) ⌝ }
+{
+    show::words(name);
+    show::floats(&xs[0..n]);
+}
+
+// The bounds of a case: 0 are the defaults.
+fn bounds_of(k: usize) -> TempoOpts {
+    match k {
+        1 => TempoOpts::between(299.0, 300.0),
+        2 => TempoOpts::between(30.0, 1.0 / 0.0),
+        3 => TempoOpts::between(-1.0 / 0.0, 300.0),
+        4 => TempoOpts::between(0.0 / 0.0, 300.0),
+        5 => TempoOpts::between(30.0, 0.0 / 0.0),
+        6 => TempoOpts::between(300.0, 30.0),
+        7 => TempoOpts::new().with_min_bpm(24.0),
+        8 => TempoOpts::new().with_min_bpm(20.0),
+        _ => TempoOpts::new(),
     }
 }
 
-// rate 2,560, defaults: lags 2 to 20, and room for one more
-fn more_lags(label: &[u8], text: &[u8]) {
-    let mut e = [0.0f64; 60];
-    spell(text, &mut e);
-    show::words(label);
-    run(
-        &e[0..numbers::least(text.len(), 60)],
-        2,
-        2560,
-        TempoOpts::new(),
-        [20, 20, 20, 20],
-    );
+// ---- a longer track
+
+fn track() {
+    let mut e = [0.0f64; 400];
+    e[10] = 1.0;
+    e[104] = 1.0;
+    e[198] = 1.0;
+    e[292] = 1.0;
+    e[386] = 1.0;
+    of_track(b"376 slots:", &e[0..376]);
+    of_track(b"377 slots:", &e[0..377]);
+    of_track(b"400 slots:", &e);
 }
 
-fn envelopes() {
-    more_lags(b"period 5", b"0400004000040000400004000040000400004000");
-    more_lags(
-        b"periods 6 and 4",
-        b"305030008000305030008000305030008000305030008000",
-    );
-    more_lags(
-        b"period 7 and noise",
-        b"101800201262000116002102602220281000207102021",
-    );
-    more_lags(b"noise", b"8219935181909378657975432319487574911");
-    more_lags(b"noise, max_lag + 2 slots", b"8625276018955597971147");
-    more_lags(
-        b"periods 3 and 8",
-        b"200207200200270200200900200207200200270200200900200207200200",
-    );
-    more_lags(b"a ramp", b"0123456789:;<=>?@ABCDEFGHIJKLM");
-    more_lags(
-        b"a late burst",
-        b"000000000000000000000000000000090090090090",
-    );
-    more_lags(b"one bar", b"801111101180100100119001");
-}
-
-// the default bounds at rate 48,000: lags 38 to 375
+// The default bounds at rate 48,000: lags 38 to 375.
 fn of_track(label: &[u8], envelope: &[f64]) {
     let mut clarity = [9.0f64; 338];
     let mut weight = [8.0f64; 338];
@@ -292,36 +272,14 @@ fn of_track(label: &[u8], envelope: &[f64]) {
         &mut weight,
         &mut work,
     ));
-    show::words(b", slot 0");
-    show::float(clarity[0]);
-    show::float(weight[0]);
-    show::words(b", slot 56");
-    show::float(clarity[56]);
-    show::float(weight[56]);
-    show::words(b", slot 337");
-    show::float(clarity[337]);
-    show::float(weight[337]);
+    slot(b", slot 0", clarity[0], weight[0]);
+    slot(b", slot 56", clarity[56], weight[56]);
+    slot(b", slot 337", clarity[337], weight[337]);
     show::end();
 }
 
-fn track() {
-    let mut e = [0.0f64; 400];
-    e[10] = 1.0;
-    e[104] = 1.0;
-    e[198] = 1.0;
-    e[292] = 1.0;
-    e[386] = 1.0;
-    of_track(b"376 slots:", &e[0..376]);
-    of_track(b"377 slots:", &e[0..377]);
-    of_track(b"400 slots:", &e);
-}
-
-fn main() {
-    lengths();
-    contents();
-    no_number();
-    bounds();
-    rooms();
-    envelopes();
-    track();
+fn slot(name: &[u8], clarity: f64, weight: f64) {
+    show::words(name);
+    show::float(clarity);
+    show::float(weight);
 }

@@ -1,48 +1,35 @@
--- `each_grid` is safe and ends: the index stays within the text, and behind where the case begins. The measure is what is left of the text. Assumes nothing.
+-- `beats_run::each_grid` is safe and ends: the case stays within their number, and the measure is how many are left. Assumes nothing.
 use Prim.Native.Nat.{_≤_, _-_}
 use borrow.Author.Needs.{needs}
-use lib.ListN.{length}
 use Rattle.beats_run.proofs.each_grid.Statement.{statement}
 use Rattle.beats_run.proofs.each_grid.Tie as tie
 
 abbrev Inv-loop : tie.InvT-loop
-Inv-loop text from₀ i₀ from i = (from ≤ i) × (i ≤ length text)
+Inv-loop text n k₀ k = k ≤ n
 
 abbrev μ-loop : tie.MeasureT-loop
-μ-loop text from₀ i₀ from i = length text - i
+μ-loop text n k₀ k = n - k
+
+marks-requires : tie.Need-marks-requires Inv-loop μ-loop
+marks-requires c κs = search needs
 
 loop-holds : tie.Need-loop-holds Inv-loop μ-loop
 loop-holds c = search needs
 
-add-past : tie.Need-add-past Inv-loop μ-loop
-add-past c = search needs
-
-shared-slice-read-if1 : tie.Need-shared-slice-read-if1 Inv-loop μ-loop
-shared-slice-read-if1 c = search needs
-
-sub-grid : tie.Need-sub-grid Inv-loop μ-loop
-sub-grid c = search needs
-
-part-grid-start : tie.Need-part-grid-start Inv-loop μ-loop
-part-grid-start c = search needs
-
-part-grid-end : tie.Need-part-grid-end Inv-loop μ-loop
-part-grid-end c = search needs
+part-requires : tie.Need-part-requires Inv-loop μ-loop
+part-requires c κs = search needs
 
 grid-requires : tie.Need-grid-requires Inv-loop μ-loop
 grid-requires c κs = search needs
+
+add-k : tie.Need-add-k Inv-loop μ-loop
+add-k c = search needs
 
 loop-less : tie.Need-loop-less Inv-loop μ-loop
 loop-less c = search needs
 
 loop-again : tie.Need-loop-again Inv-loop μ-loop
 loop-again c = search needs
-
-loop-less-2 : tie.Need-loop-less-2 Inv-loop μ-loop
-loop-less-2 c = search needs
-
-loop-again-2 : tie.Need-loop-again-2 Inv-loop μ-loop
-loop-again-2 c = search needs
 
 returns : tie.Need-returns Inv-loop μ-loop
 returns c = search needs
@@ -53,15 +40,11 @@ each-grid-spec =
     (tie.spec
     Inv-loop
     μ-loop
+    marks-requires
     loop-holds
-    add-past
-    shared-slice-read-if1
-    sub-grid
-    part-grid-start
-    part-grid-end
+    part-requires
     grid-requires
+    add-k
     loop-less
     loop-again
-    loop-less-2
-    loop-again-2
     returns)

@@ -13,32 +13,20 @@ abbrev μ-loop : tie.MeasureT-loop
 loop-holds : tie.Need-loop-holds Inv-loop μ-loop
 loop-holds c = search needs
 
-mul-same-bits : tie.Need-mul-same-bits Inv-loop μ-loop
-mul-same-bits c = search needs
+mul-untouched : tie.Need-mul-untouched Inv-loop μ-loop
+mul-untouched c = search needs
 
-element-copy-out-same-bits : tie.Need-element-copy-out-same-bits Inv-loop μ-loop
-element-copy-out-same-bits c = search needs
+element-copy-out-untouched : tie.Need-element-copy-out-untouched Inv-loop μ-loop
+element-copy-out-untouched c = search needs
 
-mul-same-bits-2 : tie.Need-mul-same-bits-2 Inv-loop μ-loop
-mul-same-bits-2 c = search needs
+mul-untouched-2 : tie.Need-mul-untouched-2 Inv-loop μ-loop
+mul-untouched-2 c = search needs
 
-element-copy-out-same-bits-2 : tie.Need-element-copy-out-same-bits-2 Inv-loop μ-loop
-element-copy-out-same-bits-2 c = search needs
+element-copy-out-untouched-2 : tie.Need-element-copy-out-untouched-2 Inv-loop μ-loop
+element-copy-out-untouched-2 c = search needs
 
-same-bits-requires : tie.Need-same-bits-requires Inv-loop μ-loop
-same-bits-requires c κs = search needs
-
-differ-outside-requires : tie.Need-differ-outside-requires Inv-loop μ-loop
-differ-outside-requires c κs = search needs
-
-add-differ-outside : tie.Need-add-differ-outside Inv-loop μ-loop
-add-differ-outside c = search needs
-
-differ-outside-requires-2 : tie.Need-differ-outside-requires-2 Inv-loop μ-loop
-differ-outside-requires-2 c κs = search needs
-
-least-requires : tie.Need-least-requires Inv-loop μ-loop
-least-requires c κs = search needs
+untouched-requires : tie.Need-untouched-requires Inv-loop μ-loop
+untouched-requires c κs = search needs
 
 add-count : tie.Need-add-count Inv-loop μ-loop
 add-count c = search needs
@@ -62,15 +50,11 @@ untouched-changed-spec =
     Inv-loop
     μ-loop
     loop-holds
-    mul-same-bits
-    element-copy-out-same-bits
-    mul-same-bits-2
-    element-copy-out-same-bits-2
-    same-bits-requires
-    differ-outside-requires
-    add-differ-outside
-    differ-outside-requires-2
-    least-requires
+    mul-untouched
+    element-copy-out-untouched
+    mul-untouched-2
+    element-copy-out-untouched-2
+    untouched-requires
     add-count
     add-i
     loop-less
