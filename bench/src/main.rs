@@ -73,10 +73,15 @@ fn main() {
     for (rows, bins, rounds) in &tracks[..if quick { 2 } else { 4 }] {
         stages::track(*rows, *bins, *rounds, &mut |line| take(line, 0));
     }
+    // the most bins, lags and period; periods above 2,048 have no table
     if !quick {
-        let flux: Vec<f64> = music::magnitudes(16_384, 1, 1).iter().map(|&x| f64::from(x)).collect();
-        let [rust, port] = stages::beats(&flux, 3_000, 3);
-        take(Line { stage: "beats, period 3,000", size: counted(16_384), rust, port, full: None }, 0);
+        let flux: Vec<f64> = music::magnitudes(131_072, 1, 1).iter().map(|&x| f64::from(x)).collect();
+        let mut most =
+            |stage, size: String, [rust, port]: [f64; 2]| take(Line { stage, size, rust, port, full: None }, 0);
+        most("flux", format!("{} x 4,096", counted(65_536)), stages::flux_of(65_536, 4_096, 3));
+        most("lag curves, 45,000 lags", counted(131_072), stages::most_lags(&flux, 3));
+        most("beats, period 3,000", counted(16_384), stages::beats(&flux[..16_384], 3_000, 3));
+        most("beats, period 45,000", counted(65_536), stages::beats(&flux[..65_536], 45_000, 1));
     }
     // three minutes, an hour and the most, at a row a second
     for &rows in &[180, 3_600, 50_000][..if quick { 2 } else { 3 }] {

@@ -90,6 +90,47 @@ impl Room {
     }
 }
 
+/// The flux of so many rows and bins, of which the Rust has its own copy.
+fn flux(slab: &[f32], given: &Stft, rows: usize, bins: usize, rounds: usize) -> (Vec<f64>, [f64; 2]) {
+    let mut flux = vec![0.0; rows];
+    port::spectral_flux(slab, rows, bins, &mut flux).unwrap();
+    same("flux", bits(&onsets::open::spectral_flux(given)), bits(&flux));
+    let mut out = vec![0.0; rows];
+    let times = in_turns(
+        rounds,
+        [&mut || ran(onsets::open::spectral_flux(given)), &mut || {
+            port::spectral_flux(slab, rows, bins, &mut out).unwrap()
+        }],
+    );
+    (flux, times)
+}
+
+/// The flux alone.
+pub fn flux_of(rows: usize, bins: usize, rounds: usize) -> [f64; 2] {
+    let slab = magnitudes(rows, bins, 1);
+    let given = stft(&slab, bins);
+    flux(&slab, &given, rows, bins, rounds).1
+}
+
+/// The lag curves of the most lags that there are: all from 1 to 45,000, at 192,000 samples a second.
+pub fn most_lags(flux: &[f64], rounds: usize) -> [f64; 2] {
+    let (rate, rust) = (192_000, tempo::TempoOpts { min_bpm: 1.0, max_bpm: 45_000.0 });
+    let opts = port::TempoOpts::new().with_min_bpm(rust.min_bpm).with_max_bpm(rust.max_bpm);
+    let frame_rate = tempo::open::frame_rate(rate);
+    let (low, high) = tempo::open::lag_range(&rust, frame_rate);
+    assert_eq!((low, high), (1, 45_000));
+    let Room { mut clarity, mut weight, mut work, .. } = Room::of(0, high - low + 1);
+    port::estimate(flux, 2, rate, opts, &mut clarity, &mut weight, &mut work).unwrap();
+    let curves = tempo::open::lag_curves(flux, low, high, frame_rate).unwrap();
+    same("most lag curves", (bits(&curves.0), bits(&curves.1)), (bits(&clarity), bits(&weight)));
+    in_turns(
+        rounds,
+        [&mut || ran(tempo::open::pick_tempo_peaks(flux, low, high, frame_rate)), &mut || {
+            ran(port::estimate(flux, 2, rate, opts, &mut clarity, &mut weight, &mut work))
+        }],
+    )
+}
+
 /// The stages of a track of so many rows and bins.
 pub fn track(rows: usize, bins: usize, rounds: usize, tell: &mut dyn FnMut(Line)) {
     let slab = magnitudes(rows, bins, 1);
@@ -98,16 +139,7 @@ pub fn track(rows: usize, bins: usize, rounds: usize, tell: &mut dyn FnMut(Line)
     let mut line =
         |stage, size: &str, [rust, port]: [f64; 2]| tell(Line { stage, size: size.into(), rust, port, full: None });
 
-    let mut flux = vec![0.0; rows];
-    port::spectral_flux(&slab, rows, bins, &mut flux).unwrap();
-    same("flux", bits(&onsets::open::spectral_flux(&given)), bits(&flux));
-    let mut out = vec![0.0; rows];
-    let times = in_turns(
-        rounds,
-        [&mut || ran(onsets::open::spectral_flux(&given)), &mut || {
-            port::spectral_flux(&slab, rows, bins, &mut out).unwrap()
-        }],
-    );
+    let (flux, times) = flux(&slab, &given, rows, bins, rounds);
     line("flux", &size, times);
 
     let slots = counted(rows);
