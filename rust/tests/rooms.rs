@@ -115,30 +115,6 @@ fn the_largest_values_are_answered() {
     assert_eq!((track.tempo, track.beats.len()), (None, 0));
 }
 
-// the one call is the calls one after the other
-#[test]
-fn a_track_in_parts() {
-    let (opts, n) = (TempoOpts::new(), 2_000);
-    let rows: Vec<f32> = envelope(n).iter().map(|&x| x as f32).collect();
-    let (mut flux, mut threshold, mut work) = (vec![0.0; n], vec![0.0; n], vec![0.0; 338]);
-    spectral_flux(&rows, n, 1, &mut flux).unwrap();
-    adaptive_threshold(&flux, &mut threshold, &mut work).unwrap();
-    let mut onsets = vec![0; n];
-    let heard = pick_onsets(&flux, &threshold, RATE, &mut onsets).unwrap();
-    let (mut clarity, mut weight) = (vec![0.0; 338], vec![0.0; 338]);
-    let found = estimate(&flux, heard, RATE, opts, &mut clarity, &mut weight, &mut work).unwrap();
-    let lag = found.lag().unwrap();
-    let steady = stability_of(&flux, RATE, opts, lag, &mut clarity, &mut weight, &mut work).unwrap();
-    let (mut score, mut back, mut beats, mut bars) = (vec![0.0; n], vec![0; n], vec![0; n], vec![0; n]);
-    let laid = beat_grid(&flux, lag, &mut score, &mut back, &mut beats).unwrap();
-    let begun = downbeats(&flux, &beats[..laid], &mut bars).unwrap();
-
-    let mut buffers = Buffers::for_tracks(n, RATE, opts).unwrap();
-    let track = buffers.analyse_magnitudes(&rows, n, 1, RATE, opts).unwrap();
-    assert_eq!((track.tempo, track.candidates(), track.stability), (found.tempo, found.candidates(), steady));
-    assert_eq!((track.onsets, track.beats, track.downbeats), (&onsets[..heard], &beats[..laid], &bars[..begun]));
-}
-
 // the same buffers, shorter and longer tracks in turn, magnitudes and envelopes: an answer depends on nothing left behind
 #[test]
 fn buffers_used_again() {
