@@ -271,7 +271,8 @@ fn rooms_of_tracks() {
         let opts = TempoOpts::between(bpm.0, bpm.1);
         let room = rooms::Track::of(rows, rate, opts).unwrap();
         assert_eq!((room.rows, room.lags, room.sorting), expected);
-        assert_eq!(Buffers::with_room(room).room(), room);
-        assert!(Buffers::with_room(room).analyse_envelope(&vec![1.0; rows], rate, opts).is_ok());
+        let mut buffers = Buffers::with_room(room).unwrap();
+        assert_eq!(buffers.room(), room);
+        assert!(buffers.analyse_envelope(&vec![1.0; rows], rate, opts).is_ok());
     }
 }

@@ -71,7 +71,7 @@ fn a_whole_track() {
     let opts = TempoOpts::new();
     let room = rooms::Track::of(2_000, RATE, opts).unwrap();
     assert_eq!(room.bytes(), 8 * (3 * 2_000 + 4 * 338 + 338) + 4 * 4 * 2_000);
-    let mut exact = Buffers::with_room(room);
+    let mut exact = Buffers::with_room(room).unwrap();
     let track = exact.analyse_envelope(&envelope(2_000), RATE, opts).unwrap();
     assert_eq!((track.candidates()[0].lag, track.stability.map(|s| s.windows)), (94, Some(4)));
     assert!(track.downbeats.iter().all(|d| track.beats.contains(d)) && track.beats.len() > 18);
@@ -80,10 +80,20 @@ fn a_whole_track() {
         rooms::Track { lags: 337, ..room },
         rooms::Track { sorting: 337, ..room },
     ] {
-        assert!(short(Buffers::with_room(less).analyse_envelope(&envelope(2_000), RATE, opts)));
+        assert!(short(Buffers::with_room(less).unwrap().analyse_envelope(&envelope(2_000), RATE, opts)));
     }
     assert_eq!(rooms::Track::of(limits::MOST_ROWS + 1, RATE, opts), Err(Refusal::OutOfBounds));
     assert!(Buffers::for_tracks(10, 0, opts).is_err());
+    // the most that a track can use, and one more of each
+    let most = rooms::Track { rows: limits::MOST_ROWS, lags: 45_000, sorting: 45_000 };
+    assert_eq!(Buffers::with_room(most).unwrap().room().bytes(), 43_743_040);
+    for more in [
+        rooms::Track { rows: most.rows + 1, ..most },
+        rooms::Track { lags: 45_001, ..most },
+        rooms::Track { sorting: usize::MAX, ..most },
+    ] {
+        assert_eq!(Buffers::with_room(more).err(), Some(Refusal::OutOfBounds));
+    }
 }
 
 // one call, judged before it begins: the lowest number, and nothing in the buffers changes
