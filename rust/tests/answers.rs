@@ -156,6 +156,11 @@ fn windows() {
         let steady = stability_of(&turn()[..n], rate, opts, lag, &mut a, &mut b, &mut c).unwrap();
         assert_eq!(steady.map(|s| (s.agreeing, s.windows)), expected, "{n} slots at {rate}, lag {lag}");
         assert!(steady.is_none_or(|s| s.fraction == s.agreeing as f64 / s.windows as f64));
+        // a whole track has lag 94; the last has a tempo and no stability
+        let mut buffers = Buffers::for_tracks(n, rate, opts).unwrap();
+        let track = buffers.analyse_envelope(&turn()[..n], rate, opts).unwrap();
+        assert_eq!(track.candidates()[0].lag, 94);
+        assert!(track.tempo.is_some() && (track.stability == steady || lag != 94));
     }
 }
 
