@@ -692,6 +692,7 @@ class Arrays(unittest.TestCase):
         with self.assertRaisesRegex(ValueError, r"\(2000, 4\), rows first \(numpy\.ascontiguousarray\(magnitudes\.T\) has it\)"):
             ph.spectral_flux(turned, 2_000, 4, flux)
         self.assertRaises(TypeError, ph.spectral_flux, turned.T, 2_000, 4, flux)
+        self.assertRaises(ValueError, ph.spectral_flux, numpy.zeros((1_999, 4), numpy.float32), 2_000, 4, flux)
         ph.spectral_flux(numpy.ascontiguousarray(turned.T), 2_000, 4, flux)
         numpy.testing.assert_array_equal(flux, turned.sum(axis=0))
         # no rows, and two channels
