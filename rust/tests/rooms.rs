@@ -1,4 +1,4 @@
-//! With exactly the room of `rooms` no call refuses for room, and with one slot fewer it does; slots behind it are unchanged.
+//! With exactly the room of `rooms` no call refuses for room, and with one slot fewer it does.
 use prohunsev::*;
 
 const RATE: u32 = 48_000;
@@ -12,57 +12,72 @@ fn short<T>(answer: Result<T, Refusal>) -> bool {
     answer.is_err_and(|r| r == Refusal::TooLittleRoom)
 }
 
+// a call by its name, its slots, and itself with other numbers of them
+type Case<'a> = (&'a str, &'a [usize], &'a dyn Fn(&[usize]) -> Result<(), Refusal>);
+
+// each call with the slots of its outputs and work slices, by `rooms`: with so many it is answered; with one slot fewer in any of them, and
+// different numbers to spare in the others, it is not
 #[test]
-fn curves_and_lists() {
-    for n in [1, 2, 3, 20, 21, 22, 500] {
+fn one_slot_short() {
+    let (new, open) = (TempoOpts::new(), TempoOpts::between(0.0, 0.0));
+    for (n, rate, opts) in [
+        (1, RATE, new),
+        (2, 1, new),
+        (3, RATE, new),
+        (20, RATE, new),
+        (21, 192_000, open),
+        (22, 24_000, new),
+        (500, RATE, new),
+    ] {
         let flux = envelope(n);
-        let magnitudes: Vec<f32> = flux.iter().map(|&x| x as f32).collect();
-        let mut room = vec![-1.0; n + 3];
-        assert_eq!(spectral_flux(&magnitudes, n, 1, &mut room[..rooms::flux(n)]), Ok(()));
-        assert!(short(spectral_flux(&magnitudes, n, 1, &mut room[..n - 1])));
-        let (work, mut sorting) = (rooms::threshold_work(n), vec![-1.0; n + 3]);
-        let mut threshold = vec![-1.0; n + 3];
-        assert!(short(adaptive_threshold(&flux, &mut threshold, &mut sorting[..work - 1])));
-        assert!(short(adaptive_threshold(&flux, &mut threshold[..n - 1], &mut sorting)));
-        assert_eq!(adaptive_threshold(&flux, &mut threshold, &mut sorting[..work]), Ok(()));
-        assert_eq!(threshold[n..], [-1.0; 3]);
-        let mut frames = vec![9; n + 3];
-        assert!(short(pick_onsets(&flux, &threshold[..n], RATE, &mut frames[..rooms::onsets(n) - 1])));
-        let count = pick_onsets(&flux, &threshold[..n], RATE, &mut frames).unwrap();
-        assert!(frames[count..].iter().all(|&f| f == 9));
-        let (mut score, mut back, mut beats) = (vec![-1.0; n], vec![9; n], vec![9; n]);
-        let most = rooms::beats(n);
-        assert!(beat_grid(&flux, 60, &mut score[..most], &mut back[..most], &mut beats[..most]).is_ok());
-        assert!(short(beat_grid(&flux, 60, &mut score, &mut back, &mut beats[..most - 1])));
-    }
-}
-
-#[test]
-fn lag_curves() {
-    for (rate, opts) in [(RATE, TempoOpts::new()), (1, TempoOpts::new()), (192_000, TempoOpts::between(0.0, 0.0))] {
-        let lags = rooms::lags(rate, opts).unwrap();
-        let (mut a, mut b, mut c) = (vec![-1.0; lags], vec![-1.0; lags], vec![-1.0; lags]);
-        let envelope = envelope(900);
-        assert!(estimate(&envelope, 15, rate, opts, &mut a, &mut b, &mut c).is_ok());
-        assert!(stability_of(&envelope, rate, opts, 60, &mut a, &mut b, &mut c).is_ok());
-        assert!(short(estimate(&envelope, 15, rate, opts, &mut a[1..], &mut b, &mut c)));
-        assert!(short(estimate(&envelope, 15, rate, opts, &mut a, &mut b, &mut c[1..])));
-        assert!(short(stability_of(&envelope, rate, opts, 60, &mut a, &mut b[1..], &mut c)));
-    }
-}
-
-#[test]
-fn sections_room() {
-    for rows in [1, 15, 16, 40] {
-        let features: Vec<f64> = (0..16 * rows).map(|i| (i % 23) as f64 - 7.0).collect();
-        let (mut band, mut novel) = (vec![-9.0; rooms::similarity(rows)], vec![-9.0; rooms::novelty(rows)]);
-        assert!(short(similarity(&features, rows, &mut band[1..])));
-        assert_eq!(similarity(&features, rows, &mut band), Ok(()));
-        assert!(short(novelty(&band, rows, &mut novel[1..])));
-        assert_eq!(novelty(&band, rows, &mut novel), Ok(()));
-        let (mut list, mut work) = (vec![9; rooms::boundaries(rows)], vec![-9.0; rooms::boundaries(rows)]);
-        assert!(short(boundaries(&novel, 4_800, RATE, 8, &mut list, &mut work[1..])));
-        assert!(boundaries(&novel, 4_800, RATE, 8, &mut list, &mut work).is_ok());
+        let (row, lags) = (flux[n - 1] as f32, rooms::lags(rate, opts).unwrap());
+        let (magnitudes, list, ones) = (vec![row; n], (0..n as u32).collect::<Vec<_>>(), vec![1.0; 16 * n]);
+        let (reals, frames) = (|slots| vec![0.0; slots], |slots| vec![0; slots]);
+        let cases: [Case; 17] = [
+            ("median_of", &[rooms::entries(n)], &|r| median_of(&flux, &mut reals(r[0])).map(drop)),
+            ("mad_of", &[rooms::entries(n)], &|r| mad_of(&flux, 1.0, &mut reals(r[0])).map(drop)),
+            ("spectral_flux", &[rooms::flux(n)], &|r| spectral_flux(&magnitudes, n, 1, &mut reals(r[0]))),
+            ("adaptive_threshold", &[rooms::threshold(n), rooms::threshold_work(n)], &|r| {
+                adaptive_threshold(&flux, &mut reals(r[0]), &mut reals(r[1]))
+            }),
+            ("pick_onsets", &[rooms::onsets(n)], &|r| pick_onsets(&flux, &flux, rate, &mut frames(r[0])).map(drop)),
+            ("suppress_close_peaks", &[rooms::entries(n)], &|r| {
+                suppress_close_peaks(&list, &flux, 1, &mut frames(r[0])).map(drop)
+            }),
+            ("frame_times", &[rooms::entries(n)], &|r| frame_times(&list, rate, &mut reals(r[0]))),
+            ("estimate", &[lags; 3], &|r| {
+                estimate(&flux, 2, rate, opts, &mut reals(r[0]), &mut reals(r[1]), &mut reals(r[2])).map(drop)
+            }),
+            ("stability_of", &[lags; 3], &|r| {
+                stability_of(&flux, rate, opts, 60, &mut reals(r[0]), &mut reals(r[1]), &mut reals(r[2])).map(drop)
+            }),
+            ("beat_grid", &[rooms::beats(n); 3], &|r| {
+                beat_grid(&flux, 60, &mut reals(r[0]), &mut frames(r[1]), &mut frames(r[2])).map(drop)
+            }),
+            ("downbeats", &[rooms::entries(n)], &|r| downbeats(&flux, &list, &mut frames(r[0])).map(drop)),
+            ("similarity", &[rooms::similarity(n)], &|r| similarity(&ones, n, &mut reals(r[0]))),
+            ("novelty", &[rooms::novelty(n)], &|r| novelty(&vec![1.0; 17 * n], n, &mut reals(r[0]))),
+            ("boundaries", &[rooms::boundaries(n); 2], &|r| {
+                boundaries(&flux, 4_800, rate, 8, &mut frames(r[0]), &mut reals(r[1])).map(drop)
+            }),
+            ("boundary_times", &[rooms::entries(n)], &|r| boundary_times(&list, 4_800, rate, &mut reals(r[0]))),
+            ("patch_magnitudes", &[rooms::flux(n), rooms::threshold(n), rooms::threshold_work(n)], &|r| {
+                let (mut rows, mut work) = (magnitudes.clone(), reals(r[2]));
+                patch_magnitudes(&mut rows, n, 1, 0, &[2.0], &mut reals(r[0]), &mut reals(r[1]), &mut work).map(drop)
+            }),
+            ("patch_features", &[rooms::similarity(n), rooms::novelty(n)], &|r| {
+                patch_features(&mut ones.clone(), n, 0, &[2.0; 16], &mut reals(r[0]), &mut reals(r[1])).map(drop)
+            }),
+        ];
+        for (name, exact, call) in cases {
+            assert_eq!(call(exact), Ok(()), "{name}, {n}");
+            for short in 0..exact.len() {
+                let mut slots: Vec<usize> = exact.iter().zip(1..).map(|(slots, spare)| slots + spare).collect();
+                assert_eq!(call(&slots), Ok(()), "{name}, {n}, and to spare");
+                slots[short] = exact[short] - 1;
+                assert_eq!(call(&slots), Err(Refusal::TooLittleRoom), "{name}, {n}, slice {short} of its outputs");
+            }
+        }
     }
 }
 
