@@ -121,9 +121,9 @@ fn tracks() {
         let fraction = heard.agreeing as f64 / 4.0;
         assert_eq!(steady, Some(Stability { fraction, agreeing: heard.agreeing, windows: 4 }));
 
-        let (mut score, mut back, mut beats, mut bars) =
-            (vec![WAS; n], vec![WAS_FRAME; n], vec![WAS_FRAME; n], vec![WAS_FRAME; n]);
+        let (mut score, mut back, mut beats) = (vec![WAS; n], vec![WAS_FRAME; n], vec![WAS_FRAME; n]);
         let laid = beat_grid(&envelope, lag, &mut score, &mut back, &mut beats).unwrap();
+        let mut bars = vec![WAS_FRAME; laid + 1];
         let begun = downbeats(&envelope, &beats[..laid], &mut bars).unwrap();
         for (count, list, (many, first, last)) in [(laid, &beats, heard.beats), (begun, &bars, heard.downbeats)] {
             assert_eq!((count, &list[..3], list[count - 1], list[count]), (many, &first[..], last, WAS_FRAME));
