@@ -137,7 +137,7 @@ def _load():
     places = [pathlib.Path(given)] if given else [here / "libprohunsev.so", here.parent / "target/native/libprohunsev.so"]
     for place in places:
         if place.is_file():
-            return ctypes.CDLL(str(place))
+            return ctypes.CDLL(str(place.resolve()))  # a bare name would be looked for elsewhere
     raise ImportError("the proved functions are not compiled yet: run tools/callers once, or name the shared library in PROHUNSEV_LIBRARY."
                       f" Looked for: {', '.join(map(str, places))}")
 

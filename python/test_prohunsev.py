@@ -469,6 +469,12 @@ class Lending(unittest.TestCase):
         for lent in (values, work, short):
             lent.append(1.0)  # an array that is still lent cannot grow
 
+    def test_library_by_its_bare_name(self):
+        library = pathlib.Path(ph._library._name)
+        tried = subprocess.run([sys.executable, "-B", "-c", "import prohunsev"], cwd=library.parent, capture_output=True, text=True,
+                               env={**os.environ, "PYTHONPATH": os.path.dirname(ph.__file__), "PROHUNSEV_LIBRARY": library.name})
+        self.assertEqual((tried.returncode, tried.stderr), (0, ""))
+
     def test_library_is_named_when_missing(self):
         here = os.path.dirname(ph.__file__)
         tried = subprocess.run([sys.executable, "-B", "-c", "import prohunsev"], cwd=here, capture_output=True, text=True,
