@@ -7,10 +7,13 @@ of the right kind (an array.array, a memoryview, a NumPy array, ..), contiguous,
     float32 values   array('f'), numpy.float32     magnitudes
     uint32 frames    array('I'), numpy.uint32      lists of frames and rows, back links
 
+A slice has one dimension. Rows may have two, and then the shape must be what the call is told: (rows, bins) magnitudes, (rows, 16)
+features, (rows, 17) similarities; new rows of a patch, and a similarity that is written, may be any number of rows.
+
 A call answers, or raises Refused with the number of the refusal, and then nothing that was lent has changed. A buffer of another kind,
-one that isn't contiguous, or an output that can't be written raises TypeError; an output that overlaps another slice raises ValueError;
-a whole number that its C type cannot hold raises OverflowError; and none of these writes anything. A call that lists answers how many
-entries it listed: they stand first in the slice, and the slots behind them are unchanged.
+one that isn't contiguous, a masked array, or an output that can't be written raises TypeError; another shape, and an output that overlaps
+another slice, raises ValueError; a whole number that its C type cannot hold raises OverflowError; and none of these writes anything. A
+call that lists answers how many entries it listed: they stand first in the slice, and the slots behind them are unchanged.
 
 Calls hold no lock while they compute: threads run at the same time, each with outputs of its own, and may read the same inputs. A call
 that shares a slice with one of another thread that is still at work, where either writes it, raises ValueError. Only calls of this module
@@ -134,7 +137,7 @@ def _load():
     places = [pathlib.Path(given)] if given else [here / "libprohunsev.so", here.parent / "target/native/libprohunsev.so"]
     for place in places:
         if place.is_file():
-            return ctypes.CDLL(str(place))
+            return ctypes.CDLL(str(place.resolve()))  # a bare name would be looked for elsewhere
     raise ImportError("the proved functions are not compiled yet: run tools/callers once, or name the shared library in PROHUNSEV_LIBRARY."
                       f" Looked for: {', '.join(map(str, places))}")
 
@@ -149,7 +152,7 @@ class _View(ctypes.Structure):
     # Py_buffer, as CPython declares it
     _fields_ = [
         ("buf", ctypes.c_void_p), ("obj", ctypes.c_void_p), ("len", ctypes.c_ssize_t), ("itemsize", ctypes.c_ssize_t),
-        ("readonly", ctypes.c_int), ("ndim", ctypes.c_int), ("format", ctypes.c_char_p), ("shape", ctypes.c_void_p),
+        ("readonly", ctypes.c_int), ("ndim", ctypes.c_int), ("format", ctypes.c_char_p), ("shape", ctypes.POINTER(ctypes.c_ssize_t)),
         ("strides", ctypes.c_void_p), ("suboffsets", ctypes.c_void_p), ("internal", ctypes.c_void_p),
     ]
 
@@ -168,18 +171,22 @@ _nowhere = ctypes.c_double()
 
 
 class _Slice:
-    """An argument that is lent as a slice: its name for messages, the buffer, the kind of its values, and whether it is written."""
+    """An argument that is lent as a slice: its name for messages, the buffer, the kind of its values, whether it is written, and for rows
+    how many there are, None for any, and how wide."""
 
-    __slots__ = ("name", "lent", "kind", "codes", "size", "written")
+    __slots__ = ("name", "lent", "kind", "codes", "size", "written", "table")
 
-    def __init__(self, name, lent, kind, written):
-        self.name, self.lent, self.written = name, lent, written
+    def __init__(self, name, lent, kind, written, *table):
+        self.name, self.lent, self.written, self.table = name, lent, written, table
         self.kind, self.codes, self.size = kind
 
     def take(self, call):
-        """A view of the buffer, which holds it in place until it is released, or a TypeError."""
+        """A view of the buffer, which holds it in place until it is released, or a TypeError or ValueError."""
         want = f"{call}: {self.name} must be a contiguous buffer of {self.kind} values{' to write into' if self.written else ''}"
         view = _View()
+        # () where numpy.ma isn't loaded: no class
+        if isinstance(self.lent, getattr(sys.modules.get("numpy.ma"), "MaskedArray", ())):
+            raise TypeError(f"{want}, not a masked array, whose mask would be ignored: lend what its filled() gives")
         try:
             _get_buffer(self.lent, view, _C_CONTIGUOUS | _FORMAT | (_WRITABLE if self.written else 0))
         except (TypeError, ValueError, BufferError) as error:
@@ -192,7 +199,23 @@ class _Slice:
         if view.len and view.buf % self.size:
             _release(view)
             raise TypeError(f"{want}, aligned to {self.size} bytes")
+        shape = tuple(view.shape[:view.ndim])
+        if len(shape) != 1 and not self.fits(shape):
+            _release(view)
+            raise ValueError(f"{call}: {self.name} must have {self.told(shape)}, not the shape {shape}")
         return view
+
+    def fits(self, shape):
+        """Whether this is the shape of the rows."""
+        return len(shape) == len(self.table) == 2 and self.table[0] in (None, shape[0]) and self.table[1] == shape[1]
+
+    def told(self, shape):
+        """What to lend instead."""
+        if not self.table:
+            return "one dimension"
+        rows, width = self.table
+        turned = f" (numpy.ascontiguousarray({self.name}.T) has it)" if self.fits(shape[::-1]) else ""
+        return f"the shape ({'rows' if rows is None else rows}, {width}), rows first{turned}, or one dimension"
 
 
 _FLOAT64, _FLOAT32, _UINT32 = ("float64", ("d",), 8), ("float32", ("f",), 4), ("uint32", ("I", "L"), 4)
@@ -212,6 +235,18 @@ def _frames(name, lent):
 
 def _frames_out(name, lent):
     return _Slice(name, lent, _UINT32, True)
+
+
+def _magnitudes(magnitudes, rows, bins, written=False):
+    """The three parts that magnitudes are."""
+    rows, bins = _size("rows", rows), _size("bins", bins)
+    return _Slice("magnitudes", magnitudes, _FLOAT32, written, rows.value, bins.value), rows, bins
+
+
+def _features(name, lent, rows, width, written=False):
+    """The two parts that features, or their similarity, are."""
+    rows = _size("rows", rows)
+    return _Slice(name, lent, _FLOAT64, written, rows.value, width), rows
 
 
 def _whole(name, number, kind):
@@ -333,8 +368,7 @@ def mad_of(values, median, work):
 
 def spectral_flux(magnitudes, rows, bins, flux):
     """Onset strength: flux[t] is how much float32 row t rises over row t - 1, summed over the bins. Room: rows slots of flux."""
-    _call("spectral_flux", _Slice("magnitudes", magnitudes, _FLOAT32, False), _size("rows", rows), _size("bins", bins),
-          _reals_out("flux", flux))
+    _call("spectral_flux", *_magnitudes(magnitudes, rows, bins), _reals_out("flux", flux))
 
 
 def threshold_room(slots):
@@ -431,12 +465,12 @@ def similarity_room(rows):
 
 def similarity(features, rows, similarity):
     """Slot 17 i + d: how alike rows i and i + d of 16 features are, -1 to 1. Room: similarity_room(rows)."""
-    _call("similarity", _reals("features", features), _size("rows", rows), _reals_out("similarity", similarity))
+    _call("similarity", *_features("features", features, rows, 16), _Slice("similarity", similarity, _FLOAT64, True, None, 17))
 
 
 def novelty(similarity, rows, novelty):
     """How new each row is. The similarity has exactly similarity_room(rows) slots. Room: rows slots of novelty."""
-    _call("novelty", _reals("similarity", similarity), _size("rows", rows), _reals_out("novelty", novelty))
+    _call("novelty", *_features("similarity", similarity, rows, 17), _reals_out("novelty", novelty))
 
 
 def boundaries(novelty, length, rate, max_sections, rows, work):
@@ -467,8 +501,9 @@ def patch_magnitudes(magnitudes, rows, bins, start, new_rows, flux, threshold, w
     """Replaces rows from start on and repairs flux and threshold, as a fresh analysis of the edited rows gives them.
 
     Room: rows slots of flux and of threshold, threshold_room(rows) slots of work, which then hold anything."""
-    return Patched(*_patch("patch_magnitudes", _Slice("magnitudes", magnitudes, _FLOAT32, True), _size("rows", rows), _size("bins", bins),
-                           _size("start", start), _Slice("new_rows", new_rows, _FLOAT32, False), _reals_out("flux", flux),
+    lent, rows, bins = _magnitudes(magnitudes, rows, bins, True)
+    return Patched(*_patch("patch_magnitudes", lent, rows, bins, _size("start", start),
+                           _Slice("new_rows", new_rows, _FLOAT32, False, None, bins.value), _reals_out("flux", flux),
                            _reals_out("threshold", threshold), _reals_out("work", work)))
 
 
@@ -476,8 +511,9 @@ def patch_features(features, rows, start, new_rows, similarity, novelty):
     """Replaces feature rows from start on and repairs similarity and novelty, as a fresh analysis of the edited rows gives them.
 
     Room: similarity_room(rows) slots of similarity and rows slots of novelty."""
-    return PatchedFeatures(*_patch("patch_features", _reals_out("features", features), _size("rows", rows), _size("start", start),
-                                   _reals("new_rows", new_rows), _reals_out("similarity", similarity), _reals_out("novelty", novelty)))
+    return PatchedFeatures(*_patch("patch_features", *_features("features", features, rows, 16, True), _size("start", start),
+                                   _Slice("new_rows", new_rows, _FLOAT64, False, None, 16),
+                                   _Slice("similarity", similarity, _FLOAT64, True, None, 17), _reals_out("novelty", novelty)))
 
 
 # ---- a whole track
@@ -536,8 +572,7 @@ class Buffers:
 
     def analyse_magnitudes(self, magnitudes, rows, bins, rate, opts=TempoOpts()):
         """Analyses a track from its magnitudes, rows rows of bins float32 values."""
-        return self._analyse("analyse_magnitudes", (_Slice("magnitudes", magnitudes, _FLOAT32, False), _size("rows", rows),
-                                                    _size("bins", bins)), rate, opts, (_reals_out("flux", self._flux),))
+        return self._analyse("analyse_magnitudes", _magnitudes(magnitudes, rows, bins), rate, opts, (_reals_out("flux", self._flux),))
 
     def analyse_envelope(self, envelope, rate, opts=TempoOpts()):
         """Analyses a track from its envelope of float64 values, one slot a frame."""

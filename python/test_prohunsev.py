@@ -1,15 +1,15 @@
 """Tests of prohunsev.py, with the standard library alone; those that need NumPy are skipped where it isn't installed."""
 import concurrent.futures
-import contextlib
 import ctypes
-import io
 import math
 import os
 import pathlib
 import random
 import re
+import shlex
 import subprocess
 import sys
+import tempfile
 import threading
 import unittest
 import unittest.mock
@@ -53,6 +53,15 @@ def pulses(n, period=94):
     return array("d", [(t % 7) * 0.01 + (2.0 if t % period == 5 else 0.0) for t in range(n)])
 
 
+def turn(n=4_000):
+    """A pulse every 94 frames, from frame 2,600 on every 73."""
+    envelope, t = array("d", [0.0]) * n, 5
+    while t < n:
+        envelope[t] = 1.0
+        t += 94 if t < 2_600 else 73
+    return envelope
+
+
 class Marked(unittest.TestCase):
     """Document 01's marked numbers."""
 
@@ -88,55 +97,159 @@ class Marked(unittest.TestCase):
         self.assertEqual(ph.beat_grid(reals(4, 4, 4, 4), 2, score, back, beats), 0)
 
 
-class Calls(unittest.TestCase):
-    """Each call, answered."""
+class Answers(unittest.TestCase):
+    """Each parameter and each output at least once with a value that tells it from its neighbours: a call that hands one on in another's
+    place gives another answer. Values "by the original" are what the Rust of docs/src answers; the others can be had by hand."""
+
+    # what is said of `turn`, by the original: rate and bounds; the lags; candidates as lag, salience, which is its clarity, and weight;
+    # windows of four that agree; of beats and of downbeats how many, the first three and the last
+    HEARD = (
+        (48_000, (30, 300), (38, 375), ((94, 0.6053914404141673, 0.6053887964940086), (188, 0.5979661177347704, 0.4438107911577112),
+                                        (73, 0.38291976654311355, 0.3684428394942035)), 3,
+         (43, [5, 99, 193], 3_951), (11, [5, 381, 757], 3_756)),
+        (48_000, (30, 100), (113, 375), ((188, 0.5979661177347704, 0.4438107911577112), (146, 0.36812752505098095, 0.32622749504847576),
+                                         (282, 0.5904374946358724, 0.27978724444305986)), 3,
+         (21, [5, 193, 381], 3_732), (6, [5, 757, 1_509], 3_732)),
+        (48_000, (140, 300), (38, 80), ((73, 0.38291976654311355, 0.3684428394942035),), 2,
+         (56, [5, 75, 145], 3_951), (14, [75, 358, 639], 3_805)),
+        (24_000, (30, 300), (19, 188), ((94, 0.6053914404141673, 0.4493218698546586), (73, 0.38291976654311355, 0.3393360934545913),
+                                        (188, 0.5979661177347704, 0.18228127280439488)), 3,
+         (43, [5, 99, 193], 3_951), (11, [5, 381, 757], 3_756)),
+    )
+
+    def test_tracks(self):
+        """Call by call, and all in one from the envelope and from magnitudes."""
+        envelope, n = turn(), 4_000
+        pulses = [t for t in range(n) if envelope[t]]
+        # two bins that rise to a quarter and to three: their flux is the envelope
+        magnitudes = array("f", (x * share for x in envelope for share in (0.25, 0.75)))
+        for rate, opts, ends, candidates, agreeing, beats_of, downbeats_of in self.HEARD:
+            flux, threshold, onsets = room(n), room(n), frame_room(n)
+            ph.spectral_flux(magnitudes, n, 2, flux)
+            self.assertEqual(flux, envelope)
+            ph.adaptive_threshold(flux, threshold, room(21))
+            self.assertEqual(list(threshold), [0.000001] * n)
+            count = ph.pick_onsets(flux, threshold, rate, onsets)
+            self.assertEqual((count, list(onsets[:count])), (47, pulses))
+
+            lags = ph.lag_range(rate, opts)
+            self.assertEqual(lags, ends)
+            unchanged = room(lags.lags + 1)
+            clarity, weight, work = (unchanged[:] for _ in range(3))
+            for few in (0, 1):
+                self.assertEqual(ph.estimate(envelope, few, rate, opts, clarity, weight, work), (None, ()))
+                self.assertEqual((clarity, weight, work), (unchanged,) * 3)
+            found = ph.estimate(envelope, 2, rate, opts, clarity, weight, work)
+            lag, salience, _ = candidates[0]
+            self.assertEqual(found.tempo, (rate / 256 * 60 / lag, salience))
+            self.assertEqual(tuple((*c, weight[c.lag - lags.min_lag]) for c in found.candidates), candidates)
+            self.assertEqual([clarity[c.lag - lags.min_lag] for c in found.candidates], [c.salience for c in found.candidates])
+            self.assertEqual((clarity[-1], weight[-1], work), (WAS, WAS, unchanged))
+
+            steady = ph.stability_of(envelope, rate, opts, lag, clarity, weight, work)
+            self.assertEqual(steady, (agreeing / 4, agreeing, 4))
+            beats, bars = frame_room(n), frame_room(n)
+            laid = ph.beat_grid(envelope, lag, room(n), frame_room(n), beats)
+            begun = ph.downbeats(envelope, beats[:laid], bars)
+            for count, listed, expected in ((laid, beats, beats_of), (begun, bars, downbeats_of)):
+                self.assertEqual((count, list(listed[:3]), listed[count - 1], listed[count]), (*expected, WAS_FRAME))
+
+            buffers = ph.Buffers(n, rate, opts)
+            for track in (buffers.analyse_envelope(envelope, rate, opts), buffers.analyse_magnitudes(magnitudes, n, 2, rate, opts)):
+                self.assertEqual(Tracks.told(track), (*found, steady, pulses, list(beats[:laid]), list(bars[:begun])))
+
+    def test_windows(self):
+        # slots of `turn`, rate and lag; agreeing and windows by the original
+        for n, rate, lag, expected in ((4_000, 48_000, 94, (3, 4)), (4_000, 48_000, 73, (1, 4)), (4_000, 48_000, 0, None),
+                                       (1_300, 48_000, 94, (3, 3)), (700, 44_100, 94, (2, 2)), (700, 48_000, 94, None)):
+            steady = ph.stability_of(turn(n), rate, OPTS, lag, room(338), room(338), room(338))
+            self.assertEqual(steady, expected and (expected[0] / expected[1], *expected), (n, rate, lag))
+            # a whole track has lag 94; the last has a tempo and no stability
+            track = ph.Buffers(n, rate).analyse_envelope(turn(n), rate)
+            self.assertEqual(track.candidates[0].lag, 94)
+            self.assertTrue(track.tempo and (track.stability == steady or lag != 94))
 
     def test_medians(self):
-        self.assertEqual(ph.mad_of(reals(1, 2, 3, 9, 2), 2.0, room(5)), 1.0)
+        values = reals(1, 2, 3, 9, 2)
+        self.assertEqual((ph.median_of(values, room(5)), ph.median_of(values[2:], room(3))), (2.0, 3.0))
+        self.assertEqual((ph.mad_of(values, 2.0, room(5)), ph.mad_of(values, 5.0, room(5))), (1.0, 3.0))
 
-    def test_onsets(self):
-        flux, threshold, out = room(4), room(4), frame_room(4)
-        ph.spectral_flux(singles(0, 0, 5, 0), 4, 1, flux)
-        self.assertEqual(list(flux), [0, 0, 5, 0])
-        ph.adaptive_threshold(flux, threshold, room(ph.threshold_room(4)))
-        self.assertEqual(list(threshold), [0.000001] * 4)
-        count = ph.pick_onsets(flux, threshold, RATE, out)
-        self.assertEqual(list(out), [2] + 3 * [WAS_FRAME])
-        ms = room(2)
-        ph.frame_times(out[:count], 1_000, ms)
-        self.assertEqual(list(ms), [1024.0, WAS])
+    def test_peaks(self):
+        flux = array("d", [0.0]) * 30
+        flux[10], flux[13], flux[20] = 5, 6, 4
+        # 30 ms are 1.9, 5.6 and 11.3 frames
+        for limit, rate, expected in ((1, 16_000, [10, 13, 20]), (1, 48_000, [13, 20]), (1, 96_000, [13]), (4.5, 48_000, [13])):
+            out = frame_room(30)
+            count = ph.pick_onsets(flux, array("d", [limit]) * 30, rate, out)
+            self.assertEqual((list(out[:count]), out[count]), (expected, WAS_FRAME), (limit, rate))
+        for gap, expected in ((0, [10, 13, 20]), (2, [10, 13, 20]), (3, [13, 20]), (6, [13, 20]), (7, [13])):
+            out = frame_room(4)
+            count = ph.suppress_close_peaks(frames(10, 13, 20), flux, gap, out)
+            self.assertEqual((list(out[:count]), out[count]), (expected, WAS_FRAME), gap)
+        for rate, expected in ((1_000, [1280.0, 512.0, WAS]), (500, [2560.0, 1024.0, WAS])):
+            ms = room(3)
+            ph.frame_times(frames(3, 0), rate, ms)
+            self.assertEqual(list(ms), expected)
 
-    def test_tempo(self):
-        envelope, curves = pulses(2_000), [room(338) for _ in range(3)]
-        found = ph.estimate(envelope, 20, RATE, OPTS, *curves)
-        self.assertEqual(found.candidates[0].lag, 94)
-        self.assertAlmostEqual(found.tempo.bpm, 11250 / 94)
-        self.assertEqual(found.tempo.clarity, found.candidates[0].salience)
-        self.assertEqual(list(curves[2]), [WAS] * 338)
-        self.assertEqual(ph.stability_of(envelope, RATE, OPTS, 94, *curves), (1.0, 4, 4))
-        self.assertEqual(ph.estimate(pulses(300), 20, RATE, OPTS, *curves), (None, ()))
-        self.assertIsNone(ph.stability_of(envelope, RATE, OPTS, 0, *curves))
-
-    def test_bars(self):
+    def test_grids(self):
+        no = ph.NO_LINK
+        # period, scores and links by the original, beats
+        for period, scores, links, expected in ((1, [0, 2, 2, 4, 4, 6], [no, no, 1, 2, 3, 4], [1, 2, 3, 4, 5]),
+                                                (2, [0, 2, 0, 4, 0, 6], [no, no, no, 1, no, 3], [1, 3, 5]),
+                                                (3, [0, 2, 0, 2, 2, 2], [no, no, no, no, 1, no], [1])):
+            score, back, beats = room(7), frame_room(7), frame_room(7)
+            count = ph.beat_grid(reals(0, 4, 0, 4, 0, 4), period, score, back, beats)
+            self.assertEqual((list(score), list(back)), (scores + [WAS], links + [WAS_FRAME]), period)
+            self.assertEqual((list(beats[:count]), beats[count]), (expected, WAS_FRAME), period)
         bars, beats = reals(0.5, 2.5), reals(0.5, 1.0, 1.5, 2.0, 2.5, 3.0)
-        self.assertEqual(ph.bar_beat_at(1.6, bars, beats), (1, 3))
-        self.assertIsNone(ph.bar_beat_at(0.4, bars, beats))
-        self.assertIsNone(ph.bar_beat_at(math.nan, bars, beats))
+        for time, expected in ((0.4, None), (math.nan, None), (1.6, (1, 3)), (2.5, (2, 1)), (9, (2, 2))):
+            self.assertEqual(ph.bar_beat_at(time, bars, beats), expected)
         self.assertEqual(ph.bar_beat_at(math.inf, bars, reals()), (2, 1))
 
+    def test_likeness(self):
+        # two rows whose cosine is 3/5; room behind them
+        features, band = array("d", [0.0]) * 32, room(35)
+        features[0], features[16], features[17] = 2, 3, 4
+        ph.similarity(features, 2, band)
+        self.assertEqual(list(band), [1, 0.6] + 15 * [0] + [1] + 16 * [0] + [WAS])
+        # nine rows of one kind, nine of another; by the original
+        features, band, novel = array("d", [0.0]) * (18 * 16), room(18 * 17), room(19)
+        for row in range(18):
+            features[16 * row + row // 9] = 1.0
+        ph.similarity(features, 18, band)
+        ph.novelty(band, 18, novel)
+        self.assertEqual((novel[0], novel[9], novel[17], novel[18]), (27.163394960670146, 46.06142697369474, 11.203658657106502, WAS))
+
     def test_sections(self):
-        rows = 40
-        features = array("d", [float((i // 16 < 20) == (i % 16 < 8)) for i in range(16 * rows)])
-        band, curve = room(ph.similarity_room(rows)), room(rows)
-        ph.similarity(features, rows, band)
-        ph.novelty(band, rows, curve)
-        out = frame_room(rows)
-        found = ph.boundaries(curve, RATE, RATE, 8, out, room(rows))
-        self.assertEqual((found.sections, list(out[:found.count])), (2, [20]))
-        self.assertTrue(0.0 < found.confidence <= 1.0)
-        ms = room(1)
-        ph.boundary_times(out[:1], RATE, RATE, ms)
-        self.assertEqual(ms[0], 20_000.0)
+        novel = array("d", [0.0]) * 40
+        novel[12], novel[25], novel[28], novel[31] = 2, 3, 1.5, 2.5
+        # length, rate and most sections; rows and confidence by the original: 4 s are 4, 8 or 2 rows
+        for length, rate, most, expected, confidence in (
+            (48_000, 48_000, 8, [12, 25, 31], 0.8333333333333334),
+            (24_000, 48_000, 8, [12, 25], 0.8333333333333334),
+            (48_000, 24_000, 8, [12, 25, 28, 31], 0.75),
+            (48_000, 48_000, 3, [25, 31], 0.9166666666666666),
+            (48_000, 48_000, 2, [25], 1.0),
+            (48_000, 48_000, 1, [], 0.0),
+        ):
+            out, count = frame_room(40), len(expected)
+            found = ph.boundaries(novel, length, rate, most, out, room(40))
+            self.assertEqual(found, (count + 1, count, confidence), (length, rate, most))
+            self.assertEqual((list(out[:count]), out[count]), (expected, WAS_FRAME))
+        for length, rate, expected in ((24_000, 48_000, [12_500, 6_000, WAS]), (48_000, 96_000, [12_500, 6_000, WAS]),
+                                       (24_000, 8_000, [75_000, 36_000, WAS])):
+            ms = room(3)
+            ph.boundary_times(frames(25, 12), length, rate, ms)
+            self.assertEqual(list(ms), expected)
+
+    def test_room(self):
+        for rows, rate, opts, expected in ((67_500, RATE, (30, 300), (67_500, 338, 338)), (67_500, RATE, (30, 200), (67_500, 320, 320)),
+                                           (67_500, RATE, (60, 300), (67_500, 151, 151)), (30, 1, (30, 300), (30, 2, 21)),
+                                           (10, 1, (30, 300), (10, 2, 10))):
+            buffers = ph.Buffers(rows, rate, opts)
+            self.assertEqual((ph.room_of(rows, rate, opts), buffers.room), (expected, expected))
+            self.assertEqual(buffers.room.bytes, 40 * expected[0] + 32 * expected[1] + 8 * expected[2])
+            buffers.analyse_envelope(array("d", [1.0]) * rows, rate, opts)
 
 
 class Refusals(unittest.TestCase):
@@ -292,6 +405,40 @@ class Lending(unittest.TestCase):
         slab[:3] = reals(3, 1, 2)
         self.assertEqual(ph.median_of(slab[:3], slab[3:6]), 2.0)
 
+    def test_shapes(self):
+        def shaped(values, shape):
+            return memoryview(values).cast("B").cast(values.typecode, shape)
+
+        buffers, rows, features, band = ph.Buffers(6, RATE), singles(*range(12)), room(32), array("d", [0.5]) * 34
+        for want, lent, call in (
+            ("(6, 2)", rows, lambda m: ph.spectral_flux(m, 6, 2, room(6))),
+            ("(6, 2)", rows, lambda m: buffers.analyse_magnitudes(m, 6, 2, RATE)),
+            ("(6, 2)", rows, lambda m: ph.patch_magnitudes(m, 6, 2, 5, singles(3, 4), reals(*range(6)), reals(*range(6)), room(6))),
+            ("(rows, 2)", rows, lambda m: ph.patch_magnitudes(rows[:], 6, 2, 0, m, reals(*range(6)), reals(*range(6)), room(6))),
+            ("(2, 16)", features, lambda m: ph.similarity(m, 2, room(34))),
+            ("(2, 16)", features, lambda m: ph.patch_features(m, 2, 1, room(16), band[:], reals(1, 2))),
+            ("(rows, 16)", features, lambda m: ph.patch_features(features[:], 2, 0, m, band[:], reals(1, 2))),
+            ("(2, 17)", band, lambda m: ph.novelty(m, 2, room(2))),
+            ("(rows, 17)", band, lambda m: ph.similarity(features, 2, m)),
+            ("(rows, 17)", band, lambda m: ph.patch_features(features[:], 2, 1, room(16), m, reals(1, 2))),
+        ):
+            n, width = len(lent), int(want.split()[1][:-1])
+            told = call(lent[:])
+            self.assertEqual(call(shaped(lent[:], (n // width, width))), told, want)
+            for shape in ((width, n // width), (1, n), (n, 1), (n // 2 // width, 2 * width), (n // width, width, 1), (1, n // width, width)):
+                view = shaped(lent[:], shape)
+                with self.assertRaises(ValueError) as caught:
+                    call(view)
+                said = str(caught.exception)
+                self.assertIn(f"must have the shape {want}, rows first", said)
+                self.assertIn(f", or one dimension, not the shape {shape}", said)
+                self.assertEqual(".T) has it)" in said, shape == (width, n // width), said)
+                self.assertEqual(bytes(view), bytes(lent))
+                view.release()  # one that is still lent cannot be
+        for shape in ((), (1, 1), (1, 1, 1)):
+            self.wrong(ValueError, f"values must have one dimension, not the shape {shape}", ph.median_of, shaped(reals(1), shape), room(1))
+            self.wrong(ValueError, f"work must have one dimension, not the shape {shape}", ph.median_of, reals(1), shaped(room(1), shape))
+
     def test_numbers(self):
         self.wrong(OverflowError, "rate is -1", ph.lag_range, -1)
         self.wrong(OverflowError, "rate is 4295015296", ph.lag_range, 2 ** 32 + RATE)
@@ -321,6 +468,12 @@ class Lending(unittest.TestCase):
         self.assertRaises(ValueError, ph.median_of, values, values)
         for lent in (values, work, short):
             lent.append(1.0)  # an array that is still lent cannot grow
+
+    def test_library_by_its_bare_name(self):
+        library = pathlib.Path(ph._library._name)
+        tried = subprocess.run([sys.executable, "-B", "-c", "import prohunsev"], cwd=library.parent, capture_output=True, text=True,
+                               env={**os.environ, "PYTHONPATH": os.path.dirname(ph.__file__), "PROHUNSEV_LIBRARY": library.name})
+        self.assertEqual((tried.returncode, tried.stderr), (0, ""))
 
     def test_library_is_named_when_missing(self):
         here = os.path.dirname(ph.__file__)
@@ -371,6 +524,9 @@ class Patches(unittest.TestCase):
                 new = array("d", (r.uniform(-1, 1) for _ in range(16 * r.randint(0, rows - start))))
                 patched = ph.patch_features(features, rows, start, new, band, curve)
                 past = start + len(new) // 16
+                # from the first pair with a replaced row, 16 rows before it, to the last
+                first = 17 * max(0, start - 16) + min(16, start)
+                self.assertEqual(patched.similarity, range(first, 17 * past) if new else range(0))
                 self.assertEqual(patched.novelty, range(max(0, start - 7), min(rows, past + 8)) if new else range(0))
                 self.assertEqual((bytes(band), bytes(curve)), tuple(map(bytes, fresh())))
 
@@ -425,30 +581,11 @@ class Tracks(unittest.TestCase):
         track = ph.Buffers(3, RATE).analyse_envelope(reals(most, -most, 0), RATE)
         self.assertEqual((track.tempo, len(track.beats)), (None, 0))
 
-    def test_room(self):
-        self.assertEqual(ph.room_of(67_500, RATE), (67_500, 338, 338))
-        self.assertEqual(ph.room_of(30, 1), (30, 2, 21))
-        self.assertEqual(ph.room_of(30, 1).bytes, 40 * 30 + 32 * 2 + 8 * 21)
+    def test_no_room(self):
         for words in ((1_048_577, RATE), (1, 0), (1, RATE, ph.TempoOpts(math.inf, 300))):
             with self.assertRaises(ph.Refused) as caught:
                 ph.room_of(*words)
             self.assertEqual(caught.exception.number, 1)
-
-    def test_in_parts(self):
-        n = 2_000
-        rows, flux, threshold, work = array("f", pulses(n)), room(n), room(n), room(338)
-        ph.spectral_flux(rows, n, 1, flux)
-        ph.adaptive_threshold(flux, threshold, work)
-        onsets, curves = frame_room(n), (room(338), room(338), work)
-        heard = ph.pick_onsets(flux, threshold, RATE, onsets)
-        found = ph.estimate(flux, heard, RATE, OPTS, *curves)
-        lag = found.candidates[0].lag
-        steady = ph.stability_of(flux, RATE, OPTS, lag, *curves)
-        beats, downs = frame_room(n), frame_room(n)
-        laid = ph.beat_grid(flux, lag, room(n), frame_room(n), beats)
-        begun = ph.downbeats(flux, beats[:laid], downs)
-        track = self.told(ph.Buffers(n, RATE).analyse_magnitudes(rows, n, 1, RATE))
-        self.assertEqual(track, (*found, steady, list(onsets[:heard]), list(beats[:laid]), list(downs[:begun])))
 
     def test_threads(self):
         envelope = pulses(3_000)
@@ -553,25 +690,53 @@ class Arrays(unittest.TestCase):
             both = numpy.ones(3)
             ph.median_of(both, both[1:])
 
+    def test_bins_by_frames(self):
+        # as librosa lays them out
+        turned = numpy.zeros((4, 2_000), numpy.float32)
+        turned[:, 5::94] = 1.0
+        flux = numpy.empty(2_000)
+        with self.assertRaisesRegex(ValueError, r"\(2000, 4\), rows first \(numpy\.ascontiguousarray\(magnitudes\.T\) has it\)"):
+            ph.spectral_flux(turned, 2_000, 4, flux)
+        self.assertRaises(TypeError, ph.spectral_flux, turned.T, 2_000, 4, flux)
+        self.assertRaises(ValueError, ph.spectral_flux, numpy.zeros((1_999, 4), numpy.float32), 2_000, 4, flux)
+        ph.spectral_flux(numpy.ascontiguousarray(turned.T), 2_000, 4, flux)
+        numpy.testing.assert_array_equal(flux, turned.sum(axis=0))
+        # no rows, and two channels
+        ph.spectral_flux(numpy.empty((0, 4), numpy.float32), 0, 4, flux)
+        self.assertRaises(ValueError, ph.median_of, numpy.ones((2, 3)), numpy.empty(6))
+        self.assertRaises(ValueError, ph.median_of, numpy.float64(1), numpy.empty(1))
+
+    def test_masked_arrays(self):
+        masked = numpy.ma.masked_greater(numpy.arange(3.0), 1.0)
+        for words in ((masked, numpy.empty(3)), (numpy.ones(3), masked)):
+            with self.assertRaisesRegex(TypeError, "not a masked array, whose mask would be ignored"):
+                ph.median_of(*words)
+        self.assertEqual(ph.median_of(masked.filled(0.0), numpy.empty(3)), 0.0)
+
     def test_readme(self):
-        text = (pathlib.Path(__file__).parent / "README.md").read_text()
-        self.assertEqual(self.said(text), "Tempo(bpm=119.68085106382979, clarity=1.0) 240 [5, 381, 757]\n")
+        here = pathlib.Path(__file__).resolve().parent
+        said = self.said((here / "README.md").read_text(), "PYTHONPATH=. python3 FILE", here)
+        self.assertEqual(said, "Tempo(bpm=119.68085106382979, clarity=1.0) 240 [5, 381, 757]")
 
     ROOT = pathlib.Path(__file__).resolve().parent.parent / "README.md"
 
     @unittest.skipUnless(ROOT.is_file(), "the project's README is not above this folder")
     def test_readme_of_the_project(self):
         text = self.ROOT.read_text()
-        said = self.said(text)
+        said = self.said(text, re.search(r"`(PYTHONPATH=[^`]* FILE)` at the root of this clone", text).group(1), self.ROOT.parent)
         self.assertTrue(said.startswith("Tempo(bpm=119.68"), said)
-        self.assertTrue(f"`{said.strip()}`" in text, "README.md says something else than " + said)
+        self.assertTrue(f"`{said}`" in text, "README.md says something else than " + said)
 
-    def said(self, text):
-        """What the Python example of a text prints."""
-        said = io.StringIO()
-        with contextlib.redirect_stdout(said):
-            exec(text.split("```python\n")[1].split("```")[0], {})
-        return said.getvalue()
+    def said(self, text, command, folder):
+        """What the Python example of a text prints, run by this command, with the Python that runs this."""
+        with tempfile.TemporaryDirectory() as made:
+            file = pathlib.Path(made) / "example.py"
+            file.write_text(text.split("```python\n")[1].split("```")[0])
+            self.assertEqual((command.count("python3 "), command.count("FILE")), (1, 1))
+            command = command.replace("python3 ", shlex.quote(sys.executable) + " ").replace("FILE", shlex.quote(str(file)))
+            ran = subprocess.run(command, shell=True, cwd=folder, capture_output=True, text=True)
+        self.assertEqual((ran.returncode, ran.stderr), (0, ""), command)
+        return ran.stdout.strip()
 
     def test_numbers_of_numpy(self):
         self.assertEqual(ph.lag_range(numpy.uint32(RATE)), (38, 375))

@@ -5,7 +5,7 @@ use std::process::Command;
 use std::{env, fs};
 
 fn library() -> PathBuf {
-    if let Some(given) = env::var_os("PROHUNSEV") {
+    if let Some(given) = env::var_os("PROHUNSEV").filter(|given| !given.is_empty()) {
         let given = PathBuf::from(given);
         assert!(given.is_file(), "PROHUNSEV names {}, which is no file", given.display());
         return given;

@@ -1,8 +1,8 @@
 //! The rhythm of a track, proved: onset strength, tempo, beat grid, bars and sections, from magnitude rows or feature rows.
 //!
 //! Every call is a thin, safe door to a function that is proved to meet its contract for every input. All memory is lent: slices go in,
-//! answers come back by value, and outputs are slices of the caller's, whose size is a formula ([`rooms`]). Nothing is allocated, nothing
-//! is kept from call to call, and any number of threads may call at once.
+//! answers come back by value, and outputs are slices of the caller's, whose size is a formula ([`rooms`]). Nothing is allocated but by
+//! making [`Buffers`], nothing is kept from call to call, and any number of threads may call at once.
 //!
 //! A call takes up to 40 KB of its thread's stack on x86-64 (measured: 34,279 bytes in a whole track, on a stack filled with a pattern). A
 //! thread of 40 KB ran a whole track in a release build; without optimisation what stands around the call needs more, and 48 KB were enough.

@@ -11,7 +11,7 @@ pub const MOST_ROWS: usize = 1_048_576;
 pub const MOST_BINS: usize = 4_096;
 /// The greatest frame in a list of frames.
 pub const MOST_FRAME: u32 = 1_048_575;
-/// The longest beat period, in frames.
+/// The longest beat period, in frames, and the greatest lag.
 pub const MOST_PERIOD: usize = 45_000;
 /// The most feature rows.
 pub const MOST_FEATURE_ROWS: usize = 50_000;

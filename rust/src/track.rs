@@ -1,5 +1,5 @@
 //! A whole track, through buffers that are made once.
-use crate::{ffi, rooms, Candidate, Refusal, Stability, Tempo, TempoEstimate, TempoOpts};
+use crate::{ffi, limits, rooms, Candidate, Refusal, Stability, Tempo, TempoEstimate, TempoOpts};
 
 /// The rhythm of a track. Lists lie in the [`Buffers`] that were used, until those are used again.
 #[derive(Clone, Copy, Debug, PartialEq)]
@@ -129,14 +129,24 @@ macro_rules! analyse {
 impl Buffers {
     /// Buffers for tracks of at most so many rows at this rate and with these options. Refuses as [`rooms::Track::of`] does.
     pub fn for_tracks(rows: usize, rate: u32, opts: TempoOpts) -> Result<Buffers, Refusal> {
-        Ok(Buffers::with_room(rooms::Track::of(rows, rate, opts)?))
+        Buffers::with_room(rooms::Track::of(rows, rate, opts)?)
     }
 
-    /// Buffers of this room.
-    pub fn with_room(room: rooms::Track) -> Buffers {
+    /// Buffers of this room, at most 43,743,040 bytes. Refuses [`OutOfBounds`](Refusal::OutOfBounds) for more than any track can use:
+    /// rows above 1,048,576, lags or sorting above 45,000.
+    ///
+    /// ```
+    /// # use prohunsev::*;
+    /// let room = rooms::Track { rows: usize::MAX, lags: 338, sorting: 338 };
+    /// assert_eq!(Buffers::with_room(room).err(), Some(Refusal::OutOfBounds));
+    /// ```
+    pub fn with_room(room: rooms::Track) -> Result<Buffers, Refusal> {
+        if room.rows > limits::MOST_ROWS || room.lags.max(room.sorting) > limits::MOST_PERIOD {
+            return Err(Refusal::OutOfBounds);
+        }
         let (rows, lags) = (|| vec![0.0; room.rows], || vec![0.0; room.lags]);
         let frames = || vec![0; room.rows];
-        Buffers {
+        Ok(Buffers {
             room,
             flux: rows(),
             lists: Lists {
@@ -152,7 +162,7 @@ impl Buffers {
                 downbeats: frames(),
                 work: vec![0.0; room.sorting],
             },
-        }
+        })
     }
 
     /// The room that these buffers have.

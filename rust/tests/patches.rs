@@ -50,6 +50,12 @@ fn runs_of_magnitude_patches() {
             let (before, work) = (flux.clone(), &mut [0.0; 21]);
             match patch_magnitudes(&mut magnitudes, rows, bins, start, &new, &mut flux, &mut threshold, work) {
                 Ok(patched) => {
+                    let past = start + new.len() / bins;
+                    let named = Patched {
+                        flux: start..rows.min(past + 1),
+                        threshold: start.saturating_sub(10)..rows.min(past + 11),
+                    };
+                    assert_eq!(patched, if new.is_empty() { Patched { flux: 0..0, threshold: 0..0 } } else { named });
                     for t in (0..rows).filter(|t| !patched.flux.contains(t)) {
                         assert_eq!(before[t].to_bits(), flux[t].to_bits());
                     }
@@ -72,7 +78,14 @@ fn runs_of_feature_patches() {
             let start = r.below(rows + 1);
             let new: Vec<f64> = (0..r.below(rows - start + 1) * 16).map(|_| r.value()).collect();
             let patched = patch_features(&mut features, rows, start, &new, &mut band, &mut novel).unwrap();
-            assert_eq!(patched.novelty.is_empty(), new.is_empty());
+            // from the first pair with a replaced row, 16 rows before it, to the last
+            let past = start + new.len() / 16;
+            let similarity = 17 * start.saturating_sub(16) + start.min(16)..17 * past;
+            let named = PatchedFeatures { similarity, novelty: start.saturating_sub(7)..rows.min(past + 8) };
+            assert_eq!(
+                patched,
+                if new.is_empty() { PatchedFeatures { similarity: 0..0, novelty: 0..0 } } else { named }
+            );
             let fresh = feature_curves(&features, rows);
             assert_eq!((bits(&band), bits(&novel)), (bits(&fresh.0), bits(&fresh.1)));
         }

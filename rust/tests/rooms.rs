@@ -1,4 +1,4 @@
-//! With exactly the room of `rooms` no call refuses for room, and with one slot fewer it does; slots behind it are unchanged.
+//! With exactly the room of `rooms` no call refuses for room, and with one slot fewer it does.
 use prohunsev::*;
 
 const RATE: u32 = 48_000;
@@ -12,57 +12,72 @@ fn short<T>(answer: Result<T, Refusal>) -> bool {
     answer.is_err_and(|r| r == Refusal::TooLittleRoom)
 }
 
+// a call by its name, its slots, and itself with other numbers of them
+type Case<'a> = (&'a str, &'a [usize], &'a dyn Fn(&[usize]) -> Result<(), Refusal>);
+
+// each call with the slots of its outputs and work slices, by `rooms`: with so many it is answered; with one slot fewer in any of them, and
+// different numbers to spare in the others, it is not
 #[test]
-fn curves_and_lists() {
-    for n in [1, 2, 3, 20, 21, 22, 500] {
+fn one_slot_short() {
+    let (new, open) = (TempoOpts::new(), TempoOpts::between(0.0, 0.0));
+    for (n, rate, opts) in [
+        (1, RATE, new),
+        (2, 1, new),
+        (3, RATE, new),
+        (20, RATE, new),
+        (21, 192_000, open),
+        (22, 24_000, new),
+        (500, RATE, new),
+    ] {
         let flux = envelope(n);
-        let magnitudes: Vec<f32> = flux.iter().map(|&x| x as f32).collect();
-        let mut room = vec![-1.0; n + 3];
-        assert_eq!(spectral_flux(&magnitudes, n, 1, &mut room[..rooms::flux(n)]), Ok(()));
-        assert!(short(spectral_flux(&magnitudes, n, 1, &mut room[..n - 1])));
-        let (work, mut sorting) = (rooms::threshold_work(n), vec![-1.0; n + 3]);
-        let mut threshold = vec![-1.0; n + 3];
-        assert!(short(adaptive_threshold(&flux, &mut threshold, &mut sorting[..work - 1])));
-        assert!(short(adaptive_threshold(&flux, &mut threshold[..n - 1], &mut sorting)));
-        assert_eq!(adaptive_threshold(&flux, &mut threshold, &mut sorting[..work]), Ok(()));
-        assert_eq!(threshold[n..], [-1.0; 3]);
-        let mut frames = vec![9; n + 3];
-        assert!(short(pick_onsets(&flux, &threshold[..n], RATE, &mut frames[..rooms::onsets(n) - 1])));
-        let count = pick_onsets(&flux, &threshold[..n], RATE, &mut frames).unwrap();
-        assert!(frames[count..].iter().all(|&f| f == 9));
-        let (mut score, mut back, mut beats) = (vec![-1.0; n], vec![9; n], vec![9; n]);
-        let most = rooms::beats(n);
-        assert!(beat_grid(&flux, 60, &mut score[..most], &mut back[..most], &mut beats[..most]).is_ok());
-        assert!(short(beat_grid(&flux, 60, &mut score, &mut back, &mut beats[..most - 1])));
-    }
-}
-
-#[test]
-fn lag_curves() {
-    for (rate, opts) in [(RATE, TempoOpts::new()), (1, TempoOpts::new()), (192_000, TempoOpts::between(0.0, 0.0))] {
-        let lags = rooms::lags(rate, opts).unwrap();
-        let (mut a, mut b, mut c) = (vec![-1.0; lags], vec![-1.0; lags], vec![-1.0; lags]);
-        let envelope = envelope(900);
-        assert!(estimate(&envelope, 15, rate, opts, &mut a, &mut b, &mut c).is_ok());
-        assert!(stability_of(&envelope, rate, opts, 60, &mut a, &mut b, &mut c).is_ok());
-        assert!(short(estimate(&envelope, 15, rate, opts, &mut a[1..], &mut b, &mut c)));
-        assert!(short(estimate(&envelope, 15, rate, opts, &mut a, &mut b, &mut c[1..])));
-        assert!(short(stability_of(&envelope, rate, opts, 60, &mut a, &mut b[1..], &mut c)));
-    }
-}
-
-#[test]
-fn sections_room() {
-    for rows in [1, 15, 16, 40] {
-        let features: Vec<f64> = (0..16 * rows).map(|i| (i % 23) as f64 - 7.0).collect();
-        let (mut band, mut novel) = (vec![-9.0; rooms::similarity(rows)], vec![-9.0; rooms::novelty(rows)]);
-        assert!(short(similarity(&features, rows, &mut band[1..])));
-        assert_eq!(similarity(&features, rows, &mut band), Ok(()));
-        assert!(short(novelty(&band, rows, &mut novel[1..])));
-        assert_eq!(novelty(&band, rows, &mut novel), Ok(()));
-        let (mut list, mut work) = (vec![9; rooms::boundaries(rows)], vec![-9.0; rooms::boundaries(rows)]);
-        assert!(short(boundaries(&novel, 4_800, RATE, 8, &mut list, &mut work[1..])));
-        assert!(boundaries(&novel, 4_800, RATE, 8, &mut list, &mut work).is_ok());
+        let (row, lags) = (flux[n - 1] as f32, rooms::lags(rate, opts).unwrap());
+        let (magnitudes, list, ones) = (vec![row; n], (0..n as u32).collect::<Vec<_>>(), vec![1.0; 16 * n]);
+        let (reals, frames) = (|slots| vec![0.0; slots], |slots| vec![0; slots]);
+        let cases: [Case; 17] = [
+            ("median_of", &[rooms::entries(n)], &|r| median_of(&flux, &mut reals(r[0])).map(drop)),
+            ("mad_of", &[rooms::entries(n)], &|r| mad_of(&flux, 1.0, &mut reals(r[0])).map(drop)),
+            ("spectral_flux", &[rooms::flux(n)], &|r| spectral_flux(&magnitudes, n, 1, &mut reals(r[0]))),
+            ("adaptive_threshold", &[rooms::threshold(n), rooms::threshold_work(n)], &|r| {
+                adaptive_threshold(&flux, &mut reals(r[0]), &mut reals(r[1]))
+            }),
+            ("pick_onsets", &[rooms::onsets(n)], &|r| pick_onsets(&flux, &flux, rate, &mut frames(r[0])).map(drop)),
+            ("suppress_close_peaks", &[rooms::entries(n)], &|r| {
+                suppress_close_peaks(&list, &flux, 1, &mut frames(r[0])).map(drop)
+            }),
+            ("frame_times", &[rooms::entries(n)], &|r| frame_times(&list, rate, &mut reals(r[0]))),
+            ("estimate", &[lags; 3], &|r| {
+                estimate(&flux, 2, rate, opts, &mut reals(r[0]), &mut reals(r[1]), &mut reals(r[2])).map(drop)
+            }),
+            ("stability_of", &[lags; 3], &|r| {
+                stability_of(&flux, rate, opts, 60, &mut reals(r[0]), &mut reals(r[1]), &mut reals(r[2])).map(drop)
+            }),
+            ("beat_grid", &[rooms::beats(n); 3], &|r| {
+                beat_grid(&flux, 60, &mut reals(r[0]), &mut frames(r[1]), &mut frames(r[2])).map(drop)
+            }),
+            ("downbeats", &[rooms::entries(n)], &|r| downbeats(&flux, &list, &mut frames(r[0])).map(drop)),
+            ("similarity", &[rooms::similarity(n)], &|r| similarity(&ones, n, &mut reals(r[0]))),
+            ("novelty", &[rooms::novelty(n)], &|r| novelty(&vec![1.0; 17 * n], n, &mut reals(r[0]))),
+            ("boundaries", &[rooms::boundaries(n); 2], &|r| {
+                boundaries(&flux, 4_800, rate, 8, &mut frames(r[0]), &mut reals(r[1])).map(drop)
+            }),
+            ("boundary_times", &[rooms::entries(n)], &|r| boundary_times(&list, 4_800, rate, &mut reals(r[0]))),
+            ("patch_magnitudes", &[rooms::flux(n), rooms::threshold(n), rooms::threshold_work(n)], &|r| {
+                let (mut rows, mut work) = (magnitudes.clone(), reals(r[2]));
+                patch_magnitudes(&mut rows, n, 1, 0, &[2.0], &mut reals(r[0]), &mut reals(r[1]), &mut work).map(drop)
+            }),
+            ("patch_features", &[rooms::similarity(n), rooms::novelty(n)], &|r| {
+                patch_features(&mut ones.clone(), n, 0, &[2.0; 16], &mut reals(r[0]), &mut reals(r[1])).map(drop)
+            }),
+        ];
+        for (name, exact, call) in cases {
+            assert_eq!(call(exact), Ok(()), "{name}, {n}");
+            for short in 0..exact.len() {
+                let mut slots: Vec<usize> = exact.iter().zip(1..).map(|(slots, spare)| slots + spare).collect();
+                assert_eq!(call(&slots), Ok(()), "{name}, {n}, and to spare");
+                slots[short] = exact[short] - 1;
+                assert_eq!(call(&slots), Err(Refusal::TooLittleRoom), "{name}, {n}, slice {short} of its outputs");
+            }
+        }
     }
 }
 
@@ -71,7 +86,7 @@ fn a_whole_track() {
     let opts = TempoOpts::new();
     let room = rooms::Track::of(2_000, RATE, opts).unwrap();
     assert_eq!(room.bytes(), 8 * (3 * 2_000 + 4 * 338 + 338) + 4 * 4 * 2_000);
-    let mut exact = Buffers::with_room(room);
+    let mut exact = Buffers::with_room(room).unwrap();
     let track = exact.analyse_envelope(&envelope(2_000), RATE, opts).unwrap();
     assert_eq!((track.candidates()[0].lag, track.stability.map(|s| s.windows)), (94, Some(4)));
     assert!(track.downbeats.iter().all(|d| track.beats.contains(d)) && track.beats.len() > 18);
@@ -80,10 +95,20 @@ fn a_whole_track() {
         rooms::Track { lags: 337, ..room },
         rooms::Track { sorting: 337, ..room },
     ] {
-        assert!(short(Buffers::with_room(less).analyse_envelope(&envelope(2_000), RATE, opts)));
+        assert!(short(Buffers::with_room(less).unwrap().analyse_envelope(&envelope(2_000), RATE, opts)));
     }
     assert_eq!(rooms::Track::of(limits::MOST_ROWS + 1, RATE, opts), Err(Refusal::OutOfBounds));
     assert!(Buffers::for_tracks(10, 0, opts).is_err());
+    // the most that a track can use, and one more of each
+    let most = rooms::Track { rows: limits::MOST_ROWS, lags: 45_000, sorting: 45_000 };
+    assert_eq!(Buffers::with_room(most).unwrap().room().bytes(), 43_743_040);
+    for more in [
+        rooms::Track { rows: most.rows + 1, ..most },
+        rooms::Track { lags: 45_001, ..most },
+        rooms::Track { sorting: usize::MAX, ..most },
+    ] {
+        assert_eq!(Buffers::with_room(more).err(), Some(Refusal::OutOfBounds));
+    }
 }
 
 // one call, judged before it begins: the lowest number, and nothing in the buffers changes
@@ -113,30 +138,6 @@ fn the_largest_values_are_answered() {
     let most = limits::MOST_VALUE;
     let track = buffers.analyse_envelope(&[most, -most, 0.0], RATE, TempoOpts::new()).unwrap();
     assert_eq!((track.tempo, track.beats.len()), (None, 0));
-}
-
-// the one call is the calls one after the other
-#[test]
-fn a_track_in_parts() {
-    let (opts, n) = (TempoOpts::new(), 2_000);
-    let rows: Vec<f32> = envelope(n).iter().map(|&x| x as f32).collect();
-    let (mut flux, mut threshold, mut work) = (vec![0.0; n], vec![0.0; n], vec![0.0; 338]);
-    spectral_flux(&rows, n, 1, &mut flux).unwrap();
-    adaptive_threshold(&flux, &mut threshold, &mut work).unwrap();
-    let mut onsets = vec![0; n];
-    let heard = pick_onsets(&flux, &threshold, RATE, &mut onsets).unwrap();
-    let (mut clarity, mut weight) = (vec![0.0; 338], vec![0.0; 338]);
-    let found = estimate(&flux, heard, RATE, opts, &mut clarity, &mut weight, &mut work).unwrap();
-    let lag = found.lag().unwrap();
-    let steady = stability_of(&flux, RATE, opts, lag, &mut clarity, &mut weight, &mut work).unwrap();
-    let (mut score, mut back, mut beats, mut bars) = (vec![0.0; n], vec![0; n], vec![0; n], vec![0; n]);
-    let laid = beat_grid(&flux, lag, &mut score, &mut back, &mut beats).unwrap();
-    let begun = downbeats(&flux, &beats[..laid], &mut bars).unwrap();
-
-    let mut buffers = Buffers::for_tracks(n, RATE, opts).unwrap();
-    let track = buffers.analyse_magnitudes(&rows, n, 1, RATE, opts).unwrap();
-    assert_eq!((track.tempo, track.candidates(), track.stability), (found.tempo, found.candidates(), steady));
-    assert_eq!((track.onsets, track.beats, track.downbeats), (&onsets[..heard], &beats[..laid], &bars[..begun]));
 }
 
 // the same buffers, shorter and longer tracks in turn, magnitudes and envelopes: an answer depends on nothing left behind
