@@ -8,7 +8,6 @@
 use prohunsev::*;
 use std::collections::HashMap;
 use std::error::Error;
-use std::ffi::{c_int, c_ulong};
 use std::fmt::Write;
 use std::io::Read;
 use std::process::exit;
@@ -36,16 +35,19 @@ fn fewest() -> usize {
     (2 * TOLERANCE * page() / LEAK).max(1_000) as usize
 }
 
-extern "C" {
-    fn prctl(option: c_int, ...) -> c_int;
-}
-
 /// Asks for pages of the plain size: a huge one, once there, takes up a leak without a rise.
 fn plain_pages() {
-    const PR_SET_THP_DISABLE: c_int = 41;
-    let (yes, none): (c_ulong, c_ulong) = (1, 0);
-    // SAFETY: the number of an option and its values, no memory; where the system doesn't know it, nothing happens
-    unsafe { prctl(PR_SET_THP_DISABLE, yes, none, none, none) };
+    #[cfg(target_os = "linux")]
+    {
+        use std::ffi::{c_int, c_ulong};
+        extern "C" {
+            fn prctl(option: c_int, ...) -> c_int;
+        }
+        const PR_SET_THP_DISABLE: c_int = 41;
+        let (yes, none): (c_ulong, c_ulong) = (1, 0);
+        // SAFETY: the number of an option and its values, no memory; where the system doesn't know it, nothing happens
+        unsafe { prctl(PR_SET_THP_DISABLE, yes, none, none, none) };
+    }
 }
 
 /// A plain generator of numbers, so that both workers get the same tracks.
@@ -181,7 +183,7 @@ impl Vectors {
     /// Every call of the library, on one track; answers how much there is to tag.
     fn tag(&mut self, frames: usize, r: &mut Numbers) -> Tagged {
         if rooms::Track::of(frames, RATE, OPTS)?.bytes() > self.buffers.room().bytes() {
-            return Err("a track asks for more room than one of its length".into());
+            return Err("a track asks for more room than its buffers have".into());
         }
         let magnitudes = &mut self.magnitudes[..frames * BINS];
         fill(magnitudes, r);
@@ -202,7 +204,7 @@ impl Vectors {
         let count = 1 + r.below(frames / 4);
         let new_rows = &mut self.new_rows[..count * BINS];
         fill(new_rows, r);
-        patch_magnitudes(magnitudes, frames, BINS, r.below(frames - count), new_rows, flux, threshold, work)?;
+        patch_magnitudes(magnitudes, frames, BINS, r.below(frames - count + 1), new_rows, flux, threshold, work)?;
 
         let onsets = pick_onsets(flux, threshold, RATE, &mut self.onsets)?;
         let kept = suppress_close_peaks(&self.onsets[..onsets], flux, 20, &mut self.kept)?;
@@ -237,7 +239,7 @@ impl Vectors {
         let count = 1 + r.below(rows / 4);
         let new_features = &mut self.new_features[..count * limits::FEATURE_WIDTH];
         fill_features(new_features, r);
-        patch_features(features, rows, r.below(rows - count), new_features, band, curve)?;
+        patch_features(features, rows, r.below(rows - count + 1), new_features, band, curve)?;
         let found = boundaries(curve, ROW_LENGTH, RATE, 12, &mut self.rows, &mut self.work)?;
         boundary_times(&self.rows[..found.count], ROW_LENGTH, RATE, &mut self.row_times)?;
         Ok(found.sections)
