@@ -275,13 +275,15 @@ extern "C" {
     ) -> u32;
 }
 
-/// Ranges of slots by argument, or what is wrong with an answer.
+/// Ranges of slots by argument, several for one where slots between them are held; or what is wrong with an answer.
 pub type Reach = Result<Vec<(usize, Range<usize>)>, String>;
 
 /// An exported function and how it is tried.
 pub struct Call {
     pub name: &'static str,
     pub function: fn(&[Word]) -> u32,
+    /// The numbers of refusal that it has; it gives no other, and each of these for some input.
+    pub refuses: &'static [u32],
     /// Draws its arguments.
     pub draw: fn(&mut Numbers) -> Vec<Arg>,
     /// Its arguments at the bounds, the number so-and-so of them; None past the last.
@@ -332,10 +334,11 @@ macro_rules! hand {
 }
 
 macro_rules! call {
-    ($name:ident, $function:ident, $module:ident, $($word:tt)*) => {
+    ($name:ident, $function:ident, $module:ident, $refuses:tt, $($word:tt)*) => {
         Call {
             name: stringify!($name),
             function: hand!($function, $($word)*),
+            refuses: &$refuses,
             draw: $module::draw,
             bound: $module::bound,
             reach: $module::reach,
@@ -344,31 +347,38 @@ macro_rules! call {
 }
 
 pub const CALLS: [Call; 22] = [
-    call!(median_of, ph_median_of, median, s s p),
-    call!(mad_of, ph_mad_of, mad, s f s p),
-    call!(spectral_flux, ph_spectral_flux, flux, s n n s),
-    call!(adaptive_threshold, ph_adaptive_threshold, threshold, s s s),
-    call!(pick_onsets, ph_pick_onsets, onsets, s s u s p),
-    call!(suppress_close_peaks, ph_suppress_close_peaks, peaks, s s n s p),
-    call!(frame_times, ph_frame_times, times, s u s),
-    call!(lag_range, ph_lag_range, lags, u f f p p),
-    call!(estimate, ph_estimate, tempo, s n u f f s s s p p p p p p),
-    call!(stability_of, ph_stability_of, stability, s u f f n s s s p p p p),
-    call!(beat_grid, ph_beat_grid, grid, s n s s s p),
-    call!(downbeats, ph_downbeats, bars, s s s p),
-    call!(bar_beat_at, ph_bar_beat_at, places, f s s p p p),
-    call!(similarity, ph_similarity, similarity, s n s),
-    call!(novelty, ph_novelty, novelty, s n s),
-    call!(boundaries, ph_boundaries, sections, s l u n s s p p p),
-    call!(boundary_times, ph_boundary_times, section_times, s l u s),
-    call!(patch_magnitudes, ph_patch_magnitudes, magnitudes, s n n n s s s s p p p p),
-    call!(patch_features, ph_patch_features, features, s n n s s s p p p p),
-    call!(room_of, ph_room_of, track_rooms, n u f f p p p),
-    call!(analyse_envelope, ph_analyse_envelope, tracks, s u f f s s s s s s s s s s s p p p p p p p p p p p p p),
+    call!(median_of, ph_median_of, median, [1, 3, 4], s s p),
+    call!(mad_of, ph_mad_of, mad, [1, 3, 4], s f s p),
+    call!(spectral_flux, ph_spectral_flux, flux, [1, 2, 3, 4], s n n s),
+    call!(adaptive_threshold, ph_adaptive_threshold, threshold, [1, 3, 4], s s s),
+    call!(pick_onsets, ph_pick_onsets, onsets, [1, 2, 3, 4], s s u s p),
+    call!(suppress_close_peaks, ph_suppress_close_peaks, peaks, [1, 3, 4], s s n s p),
+    call!(frame_times, ph_frame_times, times, [1, 3], s u s),
+    call!(lag_range, ph_lag_range, lags, [1], u f f p p),
+    call!(estimate, ph_estimate, tempo, [1, 3, 4], s n u f f s s s p p p p p p),
+    call!(stability_of, ph_stability_of, stability, [1, 3, 4], s u f f n s s s p p p p),
+    call!(beat_grid, ph_beat_grid, grid, [1, 3, 4], s n s s s p),
+    call!(downbeats, ph_downbeats, bars, [1, 3, 4], s s s p),
+    call!(bar_beat_at, ph_bar_beat_at, places, [], f s s p p p),
+    call!(similarity, ph_similarity, similarity, [1, 2, 3, 4], s n s),
+    call!(novelty, ph_novelty, novelty, [1, 2, 3, 4], s n s),
+    call!(boundaries, ph_boundaries, sections, [1, 3, 4], s l u n s s p p p),
+    call!(boundary_times, ph_boundary_times, section_times, [1, 3], s l u s),
+    call!(patch_magnitudes, ph_patch_magnitudes, magnitudes, [1, 2, 3, 4], s n n n s s s s p p p p),
+    call!(patch_features, ph_patch_features, features, [1, 2, 3, 4], s n n s s s p p p p),
+    call!(room_of, ph_room_of, track_rooms, [1], n u f f p p p),
+    call!(
+        analyse_envelope,
+        ph_analyse_envelope,
+        tracks,
+        [1, 3, 4],
+        s u f f s s s s s s s s s s s p p p p p p p p p p p p p
+    ),
     call!(
         analyse_magnitudes,
         ph_analyse_magnitudes,
         slabs,
+        [1, 2, 3, 4],
         s n n u f f s s s s s s s s s s s s p p p p p p p p p p p p p
     ),
 ];
@@ -1001,7 +1011,11 @@ mod features {
         let first = start.saturating_sub(16);
         let band = if new == 0 { 0..0 } else { first * 17 + (start - first)..(start + new) * 17 };
         must(named(after, 6) == band && named(after, 8) == curve, "names other slots than those that follow")?;
-        let mut reach = vec![(0, start * FEATURE_WIDTH..(start + new) * FEATURE_WIDTH), (4, band), (5, curve)];
+        let mut reach = vec![(0, start * FEATURE_WIDTH..(start + new) * FEATURE_WIDTH), (5, curve)];
+        // of the named slots only the pairs that touch the patch: those of its own rows, and of each row before it those with one of them
+        let last = start + new;
+        reach.extend((first..start).map(|i| (4, 17 * i + (start - i)..17 * i + (last - i).min(17))));
+        reach.push((4, start * 17..last * 17));
         reach.extend((6..=9).map(all));
         Ok(reach)
     }
