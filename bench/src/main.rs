@@ -59,7 +59,7 @@ fn main() {
     };
     // Rows, bins, rounds: what the aims were set on, three minutes, an hour, and the most rows. Of the magnitudes there are two copies, the
     // Rust's in rows of their own and ours; the last has half the bins so that they stay below 4 GB.
-    let tracks = [(8_000, 513, 15), (33_750, 513, 9), (675_000, 513, 3), (1_048_576, 257, 3)];
+    let tracks = [(8_000, 513, 40), (33_750, 513, 25), (675_000, 513, 5), (1_048_576, 257, 5)];
     println!("| stage | size | original ms | ours ms | original / ours | aim | |");
     println!("|---|---|---|---|---|---|---|");
     let mut patches = Vec::new();
@@ -85,7 +85,7 @@ fn main() {
     }
     // three minutes, an hour and the most, at a row a second
     for &rows in &[180, 3_600, 50_000][..if quick { 2 } else { 3 }] {
-        stages::sections(rows, 15, &mut |line| take(line, rows));
+        stages::sections(rows, 40, &mut |line| take(line, rows));
     }
     println!("\n| patch | of | ours ms | our full run ms | part | original's full run ms |");
     println!("|---|---|---|---|---|---|");
