@@ -38,7 +38,7 @@
  * of these at the same time, each with slices and numbers of its own to write into; what is only read may be shared. Every call ends.
  *
  * Stack. A call takes up to 40 KB of its thread's stack on x86-64, and none recurses. Measured on a thread's stack filled with a pattern,
- * with what its caller pushes: 34,279 bytes in ph_analyse_magnitudes, the most.
+ * 34,112 bytes in ph_analyse_magnitudes, the most (docs/ROOM.md).
  *
  * Times. A magnitude row is a frame: 1,024 samples, 256 after the one before it. Frame t's centre is at (256 t + 512) / rate seconds.
  * A feature row has 16 values and is `length` samples long. Beats and lags are counted in frames.
