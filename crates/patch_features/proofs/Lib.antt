@@ -1,4 +1,4 @@
--- Repairs has the theorems that an auditor reads first; the others lead to it.
+-- Repairs has demand 3's theorems, which crate promises tells on a page; the others lead to it.
 pub mod Asked
 pub mod Outcomes
 pub mod Touched

@@ -1,10 +1,10 @@
--- Demand 3, "Patching equals starting over", for feature rows with their similarity and novelty curves. Each theorem holds for every input.
--- `Patches` is what `patch_features` promises, `after` the track that it leaves. Assumes nothing.
+-- Demand 3, "Patching equals starting over", for feature rows with their similarity and novelty curves. `Patches` is what
+-- `patch_features` promises, `after` the track that it leaves. What a theorem asks is written in it; no axiom stands behind one.
 use mathlib.Core.Bool.{true, false}
 use mathlib.Core.List.{List, [], _∷_}
-use mathlib.Core.Logic.{_⊎_, inl, inr, ⊎-elim}
+use mathlib.Core.Logic.{inl, inr, ⊎-elim}
 use mathlib.Core.Path.{_≡_, refl, sym, ap, _∙_}
-use Prim.Native.Nat.{ℕ, zero, suc, _+_, _-_, _*_, _/_, _≤_, _<_}
+use Prim.Native.Nat.{ℕ, zero, suc, _+_, _*_, _/_, _≤_, _<_}
 use native.Mathlib.Omega.{arith}
 use borrow.Author.Tests.{le-leb, eq-eqb}
 use lib.Dec.{lit≤}
@@ -44,13 +44,14 @@ use Rattle.patch_features.specs.Features.{
   after,
   Patches,
 }
-use Rattle.patch_features.specs.Runs.{similarityCurve, noveltyCurve, Fresh, Kept, Sound, Good, analysed, run, Ran, stays, patches, refuses}
+use Rattle.patch_features.specs.Runs.{similarityCurve, noveltyCurve, Fresh, Kept, Sound, Good, analysed, Ran, stays, patches, refuses, empties}
 use Rattle.patch_features.proofs.Asked.{Asked, asked, bounds-asked, room-asked}
 use Rattle.patch_features.proofs.Fine.{similarities-are-fine, novelties-are-fine}
 use Rattle.patch_features.proofs.Mended.{similarity-mends, novelty-mends, similarity-rest, novelty-rest}
 
 -- What holds of the track before a patch, and of a mended one, holds after it: it is refused, empty, or mended.
-by-outcome : (P : Track → Type 0) (rows : ℕ) (was : Track) (patch : Patch) → P was → (Asked rows was patch → P (mended rows was patch)) → P (after rows was patch)
+by-outcome : (P : Track → Type 0) (rows : ℕ) (was : Track) (patch : Patch) → P was → (Asked rows was patch → P (mended rows was patch))
+    → P (after rows was patch)
 unfolding after
 by-outcome P rows was patch kept done = go (numberOf rows was patch) (patch .new) refl
   where
@@ -73,7 +74,8 @@ pub patched-is-fresh : (rows : ℕ) (was : Track) (patch : Patch) → Fresh rows
 patched-is-fresh rows was patch fresh = by-outcome (Fresh rows) rows was patch fresh (mends rows was patch fresh)
 
 -- what `patch_features` promises of one call, whatever it answers
-pub call-is-fresh : (rows : ℕ) (was : Track) (patch : Patch) (answer : PatchedFeatures) (now : Track) → Fresh rows was → Patches rows was patch answer now → Fresh rows now
+pub call-is-fresh : (rows : ℕ) (was : Track) (patch : Patch) (answer : PatchedFeatures) (now : Track)
+    → Fresh rows was → Patches rows was patch answer now → Fresh rows now
 call-is-fresh rows was patch answer now fresh done = rw (done .track-is) (patched-is-fresh rows was patch fresh)
 
 -- ---- (2) An accepted patch leaves the edited rows. Outside them, the pairs that touch one and the slots that the answer names nothing differs.
@@ -138,7 +140,8 @@ mended-keeps rows was patch a =
     let r = a .rooms in
     let k = length (patch .new) / featureWidth in
     record {
-      features-length = length-over _ _ _ (patch-fits (was .features) (patch .new) rows featureWidth (patch .start) k nan (w .whole) (w .new-whole) (w .inside));
+      features-length =
+          length-over _ _ _ (patch-fits (was .features) (patch .new) rows featureWidth (patch .start) k nan (w .whole) (w .new-whole) (w .inside));
       similarity-length = length-filled _ (was .similarity) _ _ (omega arith) (omega arith);
       novelty-length = length-filled _ (was .novelty) _ _ (omega arith) (omega arith);
       rows-stay = row-over (was .features) (patch .new) rows featureWidth (patch .start) k nan (w .whole) (w .new-whole) (w .inside);
@@ -172,7 +175,8 @@ empty-keeps-all : (n : ℕ) (was now : Track) → now ≡ unlessRefused n was wa
 empty-keeps-all zero was now e = e
 empty-keeps-all (suc n) was now e = e
 
-pub empty-changes-nothing : (rows : ℕ) (was : Track) (start : ℕ) (answer : PatchedFeatures) (now : Track) → Patches rows was (patchOf start []) answer now → now ≡ was
+pub empty-changes-nothing : (rows : ℕ) (was : Track) (start : ℕ) (answer : PatchedFeatures) (now : Track)
+    → Patches rows was (patchOf start []) answer now → now ≡ was
 unfolding after
 empty-changes-nothing rows was start answer now done = empty-keeps-all (numberOf rows was (patchOf start [])) was now (done .track-is)
 
@@ -212,6 +216,7 @@ calls-keep : (P : Track → Type 0) (rows : ℕ) → ((was : Track) (patch : Pat
 calls-keep P rows keeps h stays = h
 calls-keep P rows keeps h (patches p ran) = calls-keep P rows keeps (rw (p .track-is) (by-outcome P rows _ _ h (keeps _ _ h))) ran
 calls-keep P rows keeps h (refuses p ran) = calls-keep P rows keeps (rw (refused-changes-nothing _ _ _ _ _ p) h) ran
+calls-keep P rows keeps h (empties p ran) = calls-keep P rows keeps (rw (empty-changes-nothing _ _ _ _ _ p) h) ran
 
 module _ (rows : ℕ) (lent : Track) where
   pub analysed-is-fresh : Fresh rows (analysed rows lent)
@@ -235,26 +240,14 @@ module _ (rows : ℕ) (lent : Track) where
       ∙ ap (λ (n : List Float). track (st .features) (filled (similarityAt (st .features) rows) (lent .similarity) 0 (pairs rows)) n)
       (filled-by (noveltyAt (similarityCurve rows (st .features)) rows) (lent .novelty) (st .novelty) rows (h .fresh .novelty) (h .novelty-rest))
 
-  -- calls one after the other, refused ones of any rows among them
-  pub calls-are-one-analysis : {now : Track} → Ran rows (analysed rows lent) now → now ≡ analysed rows (track (now .features) (lent .similarity) (lent .novelty))
+  -- calls one after the other, refused and empty ones of any rows among them
+  pub calls-are-one-analysis : {now : Track} → Ran rows (analysed rows lent) now
+      → now ≡ analysed rows (track (now .features) (lent .similarity) (lent .novelty))
   calls-are-one-analysis {now} ran = going-is-analysed now (calls-keep (Going rows lent) rows (going-on rows lent) analysed-going ran)
 
 -- the same of curves that were fresh to begin with, wherever they came from
 pub calls-end-fresh : (rows : ℕ) {was now : Track} → Fresh rows was → Ran rows was now → Fresh rows now
 calls-end-fresh rows fresh ran = calls-keep (Fresh rows) rows (mends rows) fresh ran
-
--- the calls of a list, all of these rows, are such calls
-pub run-is-calls : (rows : ℕ) (lent : Track) (calls : List Patch) → Ran rows lent (run rows lent calls)
-unfolding run
-run-is-calls rows lent [] = stays
-run-is-calls rows lent (patch ∷ calls) = patches {patch = patch} (record { answer-is = refl; track-is = refl }) (run-is-calls rows (after rows lent patch) calls)
-
-pub run-is-one-analysis : (rows : ℕ) (lent : Track) (calls : List Patch)
-    → run rows (analysed rows lent) calls ≡ analysed rows (track (run rows (analysed rows lent) calls .features) (lent .similarity) (lent .novelty))
-run-is-one-analysis rows lent calls = calls-are-one-analysis rows lent (run-is-calls rows (analysed rows lent) calls)
-
-pub run-is-fresh : (rows : ℕ) (lent : Track) (calls : List Patch) → Fresh rows lent → Fresh rows (run rows lent calls)
-run-is-fresh rows lent calls fresh = calls-end-fresh rows fresh (run-is-calls rows lent calls)
 
 -- what the two calls of the analysis write, where neither refuses, is `analysed`
 pub calls-analyse : (rows : ℕ) (lent : Track) (similarity novelty : List Float)
@@ -300,7 +293,8 @@ good-is-accepted rows was patch sound fresh good =
     let novelty : every valueFine (take rows (was .novelty)) ≡ true =
     rw (fresh .novelty) (novelties-are-fine rows (was .features) (sound .whole) (sound .fine)) in
     lowest-0 _ _ _ _ (bounds-asked rows (patch .start) (record { rows-fit = sound .rows-fit; starts = k })) lengths
-    (room-asked rows (length (was .similarity)) (length (was .novelty)) (record { similarity-room = sound .similarity-room; novelty-room = sound .novelty-room }))
+    (room-asked rows (length (was .similarity)) (length (was .novelty))
+    (record { similarity-room = sound .similarity-room; novelty-room = sound .novelty-room }))
     (and-both (every valueFine (was .features)) _ (sound .fine)
     (and-both (every valueFine (patch .new)) _ (good .fine) (and-both (every similarityFine (take (pairs rows) (was .similarity))) _ similarity novelty)))
 
@@ -320,9 +314,6 @@ mended-sound rows was patch s a =
 pub calls-keep-sound : (rows : ℕ) {was now : Track} → Sound rows was → Ran rows was now → Sound rows now
 calls-keep-sound rows sound ran = calls-keep (Sound rows) rows (mended-sound rows) sound ran
 
-pub run-is-sound : (rows : ℕ) (lent : Track) (calls : List Patch) → Sound rows lent → Sound rows (run rows lent calls)
-run-is-sound rows lent calls s = calls-keep-sound rows s (run-is-calls rows lent calls)
-
 pub analysed-is-sound : (rows : ℕ) (lent : Track) → Sound rows lent → Sound rows (analysed rows lent)
 unfolding analysed
 analysed-is-sound rows lent s =
@@ -330,24 +321,13 @@ analysed-is-sound rows lent s =
       rows-fit = s .rows-fit;
       whole = s .whole;
       fine = s .fine;
-      similarity-room = rw (length-filled (similarityAt (lent .features) rows) (lent .similarity) 0 (pairs rows) (omega arith) (s .similarity-room)) (s .similarity-room);
-      novelty-room = rw (length-filled (noveltyAt (similarityCurve rows (lent .features)) rows) (lent .novelty) 0 rows (omega arith) (s .novelty-room)) (s .novelty-room);
+      similarity-room =
+          rw (length-filled (similarityAt (lent .features) rows) (lent .similarity) 0 (pairs rows) (omega arith) (s .similarity-room)) (s .similarity-room);
+      novelty-room =
+          rw (length-filled (noveltyAt (similarityCurve rows (lent .features)) rows) (lent .novelty) 0 rows (omega arith) (s .novelty-room)) (s .novelty-room);
     }
 
-pub good-is-accepted-after-calls : (rows : ℕ) (lent : Track) {now : Track} (patch : Patch) → Sound rows lent → Ran rows (analysed rows lent) now → Good rows patch
-    → numberOf rows now patch ≡ 0
+pub good-is-accepted-after-calls : (rows : ℕ) (lent : Track) {now : Track} (patch : Patch)
+    → Sound rows lent → Ran rows (analysed rows lent) now → Good rows patch → numberOf rows now patch ≡ 0
 good-is-accepted-after-calls rows lent {now} patch s ran good =
     good-is-accepted rows now patch (calls-keep-sound rows (analysed-is-sound rows lent s) ran) (calls-end-fresh rows (analysed-is-fresh rows lent) ran) good
-
-pub good-is-accepted-in-a-run : (rows : ℕ) (lent : Track) (calls : List Patch) (patch : Patch) → Sound rows lent → Good rows patch
-    → numberOf rows (run rows (analysed rows lent) calls) patch ≡ 0
-good-is-accepted-in-a-run rows lent calls patch s = good-is-accepted-after-calls rows lent patch s (run-is-calls rows (analysed rows lent) calls)
-
--- ---- (7) What is computed from patched curves, as the sections are, is what a full run on the edited rows gives.
-
-pub same-answer : {A : Type 0} (answer : (similarity novelty : List Float) → A) (rows : ℕ) (lent : Track) (calls : List Patch) → Fresh rows lent
-    → answer (take (pairs rows) (run rows lent calls .similarity)) (take rows (run rows lent calls .novelty))
-    ≡ answer (similarityCurve rows (run rows lent calls .features)) (noveltyCurve rows (run rows lent calls .features))
-same-answer answer rows lent calls fresh =
-    let now = run-is-fresh rows lent calls fresh in
-    rw (now .similarity, now .novelty)

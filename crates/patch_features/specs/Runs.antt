@@ -4,17 +4,17 @@ use Prim.Native.Nat.{ℕ, _+_, _*_, _≤_, _<_}
 use mathlib.Core.Path.{_≡_}
 use mathlib.Core.Bool.{true, false}
 use mathlib.Core.Logic.{_⊎_}
-use mathlib.Core.List.{List, [], _∷_}
+use mathlib.Core.List.{List, []}
 use lib.ListN.{length, getD, take}
 use lib.Ieee.{Float, nan}
 use Rattle.numbers.specs.Limits.{mostFeatures, featureWidth, valueFine}
 use Rattle.numbers.specs.Lists.{curve, filled, row, every}
 use Rattle.row_pairs.specs.Pairs.{similarityAt}
 use Rattle.novelties.specs.Novelty.{noveltyAt}
-use Rattle.patching.specs.Patches.{Patch, pastRow}
+use Rattle.patching.specs.Patches.{Patch, patchOf, pastRow}
 use Rattle.patch_features.specs.declared.PatchedFeatures.{PatchedFeatures}
 use Rattle.patch_features.specs.declared.PatchedFeatures.the-variants.{Refused}
-use Rattle.patch_features.specs.Features.{Track, track, pairs, touched, after, Patches}
+use Rattle.patch_features.specs.Features.{Track, track, pairs, touched, Patches}
 
 -- the curves that demand 2 gives rows of features
 unfoldable pub similarityCurve : (rows : ℕ) → (features : List Float) → List Float
@@ -59,13 +59,12 @@ analysed rows lent =
     track (lent .features) (filled (similarityAt (lent .features) rows) (lent .similarity) 0 (pairs rows))
     (filled (noveltyAt (similarityCurve rows (lent .features)) rows) (lent .novelty) 0 rows)
 
--- the track after one patch after the other, whatever each answers
-unfoldable pub run : (rows : ℕ) → Track → List Patch → Track
-run rows lent [] = lent
-run rows lent (patch ∷ rest) = run rows (after rows lent patch) rest
-
--- Calls one after the other, by what each promises: a patch of the track, whatever it answers, or a call of any rows that is refused.
+-- "Any run of patches, refused ones among them": calls one after the other, by what each promises. A call of the track's own rows may answer
+-- anything; one of any rows is refused, or has nothing new and may answer anything. What is left is a call of other rows that is accepted with
+-- something new: of a sound track there is none, since its length tells its rows.
 pub data Ran (rows : ℕ) : (was now : Track) → Type 0 where
   stays : {was : Track} → Ran rows was was
   patches : {was mid now : Track} {patch : Patch} {answer : PatchedFeatures} → Patches rows was patch answer mid → Ran rows mid now → Ran rows was now
   refuses : {was mid now : Track} {rows′ k : ℕ} {patch : Patch} → Patches rows′ was patch (Refused k) mid → Ran rows mid now → Ran rows was now
+  empties : {was mid now : Track} {rows′ start : ℕ} {answer : PatchedFeatures}
+      → Patches rows′ was (patchOf start []) answer mid → Ran rows mid now → Ran rows was now

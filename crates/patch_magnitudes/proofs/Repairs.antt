@@ -1,5 +1,5 @@
--- Demand 3, "Patching equals starting over", for magnitude rows with their flux and threshold curves. Each theorem holds for every input.
--- `Patches` is what `patch_magnitudes` promises, `after` the track that it leaves. Assumes nothing.
+-- Demand 3, "Patching equals starting over", for magnitude rows with their flux and threshold curves. `Patches` is what
+-- `patch_magnitudes` promises, `after` the track that it leaves. What a theorem asks is written in it; no axiom stands behind one.
 use mathlib.Core.Bool.{true}
 use mathlib.Core.List.{List, [], _∷_}
 use mathlib.Core.Path.{_≡_, refl, sym, ap, _∙_}
@@ -17,7 +17,6 @@ use Rattle.numbers.specs.Outcomes.{Written}
 use Rattle.flux.proofs.Fluxes.{FluxFine, flux-asked}
 use Rattle.onsets.proofs.Onsets.{threshold-takes}
 use Rattle.flux.specs.Flux.{fluxAt, fluxRefusal}
-use Rattle.onsets.specs.Onsets.{onsetsOf}
 use Rattle.threshold.specs.Threshold.{thresholdAt, windowRoom, thresholdRefusal, Thresholds}
 use Rattle.patching.proofs.Parts.{filled-first, filled-rest, filled-by}
 use Rattle.patching.proofs.Wholes.{whole-asked}
@@ -38,7 +37,7 @@ use Rattle.patch_magnitudes.specs.Magnitudes.{
   sortedIn,
   Patches,
 }
-use Rattle.patch_magnitudes.specs.Runs.{fluxCurve, thresholdCurve, Fresh, Kept, Sound, Good, analysed, Call, run, Ran, stays, patches, refuses}
+use Rattle.patch_magnitudes.specs.Runs.{fluxCurve, thresholdCurve, Fresh, Kept, Sound, Good, analysed, Ran, stays, patches, refuses, empties}
 use Rattle.patch_refusal.proofs.Asked.{Asked, asked, bounds-asked, room-asked}
 use Rattle.patch_magnitudes.proofs.Mended.{flux-mends, threshold-mends, flux-rest, threshold-rest, fluxes-fine, thresholds-fine}
 
@@ -55,7 +54,8 @@ by-outcome P rows bins was patch room kept done = go (numberOf rows bins was pat
 
 -- ---- (1) Where the lent curves were those of the rows, they are those of the edited rows afterwards, bit for bit.
 
-mends : (rows bins : ℕ) (was : Track) (patch : Patch) (room : ℕ) → Fresh rows bins was → Asked rows bins was patch room → Fresh rows bins (mended rows bins was patch)
+mends : (rows bins : ℕ) (was : Track) (patch : Patch) (room : ℕ) → Fresh rows bins was → Asked rows bins was patch room
+    → Fresh rows bins (mended rows bins was patch)
 unfolding mended
 mends rows bins was patch room fresh a =
     record {
@@ -68,8 +68,8 @@ patched-is-fresh rows bins was patch room fresh =
     by-outcome (Fresh rows bins) rows bins was patch room fresh (mends rows bins was patch room fresh)
 
 -- what `patch_magnitudes` promises of one call, whatever it answers
-pub call-is-fresh : (rows bins : ℕ) (was : Track) (patch : Patch) (work : List Float) (answer : Patched) (now : Track) (work′ : List Float) → Fresh rows bins was
-    → Patches rows bins was patch work answer now work′ → Fresh rows bins now
+pub call-is-fresh : (rows bins : ℕ) (was : Track) (patch : Patch) (work : List Float) (answer : Patched) (now : Track) (work′ : List Float)
+    → Fresh rows bins was → Patches rows bins was patch work answer now work′ → Fresh rows bins now
 call-is-fresh rows bins was patch work answer now work′ fresh done = rw (done .track-is) (patched-is-fresh rows bins was patch (length work) fresh)
 
 -- ---- (2) An accepted patch leaves the edited rows. Outside them and the slots that the answer names nothing differs.
@@ -205,6 +205,7 @@ calls-keep P rows bins keeps h stays = h
 calls-keep P rows bins keeps h (patches p ran) =
     calls-keep P rows bins keeps (rw (p .track-is) (by-outcome P rows bins _ _ _ h (keeps _ _ _ h))) ran
 calls-keep P rows bins keeps h (refuses p ran) = calls-keep P rows bins keeps (rw (refused-changes-nothing _ _ _ _ _ _ _ _ p .0) h) ran
+calls-keep P rows bins keeps h (empties p ran) = calls-keep P rows bins keeps (rw (empty-changes-nothing _ _ _ _ _ _ _ _ p .0) h) ran
 
 module _ (rows bins : ℕ) (lent : Track) where
   pub analysed-is-fresh : Fresh rows bins (analysed rows bins lent)
@@ -223,7 +224,7 @@ module _ (rows bins : ℕ) (lent : Track) where
       ∙ ap (λ (t : List Float). track (st .magnitudes) (filled (fluxAt (st .magnitudes) bins) (lent .flux) 0 rows) t)
       (filled-by (thresholdAt (fluxCurve rows bins (st .magnitudes))) (lent .threshold) (st .threshold) rows (h .fresh .threshold) (h .threshold-rest))
 
-  -- calls one after the other, refused ones of any rows and bins among them
+  -- calls one after the other, refused and empty ones of any rows and bins among them
   pub calls-are-one-analysis : {now : Track} → Ran rows bins (analysed rows bins lent) now
       → now ≡ analysed rows bins (track (now .magnitudes) (lent .flux) (lent .threshold))
   calls-are-one-analysis {now} ran = going-is-analysed now (calls-keep (Going rows bins lent) rows bins (going-on rows bins lent) analysed-going ran)
@@ -232,31 +233,10 @@ module _ (rows bins : ℕ) (lent : Track) where
 pub calls-end-fresh : (rows bins : ℕ) {was now : Track} → Fresh rows bins was → Ran rows bins was now → Fresh rows bins now
 calls-end-fresh rows bins fresh ran = calls-keep (Fresh rows bins) rows bins (mends rows bins) fresh ran
 
--- the calls of a list, all of these rows and bins, are such calls
-pub run-is-calls : (rows bins : ℕ) (lent : Track) (calls : List Call) → Ran rows bins lent (run rows bins lent calls)
-unfolding run
-run-is-calls rows bins lent [] = stays
-run-is-calls rows bins lent (call ∷ calls) =
-    patches {patch = call .patch} {work = curve (λ i. nan) (call .room)} {work′ = curve (λ i. nan) (call .room)}
-    (record {
-      answer-is = refl;
-      track-is = ap (after rows bins lent (call .patch)) (sym (length-tab (λ i. nan) 0 (call .room)));
-      work-length = refl;
-      work-keeps = refl;
-    })
-    (run-is-calls rows bins (after rows bins lent (call .patch) (call .room)) calls)
-
-pub run-is-one-analysis : (rows bins : ℕ) (lent : Track) (calls : List Call)
-    → run rows bins (analysed rows bins lent) calls
-    ≡ analysed rows bins (track (run rows bins (analysed rows bins lent) calls .magnitudes) (lent .flux) (lent .threshold))
-run-is-one-analysis rows bins lent calls = calls-are-one-analysis rows bins lent (run-is-calls rows bins (analysed rows bins lent) calls)
-
-pub run-is-fresh : (rows bins : ℕ) (lent : Track) (calls : List Call) → Fresh rows bins lent → Fresh rows bins (run rows bins lent calls)
-run-is-fresh rows bins lent calls fresh = calls-end-fresh rows bins fresh (run-is-calls rows bins lent calls)
-
 -- what the two calls of the analysis write, where neither refuses, is `analysed`
 module _ (rows bins : ℕ) (lent : Track) (flux threshold work work′ : List Float) where
-  flux-written : Written (fluxRefusal (lent .magnitudes) rows bins (length (lent .flux))) (filled (fluxAt (lent .magnitudes) bins) (lent .flux) 0 rows) (lent .flux) 0 flux
+  flux-written :
+      Written (fluxRefusal (lent .magnitudes) rows bins (length (lent .flux))) (filled (fluxAt (lent .magnitudes) bins) (lent .flux) 0 rows) (lent .flux) 0 flux
       → flux ≡ filled (fluxAt (lent .magnitudes) bins) (lent .flux) 0 rows
   flux-written w = w .slots-are ∙ passed-does _ _ _ (sym (w .number-is))
 
@@ -279,7 +259,8 @@ module _ (rows bins : ℕ) (lent : Track) (flux threshold work work′ : List Fl
 
   -- and neither refuses a sound track with room to sort in: there is one fresh analysis of it
   pub sound-is-analysed : (n m : ℕ) → Sound rows bins lent → windowRoom rows ≤ length work
-      → Written (fluxRefusal (lent .magnitudes) rows bins (length (lent .flux))) (filled (fluxAt (lent .magnitudes) bins) (lent .flux) 0 rows) (lent .flux) n flux
+      → Written (fluxRefusal (lent .magnitudes) rows bins (length (lent .flux))) (filled (fluxAt (lent .magnitudes) bins) (lent .flux) 0 rows)
+      (lent .flux) n flux
       → Thresholds (take rows flux) (lent .threshold) work m threshold work′
       → (n ≡ 0) × (m ≡ 0) × (track (lent .magnitudes) flux threshold ≡ analysed rows bins lent)
   sound-is-analysed n m s r w t =
@@ -314,12 +295,14 @@ good-is-accepted rows bins was patch room sound fresh good =
     lowest-0 _ _ _ _
     (bounds-asked rows bins (patch .start) (record { rows-fit = sound .rows-fit; some-bins = sound .some-bins; bins-fit = sound .bins-fit; starts = k }))
     lengths
-    (room-asked rows (length (was .flux)) (length (was .threshold)) room (record { flux-room = sound .flux-room; threshold-room = sound .threshold-room; work-room = good .work-room }))
+    (room-asked rows (length (was .flux)) (length (was .threshold)) room
+    (record { flux-room = sound .flux-room; threshold-room = sound .threshold-room; work-room = good .work-room }))
     (and-both (every magnitudeFine (was .magnitudes)) _ (sound .fine)
     (and-both (every magnitudeFine (patch .new)) _ (good .fine) (and-both (every valueFine (take rows (was .flux))) _ flux threshold)))
 
 -- a patch leaves a sound track sound
-mended-sound : (rows bins : ℕ) (was : Track) (patch : Patch) (room : ℕ) → Sound rows bins was → Asked rows bins was patch room → Sound rows bins (mended rows bins was patch)
+mended-sound : (rows bins : ℕ) (was : Track) (patch : Patch) (room : ℕ) → Sound rows bins was → Asked rows bins was patch room
+    → Sound rows bins (mended rows bins was patch)
 unfolding mended edited
 mended-sound rows bins was patch room s a =
     let kept = mended-keeps rows bins was patch room a in
@@ -336,9 +319,6 @@ mended-sound rows bins was patch room s a =
 pub calls-keep-sound : (rows bins : ℕ) {was now : Track} → Sound rows bins was → Ran rows bins was now → Sound rows bins now
 calls-keep-sound rows bins sound ran = calls-keep (Sound rows bins) rows bins (mended-sound rows bins) sound ran
 
-pub run-is-sound : (rows bins : ℕ) (lent : Track) (calls : List Call) → Sound rows bins lent → Sound rows bins (run rows bins lent calls)
-run-is-sound rows bins lent calls s = calls-keep-sound rows bins s (run-is-calls rows bins lent calls)
-
 pub analysed-is-sound : (rows bins : ℕ) (lent : Track) → Sound rows bins lent → Sound rows bins (analysed rows bins lent)
 unfolding analysed
 analysed-is-sound rows bins lent s =
@@ -349,30 +329,13 @@ analysed-is-sound rows bins lent s =
       whole = s .whole;
       fine = s .fine;
       flux-room = rw (length-filled (fluxAt (lent .magnitudes) bins) (lent .flux) 0 rows (omega arith) (s .flux-room)) (s .flux-room);
-      threshold-room = rw (length-filled (thresholdAt (fluxCurve rows bins (lent .magnitudes))) (lent .threshold) 0 rows (omega arith) (s .threshold-room)) (s .threshold-room);
+      threshold-room =
+          rw (length-filled (thresholdAt (fluxCurve rows bins (lent .magnitudes))) (lent .threshold) 0 rows (omega arith) (s .threshold-room))
+          (s .threshold-room);
     }
 
-pub good-is-accepted-after-calls : (rows bins : ℕ) (lent : Track) {now : Track} (patch : Patch) (room : ℕ) → Sound rows bins lent → Ran rows bins (analysed rows bins lent) now
-    → Good rows bins patch room → numberOf rows bins now patch room ≡ 0
+pub good-is-accepted-after-calls : (rows bins : ℕ) (lent : Track) {now : Track} (patch : Patch) (room : ℕ)
+    → Sound rows bins lent → Ran rows bins (analysed rows bins lent) now → Good rows bins patch room → numberOf rows bins now patch room ≡ 0
 good-is-accepted-after-calls rows bins lent {now} patch room s ran good =
     good-is-accepted rows bins now patch room (calls-keep-sound rows bins (analysed-is-sound rows bins lent s) ran)
     (calls-end-fresh rows bins (analysed-is-fresh rows bins lent) ran) good
-
-pub good-is-accepted-in-a-run : (rows bins : ℕ) (lent : Track) (calls : List Call) (patch : Patch) (room : ℕ) → Sound rows bins lent → Good rows bins patch room
-    → numberOf rows bins (run rows bins (analysed rows bins lent) calls) patch room ≡ 0
-good-is-accepted-in-a-run rows bins lent calls patch room s =
-    good-is-accepted-after-calls rows bins lent patch room s (run-is-calls rows bins (analysed rows bins lent) calls)
-
--- ---- (7) What is computed from patched curves, be it onsets, a tempo or a beat grid, is what a full run on the edited rows gives.
-
-pub same-answer : {A : Type 0} (answer : (flux threshold : List Float) → A) (rows bins : ℕ) (lent : Track) (calls : List Call) → Fresh rows bins lent
-    → answer (take rows (run rows bins lent calls .flux)) (take rows (run rows bins lent calls .threshold))
-    ≡ answer (fluxCurve rows bins (run rows bins lent calls .magnitudes)) (thresholdCurve rows bins (run rows bins lent calls .magnitudes))
-same-answer answer rows bins lent calls fresh =
-    let now = run-is-fresh rows bins lent calls fresh in
-    rw (now .flux, now .threshold)
-
-pub same-onsets : (rate rows bins : ℕ) (lent : Track) (calls : List Call) → Fresh rows bins lent
-    → onsetsOf (take rows (run rows bins lent calls .flux)) (take rows (run rows bins lent calls .threshold)) rate
-    ≡ onsetsOf (fluxCurve rows bins (run rows bins lent calls .magnitudes)) (thresholdCurve rows bins (run rows bins lent calls .magnitudes)) rate
-same-onsets rate rows bins lent calls fresh = same-answer (λ flux threshold. onsetsOf flux threshold rate) rows bins lent calls fresh

@@ -4,18 +4,18 @@ use Prim.Native.Nat.{ℕ, _+_, _*_, _≤_, _<_}
 use mathlib.Core.Path.{_≡_}
 use mathlib.Core.Bool.{true}
 use mathlib.Core.Logic.{_⊎_}
-use mathlib.Core.List.{List, [], _∷_}
+use mathlib.Core.List.{List, []}
 use lib.ListN.{length, getD, take}
 use lib.Ieee.{Float, nan}
 use Rattle.numbers.specs.Limits.{mostRows, mostBins, magnitudeFine}
 use Rattle.numbers.specs.Lists.{curve, filled, row, every}
 use Rattle.flux.specs.Flux.{fluxAt}
 use Rattle.threshold.specs.Threshold.{thresholdAt, windowRoom}
-use Rattle.patching.specs.Patches.{Patch, pastRow}
+use Rattle.patching.specs.Patches.{Patch, patchOf, pastRow}
 use Rattle.patch_magnitudes.specs.declared.Patched.{Patched}
 use Rattle.patch_magnitudes.specs.declared.Patched.the-variants.{Refused}
 use Rattle.patch_refusal.specs.Tracks.{Track, track}
-use Rattle.patch_magnitudes.specs.Magnitudes.{after, Patches}
+use Rattle.patch_magnitudes.specs.Magnitudes.{Patches}
 
 -- the curves that demand 2 gives rows of magnitudes
 unfoldable pub fluxCurve : (rows bins : ℕ) → (magnitudes : List Float) → List Float
@@ -62,20 +62,14 @@ analysed rows bins lent =
     track (lent .magnitudes) (filled (fluxAt (lent .magnitudes) bins) (lent .flux) 0 rows)
     (filled (thresholdAt (fluxCurve rows bins (lent .magnitudes))) (lent .threshold) 0 rows)
 
--- one call: its patch, and how many slots it is lent to sort in
-pub record Call : Type 0 where
-  pub patch : Patch
-  pub room : ℕ
-
--- the track after one call after the other, whatever each answers
-unfoldable pub run : (rows bins : ℕ) → Track → List Call → Track
-run rows bins lent [] = lent
-run rows bins lent (call ∷ calls) = run rows bins (after rows bins lent (call .patch) (call .room)) calls
-
--- Calls one after the other, by what each promises: a patch of the track, whatever it answers, or a call of any rows and bins that is refused.
+-- "Any run of patches, refused ones among them": calls one after the other, by what each promises. A call of the track's own rows and bins may
+-- answer anything; one of any rows and bins is refused, or has nothing new and may answer anything. What is left is a call of other rows or bins
+-- that is accepted with something new: it patches another track, which lies in the same slices.
 pub data Ran (rows bins : ℕ) : (was now : Track) → Type 0 where
   stays : {was : Track} → Ran rows bins was was
   patches : {was mid now : Track} {patch : Patch} {work work′ : List Float} {answer : Patched}
       → Patches rows bins was patch work answer mid work′ → Ran rows bins mid now → Ran rows bins was now
   refuses : {was mid now : Track} {rows′ bins′ k : ℕ} {patch : Patch} {work work′ : List Float}
       → Patches rows′ bins′ was patch work (Refused k) mid work′ → Ran rows bins mid now → Ran rows bins was now
+  empties : {was mid now : Track} {rows′ bins′ start : ℕ} {work work′ : List Float} {answer : Patched}
+      → Patches rows′ bins′ was (patchOf start []) work answer mid work′ → Ran rows bins mid now → Ran rows bins was now
