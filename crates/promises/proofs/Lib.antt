@@ -1,6 +1,8 @@
 -- What an auditor reads first, one question a file: the marked numbers; that each promise determines its outcome; that patching equals
--- starting over, for the beats (Repaired) and for the sections (RepairedSections).
+-- starting over, for the beats (Repaired) and for the sections (RepairedSections), with the parts of their first theorems (FullRuns, SectionRuns).
 pub mod Marked
 pub mod Determined
+pub mod FullRuns
 pub mod Repaired
+pub mod SectionRuns
 pub mod RepairedSections

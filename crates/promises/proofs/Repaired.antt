@@ -1,18 +1,20 @@
--- The auditor's second question: when twenty seconds of a track are repaired, how do you know that the new beat grid is the one a full run
--- would give? Demand 3, "Patching equals starting over", for magnitude rows with their flux and threshold curves, and what follows for
--- onsets, tempo, stability, beats and downbeats.
--- `Ran` is any run of calls, told by what each promises: patches, refused and empty ones among them, and calls of any rows and bins that are
--- refused. `Fresh` says that the curves are those that demand 2 gives the rows, `analysed` is one analysis from nothing.
--- Each theorem holds for every input, and assumes nothing.
+-- The auditor's second question: "when you repair twenty seconds of a track, how do you know the new beat grid is the one a full run would give?"
+-- Demand 3, "Patching equals starting over", for magnitude rows with their flux and threshold curves. The first theorem is the answer. Those below it
+-- say what one patch does, what any run of patches does, and what follows for each call that reads a patched curve; FullRuns has the first one's parts.
+-- `Ran` is any run of calls, told by what each promises: patches, refused and empty ones among them, and refused and empty calls of any rows and
+-- bins. `Fresh` says that the curves are those that demand 2 gives the rows, `analysed` is one analysis from nothing. What a theorem asks is written in
+-- it, or at the head of its section; no axiom stands behind one.
 use mathlib.Core.List.{List, [], _∷_}
-use mathlib.Core.Path.{_≡_}
-use Prim.Native.Nat.{ℕ, zero, suc, _+_, _-_, min}
+use mathlib.Core.Bool.{true}
+use mathlib.Core.Path.{_≡_, sym, _∙_}
+use Prim.Native.Nat.{ℕ, zero, suc, _+_, _-_, _≤_, min}
 use native.Mathlib.Omega.{arith}
 use lib.Ieee.{Float}
 use lib.ListN.{length, take}
 use Rattle.numbers.specs.declared.Listing.{Listing}
 use Rattle.onsets.specs.Onsets.{onsetsOf, onsetsRefusal}
 use Rattle.onsets.specs.Outcomes.{Lists}
+use Rattle.lags.specs.Lags.{boundsFine}
 use Rattle.lags.specs.declared.TempoOpts.{TempoOpts}
 use Rattle.tempo.specs.Answers.{Estimated}
 use Rattle.tempo.specs.declared.TempoEstimate.{TempoEstimate}
@@ -27,11 +29,44 @@ use Rattle.patch_refusal.specs.Tracks.{Track, track, numberOf}
 use Rattle.patch_magnitudes.specs.Magnitudes.{fluxFirst, fluxPast, thresholdFirst, thresholdPast, answered, Patches}
 use Rattle.patch_magnitudes.specs.Runs.{fluxCurve, thresholdCurve, Fresh, Kept, Sound, Good, analysed, Ran}
 use Rattle.patch_magnitudes.proofs.Repairs as repairs
-use Rattle.rooms.specs.Rooms.{Results, Spare, magnitudesNumber}
+use Rattle.rooms.specs.Rooms.{Results, Spare, roomOf}
+use Rattle.rooms.proofs.Numbers.{by-bounds}
+use Rattle.rooms.proofs.Rooms.{Enough}
 use Rattle.analysis.specs.Analyses.{AnalysedEnvelope, AnalysedMagnitudes}
 use Rattle.track.specs.declared.Analysis.{Analysis}
-use Rattle.analysis.proofs.Promises.{flux-is-the-envelope}
+use Rattle.promises.specs.Repaired.{SameRun}
 use Rattle.promises.proofs.Determined.{listing, estimate, stability-of, beat-grid, downbeats, analysis}
+use Rattle.promises.proofs.FullRuns.{full-run-number, full-run-is-fresh, full-run-is-sound, same-as-full-run}
+
+-- After a full run that isn't refused and any run of patches, an analysis of the patched flux is a full run on the patched rows.
+pub repaired-is-a-full-run :
+    (rows bins : ℕ) {magnitudes : List Float}
+    -- First a full run, `analyse_magnitudes`, on these rows: any rate and options, any slices.
+    {firstRate : ℕ} {firstOpts : TempoOpts} {flux₀ : List Float} {results₀ : Results} {spare₀ : Spare}
+    {firstAnswer : Analysis} {flux₁ : List Float} {results₁ : Results} {spare₁ : Spare}
+    → AnalysedMagnitudes magnitudes rows bins firstRate firstOpts flux₀ results₀ spare₀ firstAnswer flux₁ results₁ spare₁
+    -- It isn't refused.
+    → firstAnswer .number ≡ 0
+    -- Then any run of patches on those rows, with the flux and the threshold that it left.
+    → {patched : Track} → Ran rows bins (track magnitudes flux₁ (results₁ .threshold)) patched
+    -- A rate and bounds of the options that are fine,
+    → (rate : ℕ) (opts : TempoOpts) → boundsFine rate opts ≡ true
+    -- and slices with room: a slot of flux for each row, and for the others what `room_of` names.
+    → (flux : List Float) → rows ≤ length flux
+    → (lent : Results) (spare : Spare) → Enough (roomOf rows rate opts) lent spare
+    -- On the one hand `analyse_envelope` of the patched flux, lent these slices.
+    → {answer : Analysis} {results : Results} {left : Spare}
+    → AnalysedEnvelope (take rows (patched .flux)) rate opts lent spare answer results left
+    -- On the other a full run on the patched rows, lent the same.
+    → {fullAnswer : Analysis} {fullFlux : List Float} {fullResults : Results} {fullLeft : Spare}
+    → AnalysedMagnitudes (patched .magnitudes) rows bins rate opts flux lent spare fullAnswer fullFlux fullResults fullLeft
+    -- The full run isn't refused, and flux, threshold, answer and all eight results are the same.
+    → SameRun rows patched answer results fullAnswer fullFlux fullResults
+repaired-is-a-full-run rows bins first passed ran rate opts fine flux flux-room lent spare room again full =
+    let z = sym (full-run-number _ rows bins _ _ _ _ _ first) ∙ passed in
+    let sound = full-run-is-sound _ rows bins _ _ _ _ _ z first in
+    same-as-full-run rows bins sound ran rate opts flux lent spare (by-bounds rows rate opts (sound .rows-fit) ∙ fine) flux-room room
+    (full-run-is-fresh _ rows bins _ _ _ _ _ z first) again full
 
 -- ---- one patch
 
@@ -86,13 +121,14 @@ pub any-run-is-one-analysis : (rows bins : ℕ) (lent : Track) {now : Track} →
 any-run-is-one-analysis rows bins lent ran = repairs.calls-are-one-analysis rows bins lent ran
 
 -- A patch that is no one's mistake is accepted at any place of a run: refusing everything is shut out.
-pub good-is-accepted : (rows bins : ℕ) (lent : Track) {now : Track} (patch : Patch) (room : ℕ) → Sound rows bins lent → Ran rows bins (analysed rows bins lent) now
-    → Good rows bins patch room → numberOf rows bins now patch room ≡ 0
+pub good-is-accepted : (rows bins : ℕ) (lent : Track) {now : Track} (patch : Patch) (room : ℕ)
+    → Sound rows bins lent → Ran rows bins (analysed rows bins lent) now → Good rows bins patch room → numberOf rows bins now patch room ≡ 0
 good-is-accepted = repairs.good-is-accepted-after-calls
 
 -- ---- what is computed from patched curves
 
--- Two calls lent the same slices, one on the curves that a run of patches left, one on those of a full run on the last rows, have one outcome.
+-- The curves were those of the rows, and then came any run of patches. Two calls lent the same slices, one on the curves that are left, one on
+-- those that demand 2 gives the last rows, have one outcome.
 module _ (rows bins : ℕ) (was last : Track) (fresh : Fresh rows bins was) (ran : Ran rows bins was last) where
   flux-is : take rows (last .flux) ≡ fluxCurve rows bins (last .magnitudes)
   flux-is = repairs.calls-end-fresh rows bins fresh ran .flux
@@ -145,13 +181,3 @@ module _ (rows bins : ℕ) (was last : Track) (fresh : Fresh rows bins was) (ran
       → AnalysedEnvelope (fluxCurve rows bins (last .magnitudes)) rate o results lent b y t
       → (a ≡ b) × (x ≡ y)
   same-analysis rate o results lent p q = let one = analysis (rw flux-is at p) q in (one .0, one .1)
-
-  -- and it is the full run's, from the last rows of magnitudes on
-  pub same-as-full-run : (rate : ℕ) (o : TempoOpts) (flux : List Float) (results : Results) (lent : Spare) {a b : Analysis} {f : List Float} {x y : Results} {s t : Spare}
-      → magnitudesNumber (last .magnitudes) rows bins rate o flux results lent ≡ 0
-      → AnalysedEnvelope (take rows (last .flux)) rate o results lent a x s
-      → AnalysedMagnitudes (last .magnitudes) rows bins rate o flux results lent b f y t
-      → (a ≡ b) × (x ≡ y)
-  unfolding fluxCurve
-  same-as-full-run rate o flux results lent z p q =
-      same-analysis rate o results lent p (flux-is-the-envelope (last .magnitudes) rows bins rate o flux results lent z q)

@@ -1,26 +1,62 @@
--- Demand 3, "Likewise for feature rows with their similarity and novelty curves", and what follows for the sections. The words are those of
--- Repaired. Each theorem holds for every input, and assumes nothing.
+-- Demand 3, "Likewise for feature rows with their similarity and novelty curves": a repaired track has the sections that a full run would give. The
+-- first theorem says so. Those below it say what one patch does, what any run of patches does, and what follows for `boundaries`; SectionRuns has the
+-- first one's parts. The words are those of Repaired. What a theorem asks is written in it; no axiom stands behind one.
 use mathlib.Core.List.{List, [], _∷_}
+use mathlib.Core.Bool.{true}
 use mathlib.Core.Path.{_≡_}
-use Prim.Native.Nat.{ℕ, zero, suc, _+_, _-_, _*_, min}
+use Prim.Native.Nat.{ℕ, zero, suc, _+_, _-_, _*_, _≤_, min}
 use native.Mathlib.Omega.{arith}
 use lib.Ieee.{Float}
-use lib.ListN.{take}
+use lib.ListN.{length, take}
 use Rattle.numbers.specs.Limits.{featureWidth}
+use Rattle.similarities.specs.Similarity.{SimilarityDone}
+use Rattle.novelties.specs.Novelty.{NoveltyDone}
+use Rattle.sections.specs.Boundaries.{gridFine}
 use Rattle.sections.specs.Outcomes.{BoundariesPromise}
 use Rattle.sections.specs.declared.Sections.{Sections}
 use Rattle.patching.specs.Patches.{Patch, patchOf, pastRow, edited}
 use Rattle.patch_features.specs.declared.PatchedFeatures.{PatchedFeatures}
 use Rattle.patch_features.specs.declared.PatchedFeatures.the-variants.{Refused, Wrote}
-use Rattle.patch_features.specs.Features.{Track, track, similarityFirst, similarityPast, noveltyFirst, noveltyPast, numberOf, answered, Patches}
+use Rattle.patch_features.specs.Features.{Track, track, pairs, similarityFirst, similarityPast, noveltyFirst, noveltyPast, numberOf, answered, Patches}
 use Rattle.patch_features.specs.Runs.{noveltyCurve, Fresh, Kept, Sound, Good, analysed, Ran}
 use Rattle.patch_features.proofs.Repairs as repairs
+use Rattle.promises.specs.Repaired.{SameSections}
 use Rattle.promises.proofs.Determined.{boundaries}
+use Rattle.promises.proofs.SectionRuns.{full-run-is-fresh, full-run-is-sound, same-as-full-run}
+
+-- After a full run that isn't refused and any run of patches, the sections of the patched novelty are those of a full run on the patched rows.
+pub repaired-is-a-full-run :
+    (rows : ℕ) {features : List Float}
+    -- First `similarity` and `novelty`, the calls of a full run that leave a curve, on these rows, into any slices. Neither is refused.
+    {similarity₀ similarity₁ novelty₀ novelty₁ : List Float}
+    → SimilarityDone features rows similarity₀ 0 similarity₁
+    → NoveltyDone (take (pairs rows) similarity₁) rows novelty₀ 0 novelty₁
+    -- Then any run of patches on those rows, with the similarity and the novelty that they left.
+    → {patched : Track} → Ran rows (track features similarity₁ novelty₁) patched
+    -- A row's length in samples and a rate that are fine, any cap on sections,
+    → (samples rate maxSections : ℕ) → gridFine samples rate ≡ true
+    -- and slices with room: seventeen slots a row for similarity, one a row for the others.
+    → (similarity novelty : List Float) → pairs rows ≤ length similarity → rows ≤ length novelty
+    → (begins : List ℕ) (work : List Float) → rows ≤ length begins → rows ≤ length work
+    -- On the one hand `boundaries` of the patched novelty, lent these slices.
+    → {answer : Sections} {begins′ : List ℕ} {work′ : List Float}
+    → BoundariesPromise (take rows (patched .novelty)) samples rate maxSections begins work answer begins′ work′
+    -- On the other a full run on the patched rows, lent the same: `similarity`, `novelty` of what it left, `boundaries` of what that left.
+    → {m n : ℕ} {fullSimilarity fullNovelty : List Float} {fullAnswer : Sections} {fullBegins : List ℕ} {fullWork : List Float}
+    → SimilarityDone (patched .features) rows similarity m fullSimilarity
+    → NoveltyDone (take (pairs rows) fullSimilarity) rows novelty n fullNovelty
+    → BoundariesPromise (take rows fullNovelty) samples rate maxSections begins work fullAnswer fullBegins fullWork
+    -- No call of the full run is refused, and similarity, novelty, answer and listed rows are the same.
+    → SameSections rows patched answer begins′ m fullSimilarity n fullNovelty fullAnswer fullBegins
+repaired-is-a-full-run rows first second ran samples rate maxSections grid similarity novelty r t begins work u v again one two three =
+    same-as-full-run rows (full-run-is-sound _ rows _ _ first second) ran samples rate maxSections grid similarity novelty r t begins work u v one two three
+    (full-run-is-fresh _ rows _ _ first second) again
 
 -- ---- one patch
 
 -- Where the lent curves were those of the rows, they are those of the edited rows afterwards, bit for bit, whatever the call answers.
-pub patching-equals-starting-over : (rows : ℕ) (was : Track) (patch : Patch) (answer : PatchedFeatures) (now : Track) → Fresh rows was → Patches rows was patch answer now → Fresh rows now
+pub patching-equals-starting-over : (rows : ℕ) (was : Track) (patch : Patch) (answer : PatchedFeatures) (now : Track)
+    → Fresh rows was → Patches rows was patch answer now → Fresh rows now
 patching-equals-starting-over = repairs.call-is-fresh
 
 -- The rows are then the edited ones.
@@ -42,17 +78,20 @@ named rows start x xs zero f g t u e =
     (p, q, r, s)
 
 -- The slots that it names are demand 3's: from pair (max(0, a - 16), a) to 17·b, and novelty a-7 to b+7, cut at the ends.
-pub names-its-slots : (rows : ℕ) (was : Track) (start : ℕ) (x : Float) (xs : List Float) (f g t u : ℕ) (now : Track) → Patches rows was (patchOf start (x ∷ xs)) (Wrote f g t u) now
+pub names-its-slots : (rows : ℕ) (was : Track) (start : ℕ) (x : Float) (xs : List Float) (f g t u : ℕ) (now : Track)
+    → Patches rows was (patchOf start (x ∷ xs)) (Wrote f g t u) now
     → let past = pastRow featureWidth (patchOf start (x ∷ xs)) in
     (f ≡ (start - 16) * 17 + min start 16) × (g ≡ past * 17) × (t ≡ start - 7) × (u ≡ min (past + 8) rows)
 names-its-slots rows was start x xs f g t u now done = named rows start x xs (numberOf rows was (patchOf start (x ∷ xs))) f g t u (done .answer-is)
 
 -- Outside them, the pairs that touch one of them and the slots that the answer names nothing differs.
-pub outside-stays : (rows : ℕ) (was : Track) (patch : Patch) (f g t u : ℕ) (now : Track) → Patches rows was patch (Wrote f g t u) now → Kept patch f g t u was now
+pub outside-stays : (rows : ℕ) (was : Track) (patch : Patch) (f g t u : ℕ) (now : Track)
+    → Patches rows was patch (Wrote f g t u) now → Kept patch f g t u was now
 outside-stays = repairs.outside-stays
 
 -- An empty patch changes nothing, and a refused one changes nothing.
-pub empty-changes-nothing : (rows : ℕ) (was : Track) (start : ℕ) (answer : PatchedFeatures) (now : Track) → Patches rows was (patchOf start []) answer now → now ≡ was
+pub empty-changes-nothing : (rows : ℕ) (was : Track) (start : ℕ) (answer : PatchedFeatures) (now : Track)
+    → Patches rows was (patchOf start []) answer now → now ≡ was
 empty-changes-nothing = repairs.empty-changes-nothing
 
 pub refused-changes-nothing : (rows : ℕ) (was : Track) (patch : Patch) (k : ℕ) (now : Track) → Patches rows was patch (Refused k) now → now ≡ was

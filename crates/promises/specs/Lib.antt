@@ -1,2 +1,3 @@
--- The marked numbers of document 01 as one list.
+-- The marked numbers of document 01 as one list, and what is the same after a repair as after a full run.
 pub mod Marked
+pub mod Repaired
