@@ -18,7 +18,8 @@ use Rattle.lags.specs.declared.TempoOpts.{TempoOpts}
 use Rattle.rooms.specs.Rooms.{Results, Spare, frameSlots, lagSlots, numbersFine, roomOf, magnitudesNumber}
 use Rattle.rooms.specs.declared.Room.{Room}
 use Rattle.rooms.proofs.Numbers.{rows-fine, room-inside, magnitudes-0}
-use Rattle.rooms.proofs.Rooms.{Enough, enough-suffices, told}
+use Rattle.rooms.specs.Enough.{Enough}
+use Rattle.rooms.proofs.Rooms.{enough-suffices, told}
 use Rattle.track.specs.declared.Analysis.{Analysis}
 use Rattle.track.specs.Analyses.{analysisOf, withoutAnalysis, writtenIn}
 use Rattle.analysis.specs.Analyses.{AnalysedEnvelope, AnalysedMagnitudes}

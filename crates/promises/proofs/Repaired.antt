@@ -31,7 +31,7 @@ use Rattle.patch_magnitudes.specs.Runs.{fluxCurve, thresholdCurve, Fresh, Kept,
 use Rattle.patch_magnitudes.proofs.Repairs as repairs
 use Rattle.rooms.specs.Rooms.{Results, Spare, roomOf}
 use Rattle.rooms.proofs.Numbers.{by-bounds}
-use Rattle.rooms.proofs.Rooms.{Enough}
+use Rattle.rooms.specs.Enough.{Enough}
 use Rattle.analysis.specs.Analyses.{AnalysedEnvelope, AnalysedMagnitudes}
 use Rattle.track.specs.declared.Analysis.{Analysis}
 use Rattle.promises.specs.Repaired.{SameRun}

@@ -33,7 +33,8 @@ use Rattle.track_parts.specs.Parts.{onsetsIn}
 use Rattle.track.specs.Analyses.{estimateIn, periodIn, beatsIn, downbeatsIn, analysisOf, writtenIn}
 use Rattle.analysis.specs.Analyses.{AnalysedEnvelope}
 use Rattle.rooms.proofs.Numbers.{inBounds, by-bounds, room-inside}
-use Rattle.rooms.proofs.Rooms.{Enough, enough-suffices}
+use Rattle.rooms.specs.Enough.{Enough}
+use Rattle.rooms.proofs.Rooms.{enough-suffices}
 use Rattle.report.specs.Input.{mostReported}
 use Rattle.report_text.specs.Text.{reportText, Put}
 use Rattle.report_lines.specs.Lines.{agreeingIn, windowsIn, linesOf, LagsFit, Listable}

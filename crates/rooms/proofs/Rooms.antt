@@ -19,39 +19,38 @@ use Rattle.flux.specs.Flux.{fluxAt}
 use Rattle.flux.proofs.Fluxes.{flux-curve-fine}
 use Rattle.lags.specs.declared.TempoOpts.{TempoOpts}
 use Rattle.rooms.specs.declared.Room.{Room}
-use Rattle.rooms.specs.Rooms.{Results, Spare, frameSlots, lagSlots, numbersFine, roomOf, suffices, envelopeRefusal, magnitudesRefusal, envelopeNumber, magnitudesNumber}
+use Rattle.rooms.specs.Rooms.{
+  Results,
+  Spare,
+  frameSlots,
+  lagSlots,
+  numbersFine,
+  roomOf,
+  suffices,
+  envelopeRefusal,
+  magnitudesRefusal,
+  envelopeNumber,
+  magnitudesNumber,
+}
+use Rattle.rooms.specs.Enough.{
+  Enough,
+  Short,
+  short-threshold,
+  short-onsets,
+  short-score,
+  short-back,
+  short-beats,
+  short-downbeats,
+  short-clarity,
+  short-weight,
+  short-window-clarity,
+  short-window-weight,
+  short-work,
+}
 use Rattle.rooms.specs.Inner.{Ready}
 use Rattle.rooms.proofs.Numbers.{inBounds, outside, rows-fine, bounds-fine, room-inside, room-outside}
 
 -- ---- enough, and too little
-
--- each slice has at least the slots that a room names
-pub record Enough (room : Room) (r : Results) (s : Spare) : Type 0 where
-  pub threshold : room .rows ≤ length (r .threshold)
-  pub onsets : room .rows ≤ length (r .onsets)
-  pub score : room .rows ≤ length (r .score)
-  pub back : room .rows ≤ length (r .back)
-  pub beats : room .rows ≤ length (r .beats)
-  pub downbeats : room .rows ≤ length (r .downbeats)
-  pub clarity : room .lags ≤ length (r .clarity)
-  pub weight : room .lags ≤ length (r .weight)
-  pub window-clarity : room .lags ≤ length (s .windowClarity)
-  pub window-weight : room .lags ≤ length (s .windowWeight)
-  pub work : room .sorting ≤ length (s .work)
-
--- some slice has fewer
-pub data Short (room : Room) (r : Results) (s : Spare) : Type 0 where
-  short-threshold : length (r .threshold) < room .rows → Short room r s
-  short-onsets : length (r .onsets) < room .rows → Short room r s
-  short-score : length (r .score) < room .rows → Short room r s
-  short-back : length (r .back) < room .rows → Short room r s
-  short-beats : length (r .beats) < room .rows → Short room r s
-  short-downbeats : length (r .downbeats) < room .rows → Short room r s
-  short-clarity : length (r .clarity) < room .lags → Short room r s
-  short-weight : length (r .weight) < room .lags → Short room r s
-  short-window-clarity : length (s .windowClarity) < room .lags → Short room r s
-  short-window-weight : length (s .windowWeight) < room .lags → Short room r s
-  short-work : length (s .work) < room .sorting → Short room r s
 
 module _ (room : Room) (r : Results) (s : Spare) where
   abbrev enough? : Bool
