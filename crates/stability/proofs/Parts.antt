@@ -20,9 +20,9 @@ use Rattle.lags.specs.Pairs.{agrees}
 use Rattle.lag_sums.specs.Sums.{meanOf, energyOf, leastEnergy}
 use Rattle.lag_curves.specs.Curves.{clarityFrom, weightedBy}
 use Rattle.lag_curves.proofs.Weights.{weighted-by-is}
-use Rattle.lag_search.specs.Search.{winnerLag, winningLag, Searched}
+use Rattle.lag_search.specs.Search.{winnerLag, winningLag}
 use Rattle.lag_search.proofs.Searches.{searched-flat, searched-written}
-use Rattle.stability.specs.Windows.{windowAt, windowAgrees, agreeingTo, Open, WindowSearched}
+use Rattle.stability.specs.Windows.{windowAt, windowAgrees, agreeingTo, WindowSearched}
 use Rattle.stability.proofs.Rooms.{open-same, open-filled}
 
 -- ---- where they lie
@@ -47,17 +47,24 @@ module _ (env : List Float) (w i : ℕ) where
       let e : i * s + s - i * s ≡ s = omega arith in
       ap (λ (k : ℕ). take k (drop (i * s) env)) e
 
-  pub part-long : (m : ℕ) → 1 ≤ w → w * (m + 2) ≤ length env → i < w → m < length (lentPart env w i)
-  part-long m some fit h =
-      let s = length env / w in
-      let e : i * s + s - i * s ≡ s = omega arith in
-      let t : i * s + s ≤ length env = window-ends (length env) w m some fit i h in
-      let l : length (take s (drop (i * s) env)) ≡ s = length-take-le s (drop (i * s) env) (simp length-drop (omega arith)) in
-      rw e (omega (arith, slots-enough (length env) w m some fit))
+  module _ (m : ℕ) (some : 1 ≤ w) (fit : w * (m + 2) ≤ length env) (h : i < w) where
+    pub window-length : length (windowAt env w i) ≡ length env / w
+    unfolding windowAt
+    window-length =
+        let s = length env / w in
+        let t : i * s + s ≤ length env = window-ends (length env) w m some fit i h in
+        length-take-le s (drop (i * s) env) (simp length-drop (omega arith))
+
+    pub window-long : m < length (windowAt env w i)
+    window-long = omega (arith, window-length, slots-enough (length env) w m some fit)
+
+    pub part-long : m < length (lentPart env w i)
+    part-long = omega (arith, ap length part-is, window-long)
 
 -- ---- what the search of one finds
 
-module _ (window priors : List Float) (minLag maxLag : ℕ) (mean ac0 : Float) (m : mean ≡ meanOf window) (a : ac0 ≡ energyOf window mean) (clarity weight : List Float) where
+module _ (window priors : List Float) (minLag maxLag : ℕ) (mean ac0 : Float) (m : mean ≡ meanOf window) (a : ac0 ≡ energyOf window mean)
+    (clarity weight : List Float) where
   pub window-flat : le ac0 leastEnergy ≡ true → WindowSearched window priors minLag maxLag clarity weight 0 clarity weight
   window-flat e =
       record {
@@ -105,18 +112,17 @@ module _ (env : List Float) (rate minLag maxLag whole w i : ℕ) where
     unfolding windowAgrees
     answers = ap (λ (l : ℕ). pick (eqb l 0) false (agrees whole l)) (sym found)
 
-    -- no tempo
+    uncounted : windowAgrees (windowAt env w i) rate minLag maxLag whole ≡ false → a ≡ counted (i + 1)
+    uncounted e = sym (add-zero a) ∙ next false a is e
+
+    -- it has no tempo
     pub next-without : lag ≡ 0 → a ≡ counted (i + 1)
-    next-without z = sym (add-zero a) ∙ next false a is (answers ∙ pick-true _ _ _ (eq-eqb lag 0 z))
+    next-without z = uncounted (answers ∙ pick-true _ _ _ (eq-eqb lag 0 z))
 
-    -- its lag agrees or doesn't
-    pub next-counted : (lag ≡ 0 → ⊥) → a + pick (agrees whole lag) 1 0 ≡ counted (i + 1)
-    next-counted some = next (agrees whole lag) a is (answers ∙ pick-false _ _ _ (ne-eqb lag 0 some))
+    -- it has one, which agrees or doesn't
+    module _ (some : lag ≡ 0 → ⊥) where
+      pub next-agrees : agrees whole lag ≡ true → a + 1 ≡ counted (i + 1)
+      next-agrees e = next true a is (answers ∙ pick-false _ _ _ (ne-eqb lag 0 some) ∙ e)
 
--- one window counts as one at most
-pub one-most : (whole lag r : ℕ) → r ≡ pick (agrees whole lag) 1 0 → r ≤ 1
-one-most whole lag r = go (agrees whole lag)
-  where
-    go : (b : Bool) → r ≡ pick b 1 0 → r ≤ 1
-    go true e = omega (arith, e)
-    go false e = omega (arith, e)
+      pub next-differs : agrees whole lag ≡ false → a ≡ counted (i + 1)
+      next-differs e = uncounted (answers ∙ pick-false _ _ _ (ne-eqb lag 0 some) ∙ e)

@@ -9,14 +9,13 @@ use numbers::OUT_OF_BOUNDS;
 use numbers::least;
 use tempo::search_refusal;
 ghost use mathlib.Core.Path.{_≡_};
-ghost use Prim.Native.Nat.{ℕ, _+_, _≤_, _<_};
+ghost use Prim.Native.Nat.{_≤_};
 ghost use lib.ListN.{length};
 ghost use Rattle.numbers.specs.Limits.{mostPeriod, mostRows};
 ghost use Rattle.lags.specs.Lags.{lagRoom};
-ghost use Rattle.stability.specs.Windows.{windowsOf};
-ghost use Rattle.stability.specs.Answers.{stabilityRefusal, shareOf, Steadied, Shared};
+ghost use Rattle.stability.specs.Answers.{stabilityRefusal, Steadied, Shared};
 
-pub mod windows;
+mod windows;
 
 // No stability, or the share of windows whose tempo agrees with the whole envelope's, with both counts.
 pub enum Stability {
@@ -64,8 +63,18 @@ fn share(
     work: &mut [f64],
 ) -> Stability
     requires { ⌜ («min_lag» ≤ «max_lag») × («max_lag» ≤ mostPeriod) × (length (now envelope) ≤ mostRows) ⌝ }
-    requires { ⌜ (lagRoom «min_lag» «max_lag» ≤ length (now clarity)) × (lagRoom «min_lag» «max_lag» ≤ length (now weight)) × (lagRoom «min_lag» «max_lag» ≤ length (now work)) ⌝ }
-    ensures { λ r. ⌜ Shared (now (envelope .entry)) rate «min_lag» «max_lag» «whole_lag» (now (clarity .entry)) (now (weight .entry)) (now (work .entry)) r (now (clarity .exit)) (now (weight .exit)) (now (work .exit)) ⌝ }
+    requires { ⌜
+        (lagRoom «min_lag» «max_lag» ≤ length (now clarity))
+        × (lagRoom «min_lag» «max_lag» ≤ length (now weight))
+        × (lagRoom «min_lag» «max_lag» ≤ length (now work))
+        ⌝ }
+    ensures { λ r. ⌜
+        Shared
+        (now (envelope .entry)) rate «min_lag» «max_lag» «whole_lag»
+        (now (clarity .entry)) (now (weight .entry)) (now (work .entry))
+        r
+        (now (clarity .exit)) (now (weight .exit)) (now (work .exit))
+        ⌝ }
 {
     if whole_lag == 0 {
         return Stability::None;
@@ -107,7 +116,13 @@ pub fn stability_of(
     weight: &mut [f64],
     work: &mut [f64],
 ) -> Steadiness
-    ensures { λ r. ⌜ Steadied (now (envelope .entry)) rate opts «whole_lag» (now (clarity .entry)) (now (weight .entry)) (now (work .entry)) r (now (clarity .exit)) (now (weight .exit)) (now (work .exit)) ⌝ }
+    ensures { λ r. ⌜
+        Steadied
+        (now (envelope .entry)) rate opts «whole_lag»
+        (now (clarity .entry)) (now (weight .entry)) (now (work .entry))
+        r
+        (now (clarity .exit)) (now (weight .exit)) (now (work .exit))
+        ⌝ }
 {
     let number = refusal(
         envelope,

@@ -11,14 +11,14 @@ use lag_sums::energy_of;
 use lag_sums::mean_of;
 use lags::pairs::fold_fits;
 use lags::room_of;
-ghost use mathlib.Core.Path.{_≡_};
-ghost use Prim.Native.Nat.{ℕ, _+_, _*_, _≤_, _<_};
+ghost use Prim.Native.Nat.{_+_, _*_, _≤_, _<_};
 ghost use lib.ListN.{length};
-ghost use Rattle.numbers.specs.Rounded.{pick};
 ghost use Rattle.numbers.specs.Limits.{mostPeriod, mostRows};
 ghost use Rattle.lags.specs.Lags.{lagRoom};
-ghost use Rattle.lags.specs.Pairs.{agrees};
 ghost use Rattle.stability.specs.Windows.{WindowSearched, Counted};
+
+// Two octaves either way: a window that locks onto half or double time of the same groove has found no other tempo.
+const FOLDS: [f64; 5] = [0.25, 0.5, 1.0, 2.0, 4.0];
 
 // The lag of a window's winner, or 0 where it has no tempo, with the priors of the lags given.
 fn window_lag(
@@ -30,8 +30,18 @@ fn window_lag(
     weight: &mut [f64],
 ) -> usize
     requires { ⌜ («min_lag» ≤ «max_lag») × («max_lag» ≤ mostPeriod) × («max_lag» < length (now window)) ⌝ }
-    requires { ⌜ (lagRoom «min_lag» «max_lag» ≤ length (now priors)) × (lagRoom «min_lag» «max_lag» ≤ length (now clarity)) × (lagRoom «min_lag» «max_lag» ≤ length (now weight)) ⌝ }
-    ensures { λ r. ⌜ WindowSearched (now (window .entry)) (now (priors .entry)) «min_lag» «max_lag» (now (clarity .entry)) (now (weight .entry)) r (now (clarity .exit)) (now (weight .exit)) ⌝ }
+    requires { ⌜
+        (lagRoom «min_lag» «max_lag» ≤ length (now priors))
+        × (lagRoom «min_lag» «max_lag» ≤ length (now clarity))
+        × (lagRoom «min_lag» «max_lag» ≤ length (now weight))
+        ⌝ }
+    ensures { λ r. ⌜
+        WindowSearched
+        (now (window .entry)) (now (priors .entry)) «min_lag» «max_lag»
+        (now (clarity .entry)) (now (weight .entry))
+        r
+        (now (clarity .exit)) (now (weight .exit))
+        ⌝ }
 {
     let mean = mean_of(window);
     let ac0 = energy_of(window, mean);
@@ -44,22 +54,7 @@ fn window_lag(
     lag_of_winner(&weight[0..room], min_lag)
 }
 
-// 1 where a window's lag agrees with the whole lag, and else 0. The search of the folds is left at the first that fits.
-fn one_if_agreeing(whole_lag: usize, lag: usize) -> usize
-    ensures { λ r. ⌜ r ≡ pick (agrees «whole_lag» lag) 1 0 ⌝ }
-{
-    let folds = [0.25, 0.5, 1.0, 2.0, 4.0];
-    let mut k = 0;
-    while k < 5 {
-        if fold_fits(whole_lag, lag, folds[k]) {
-            return 1;
-        }
-        k += 1;
-    }
-    0
-}
-
-// Inner: how many of the windows agree with the whole lag.
+// Inner: how many of the windows agree with the whole lag. The search of the folds is left at the first that fits, so no window counts twice.
 pub fn count_agreeing(
     envelope: &[f64],
     rate: u32,
@@ -73,14 +68,24 @@ pub fn count_agreeing(
 ) -> usize
     requires { ⌜ («min_lag» ≤ «max_lag») × («max_lag» ≤ mostPeriod) × (length (now envelope) ≤ mostRows) ⌝ }
     requires { ⌜ (1 ≤ windows) × (windows * («max_lag» + 2) ≤ length (now envelope)) ⌝ }
-    requires { ⌜ (lagRoom «min_lag» «max_lag» ≤ length (now clarity)) × (lagRoom «min_lag» «max_lag» ≤ length (now weight)) × (lagRoom «min_lag» «max_lag» ≤ length (now work)) ⌝ }
-    ensures { λ r. ⌜ Counted (now (envelope .entry)) rate «min_lag» «max_lag» «whole_lag» windows (now (clarity .entry)) (now (weight .entry)) (now (work .entry)) r (now (clarity .exit)) (now (weight .exit)) (now (work .exit)) ⌝ }
+    requires { ⌜
+        (lagRoom «min_lag» «max_lag» ≤ length (now clarity))
+        × (lagRoom «min_lag» «max_lag» ≤ length (now weight))
+        × (lagRoom «min_lag» «max_lag» ≤ length (now work))
+        ⌝ }
+    ensures { λ r. ⌜
+        Counted
+        (now (envelope .entry)) rate «min_lag» «max_lag» «whole_lag» windows
+        (now (clarity .entry)) (now (weight .entry)) (now (work .entry))
+        r
+        (now (clarity .exit)) (now (weight .exit)) (now (work .exit))
+        ⌝ }
 {
     fill_priors(rate, min_lag, max_lag, work);
     let slots = envelope.len() / windows;
     let mut agreeing = 0;
     let mut i = 0;
-    while i < windows {
+    'windows: while i < windows {
         let from = i * slots;
         let to = from + slots;
         let lag = window_lag(&envelope[from..to], work, min_lag, max_lag, clarity, weight);
@@ -88,7 +93,14 @@ pub fn count_agreeing(
         if lag == 0 {
             continue;
         }
-        agreeing += one_if_agreeing(whole_lag, lag);
+        let mut k = 0;
+        while k < 5 {
+            if fold_fits(whole_lag, lag, FOLDS[k]) {
+                agreeing += 1;
+                continue 'windows;
+            }
+            k += 1;
+        }
     }
     agreeing
 }
