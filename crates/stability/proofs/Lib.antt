@@ -1,4 +1,5 @@
 -- The laws that other crates cite.
+pub mod FirstGreatest
 pub mod Refusals
 pub mod Promises
 mod Rooms

@@ -1,7 +1,7 @@
 -- "The first greatest weight wins", and `estimate` finds no tempo in a lag curve exactly where "no weight is above 0": for every accepted call that
--- writes its lag curves. Both hold of a list without a NaN (Winners of candidates and of lag_search), so what is proved here is that no weight is one. A clarity lies within 0..1.
--- The tempo of a lag is positive and at most 45,000, so the prior's logarithm is of a positive number and its size at most 4,096, and exp of a
--- negative square is at most 2. So each weight is of size at most 2. Assumes nothing.
+-- writes its lag curves. Both hold of a list without a NaN (Winners of candidates and of lag_search), so what is proved here is that no weight is
+-- one. A clarity lies within 0..1. The tempo of a lag is positive and at most 45,000, so the prior's logarithm is of a positive number and its
+-- size at most 4,096, and exp of a negative square is at most 2. So each weight is of size at most 2. Assumes nothing.
 use mathlib.Core.Path.{_≡_, sym, subst}
 use mathlib.Core.Bool.{true, false, not}
 use mathlib.Core.List.{List}
@@ -187,6 +187,24 @@ module _ {env : List Float} {rate least most : ℕ} (s : Searchable env rate lea
   pub no-weight-above : winnerAbove weights ≡ false → (j : ℕ) → j < length weights → lt nought (getD weights j nan) ≡ false
   no-weight-above = none-above weights weights-not-nan
 
+-- an envelope, or a part of one, that isn't refused, is longer than its longest lag and isn't flat
+pub searchable-in : (env : List Float) (rate : ℕ) (o : TempoOpts) → boundsFine rate o ≡ true → every valueFine env ≡ true → length env ≤ mostRows
+    → maxLag rate o < length env → flat env ≡ false → Searchable env rate (minLag rate o) (maxLag rate o)
+unfolding boundsFine
+searchable-in env rate o fine values rows long loud =
+    let r = range-of rate o fine in
+    record {
+      values = values;
+      rows = rows;
+      rate-from = leb-true 1 rate (and-left (leb 1 rate) _ (and-left (rateFine rate) _ fine));
+      rate-to = fine-rate rate o fine;
+      from = r .from-one;
+      ordered = omega (arith, r .ordered);
+      to = r .most-max;
+      long = long;
+      loud = loud;
+    }
+
 -- ---- every call of `estimate` that writes its lag curves
 
 module _ (env : List Float) (onsets rate : ℕ) (o : TempoOpts) (clarities weights works : ℕ)
@@ -199,25 +217,10 @@ module _ (env : List Float) (onsets rate : ℕ) (o : TempoOpts) (clarities weigh
   unfolding unwritten
   loud-is = or-right (tooLittle (length env) onsets (maxLag rate o)) (flat env) written
 
-  rated : 1 ≤ rate
-  unfolding boundsFine
-  rated = leb-true 1 rate (and-left (leb 1 rate) _ (and-left (rateFine rate) _ (accepted env rate o clarities weights works answered .bounds)))
-
   pub searchable : Searchable env rate (minLag rate o) (maxLag rate o)
   searchable =
       let a = accepted env rate o clarities weights works answered in
-      let r = range-of rate o (a .bounds) in
-      record {
-        values = a .values;
-        rows = a .rows;
-        rate-from = rated;
-        rate-to = fine-rate rate o (a .bounds);
-        from = r .from-one;
-        ordered = omega (arith, r .ordered);
-        to = r .most-max;
-        long = omega (arith, long-is);
-        loud = loud-is;
-      }
+      searchable-in env rate o (a .bounds) (a .values) (a .rows) (omega (arith, long-is)) loud-is
 
   abbrev lagWeights : List Float
   lagWeights = weightCurve env rate (minLag rate o) (maxLag rate o)
