@@ -62,13 +62,29 @@ pub record Lent (number room : ℕ) (was now′ : List Float) : Type 0 where
   pub same-length : length now′ ≡ length was
   pub kept : unlessRefused number (drop room now′) now′ ≡ unlessRefused number (drop room was) was
 
--- The promise of `stability_of`: its answer is determined by the input. Where windows are searched, what the first slots of the lag curves' room
--- and of the work slice hold afterwards is left open: they are of the last window that was searched, and no caller has a use for them. Where none
--- is, every slot is as it was.
+-- The promise of `stability_of`: its answer is determined by the input. Where windows are searched, what the first slots of each lent slice hold
+-- afterwards, one a lag, is left open, since no caller has a use for it: in the lag curves' room each window's curves go over those of the window
+-- before, but for a flat window, which writes none; in the work slice stand the priors that all of them are weighed by. Where no window is
+-- searched, every slot is as it was.
 pub record Steadied
     (env : List Float) (rate : ℕ) (o : TempoOpts) (whole : ℕ) (clarity weight work : List Float)
     (answer : Steadiness) (clarity′ weight′ work′ : List Float) : Type 0 where
   pub answered : answer ≡ steadinessOf env rate o whole (length clarity) (length weight) (length work)
-  pub clarities : Lent (stabilityRefusal env rate o whole (length clarity) (length weight) (length work)) (leftOpen (length env) (minLag rate o) (maxLag rate o) whole) clarity clarity′
-  pub weights : Lent (stabilityRefusal env rate o whole (length clarity) (length weight) (length work)) (leftOpen (length env) (minLag rate o) (maxLag rate o) whole) weight weight′
-  pub works : Lent (stabilityRefusal env rate o whole (length clarity) (length weight) (length work)) (leftOpen (length env) (minLag rate o) (maxLag rate o) whole) work work′
+  pub clarities :
+      Lent
+      (stabilityRefusal env rate o whole (length clarity) (length weight) (length work))
+      (leftOpen (length env) (minLag rate o) (maxLag rate o) whole)
+      clarity
+      clarity′
+  pub weights :
+      Lent
+      (stabilityRefusal env rate o whole (length clarity) (length weight) (length work))
+      (leftOpen (length env) (minLag rate o) (maxLag rate o) whole)
+      weight
+      weight′
+  pub works :
+      Lent
+      (stabilityRefusal env rate o whole (length clarity) (length weight) (length work))
+      (leftOpen (length env) (minLag rate o) (maxLag rate o) whole)
+      work
+      work′
