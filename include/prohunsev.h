@@ -5,11 +5,13 @@
  *
  * Numbers of refusal. Every function returns one of these, the lowest that applies:
  *   0  answered ("no tempo" and "no stability" are answers)
- *   1  a number is out of bounds: a rate outside 1 to 192,000, more than 1,048,576 magnitude rows or slots of a curve, bins outside 1 to
- *      4,096, more than 50,000 feature rows, a feature length outside 1 to 2^31, a period or whole lag above 45,000, a bpm that isn't
- *      finite, a patch whose start is above its row count, a frame above 1,048,575, a peak list that doesn't ascend strictly or points past its curve, or
- *      the median of nothing
- *   2  the length of an input isn't rows times width, or a patch isn't whole rows or runs past the end
+ *   1  a number is out of bounds: a rate outside 1 to 192,000, more than 1,048,576 magnitude rows or slots of an input that is an envelope,
+ *      a flux or the curve of ph_suppress_close_peaks, bins outside 1 to 4,096, more than 50,000 feature rows or slots of ph_boundaries'
+ *      novelty, a feature length outside 1 to 2^31, a period or whole lag above 45,000, a bpm that isn't finite, a patch whose start is
+ *      above its row count, a frame above 1,048,575, a listed row of 50,000 and above in ph_boundary_times, a peak list that doesn't ascend
+ *      strictly or points past its curve, or the median of nothing
+ *   2  the length of an input isn't rows times width, a threshold isn't as long as its flux, however long it is, or a patch isn't whole rows
+ *      or runs past the end
  *   3  too little room: an output or a work slice is shorter than its formula
  *   4  a value isn't finite or is too large: above 2^126 in size for magnitudes, above 2^150 for envelopes, curves, medians and
  *      features, and outside -1 to 1 for a similarity
@@ -81,13 +83,13 @@ uint32_t ph_adaptive_threshold(const double *flux, size_t flux_len, double *thre
 
 /* Lists the frames of the onsets, ascending: peaks of the flux above its threshold, the best of each group (30 ms, at least a frame); *count.
  * Room: flux_len slots of frames.
- * Refuses 1 for the length of flux or the rate, 2 for a threshold of another length, 3, and 4 for a value of either. */
+ * Refuses 1 for more than 1,048,576 slots of flux or the rate, 2 for a threshold of another length, however long, 3, and 4 for a value of either. */
 uint32_t ph_pick_onsets(const double *flux, size_t flux_len, const double *threshold, size_t threshold_len, uint32_t rate,
                         uint32_t *frames, size_t frames_len, size_t *count);
 
 /* Lists the best peak of each group, ascending; a peak joins a group while it is at most gap slots past its best so far; *count of them.
  * Room: peaks_len slots of frames.
- * Refuses 1 for the length of curve, or peaks that don't ascend strictly or point past the curve, 3, and 4 for a value of the curve. */
+ * Refuses 1 for more than 1,048,576 slots of curve, or peaks that don't ascend strictly or point past it, 3, and 4 for a value of the curve. */
 uint32_t ph_suppress_close_peaks(const uint32_t *peaks, size_t peaks_len, const double *curve, size_t curve_len, size_t gap,
                                  uint32_t *frames, size_t frames_len, size_t *count);
 
@@ -157,7 +159,7 @@ uint32_t ph_boundaries(const double *novelty, size_t novelty_len, uint64_t lengt
 
 /* The time at which each row begins in milliseconds, in the rows' order, which need not ascend.
  * Room: rows_len slots of ms.
- * Refuses 1 for a row's length, the rate or a row of 50,000 and above, and 3. */
+ * Refuses 1 for a row's length, the rate or a listed row of 50,000 and above, and 3. */
 uint32_t ph_boundary_times(const uint32_t *rows, size_t rows_len, uint64_t length, uint32_t rate, double *ms, size_t ms_len);
 
 /* ---- repairs */

@@ -387,7 +387,7 @@ pub const CALLS: [Call; 22] = [
 
 fn slots(arg: &Arg) -> usize {
     match arg {
-        Arg::Lent { bytes, slot, .. } => bytes.len() / slot,
+        Arg::Lent { slots, .. } => *slots,
         _ => unreachable!("a number has no slots"),
     }
 }
@@ -403,11 +403,9 @@ fn real(arg: &Arg) -> f64 {
         _ => unreachable!("no float"),
     }
 }
-// lent numbers
-const SMALL: usize = 4;
-const WIDE: usize = 8;
+// a lent number, or the three in a row that candidates are
 fn all(k: usize) -> (usize, Range<usize>) {
-    (k, 0..1)
+    (k, 0..3)
 }
 fn must(fine: bool, what: &str) -> Result<(), String> {
     if fine {
@@ -446,11 +444,11 @@ mod median {
     use super::*;
     pub fn draw(r: &mut Numbers) -> Vec<Arg> {
         let n = length(r);
-        vec![input(&values::<f64>(r, n)), output::<f64>(room(r, n)), cell(WIDE)]
+        vec![input(&values::<f64>(r, n)), output::<f64>(room(r, n)), cell::<f64>()]
     }
     pub fn bound(_: &mut Numbers, k: u64) -> Option<Vec<Arg>> {
         let n = *[1 << 20, (1 << 20) + 1].get(k as usize)?;
-        Some(vec![input(&steady(n)), output::<f64>(n), cell(WIDE)])
+        Some(vec![input(&steady(n)), output::<f64>(n), cell::<f64>()])
     }
     pub fn reach(a: &[Arg], _: &After) -> Reach {
         Ok(vec![(1, 0..slots(&a[0])), all(2)])
@@ -462,11 +460,11 @@ mod mad {
     pub fn draw(r: &mut Numbers) -> Vec<Arg> {
         let n = length(r);
         let median = values::<f64>(r, 1)[0];
-        vec![input(&values::<f64>(r, n)), Arg::Real(median), output::<f64>(room(r, n)), cell(WIDE)]
+        vec![input(&values::<f64>(r, n)), Arg::Real(median), output::<f64>(room(r, n)), cell::<f64>()]
     }
     pub fn bound(_: &mut Numbers, k: u64) -> Option<Vec<Arg>> {
         let n = *[1 << 20, (1 << 20) + 1].get(k as usize)?;
-        Some(vec![input(&steady(n)), Arg::Real(5.0), output::<f64>(n), cell(WIDE)])
+        Some(vec![input(&steady(n)), Arg::Real(5.0), output::<f64>(n), cell::<f64>()])
     }
     pub fn reach(a: &[Arg], _: &After) -> Reach {
         Ok(vec![(2, 0..slots(&a[0])), all(3)])
@@ -516,12 +514,12 @@ mod onsets {
         let n = length(r);
         let m = if r.once_in(30) { r.between(0, n + 1) } else { n };
         let (flux, threshold) = (values::<f64>(r, n), values::<f64>(r, m));
-        vec![input(&flux), input(&threshold), whole(rate(r) as usize), output::<u32>(room(r, n)), cell(WIDE)]
+        vec![input(&flux), input(&threshold), whole(rate(r) as usize), output::<u32>(room(r, n)), cell::<usize>()]
     }
     pub fn bound(_: &mut Numbers, k: u64) -> Option<Vec<Arg>> {
         let n = around(k, MOST_ROWS)?;
         let threshold = vec![1.0; n];
-        Some(vec![input(&steady(n)), input(&threshold), whole(48_000), output::<u32>(n), cell(WIDE)])
+        Some(vec![input(&steady(n)), input(&threshold), whole(48_000), output::<u32>(n), cell::<usize>()])
     }
     pub fn reach(a: &[Arg], after: &After) -> Reach {
         let n = slots(&a[0]);
@@ -543,12 +541,18 @@ mod peaks {
         }
         let gap = r.between(0, 20);
         let gap = count(r, gap);
-        vec![input(&peaks), input(&values::<f64>(r, m)), whole(gap), output::<u32>(room(r, peaks.len())), cell(WIDE)]
+        vec![
+            input(&peaks),
+            input(&values::<f64>(r, m)),
+            whole(gap),
+            output::<u32>(room(r, peaks.len())),
+            cell::<usize>(),
+        ]
     }
     pub fn bound(_: &mut Numbers, k: u64) -> Option<Vec<Arg>> {
         let n = around(k, MOST_ROWS)?;
         let peaks: Vec<u32> = (0..n as u32).collect();
-        Some(vec![input(&peaks), input(&steady(n)), whole(6), output::<u32>(n), cell(WIDE)])
+        Some(vec![input(&peaks), input(&steady(n)), whole(6), output::<u32>(n), cell::<usize>()])
     }
     pub fn reach(a: &[Arg], after: &After) -> Reach {
         let count = counted(after, 4, slots(&a[0]))?;
@@ -576,7 +580,7 @@ mod times {
 mod lags {
     use super::*;
     pub fn draw(r: &mut Numbers) -> Vec<Arg> {
-        vec![whole(rate(r) as usize), Arg::Real(bpm(r)), Arg::Real(bpm(r)), cell(WIDE), cell(WIDE)]
+        vec![whole(rate(r) as usize), Arg::Real(bpm(r)), Arg::Real(bpm(r)), cell::<usize>(), cell::<usize>()]
     }
     pub fn bound(_: &mut Numbers, _: u64) -> Option<Vec<Arg>> {
         None
@@ -609,7 +613,15 @@ fn widest(k: u64) -> Option<(u32, f64, f64, usize)> {
     widest.get(k as usize).copied()
 }
 
-// the lent numbers of a tempo, from `found` at this argument on
+// the lent numbers of a tempo: found, bpm, clarity, lags, saliences, count
+fn tempo_cells() -> [Arg; 6] {
+    [cell::<u32>(), cell::<f64>(), cell::<f64>(), output::<usize>(3), output::<f64>(3), cell::<usize>()]
+}
+// those of a stability: found, fraction, agreeing, windows
+fn stability_cells() -> [Arg; 4] {
+    [cell::<u32>(), cell::<f64>(), cell::<usize>(), cell::<usize>()]
+}
+// what they hold, from `found` at this argument on
 fn tempo_fits(after: &After, found: usize, range: LagRange) -> Result<(), String> {
     let count = counted(after, found + 5, 3)?;
     match after.whole(found) {
@@ -631,7 +643,7 @@ fn heard_at(n: usize, onsets: usize, range: LagRange) -> Range<usize> {
         0..0
     }
 }
-// the lent numbers of a stability, from `found` at this argument on
+// the lent numbers of a stability likewise
 fn stability_fits(after: &After, found: usize) -> Result<(), String> {
     let (agreeing, windows) = (after.whole(found + 2), after.whole(found + 3));
     match after.whole(found) {
@@ -657,7 +669,7 @@ mod tempo {
     fn call(rate: u32, low: f64, high: f64, envelope: &[f64], onsets: usize, rooms: [usize; 3]) -> Vec<Arg> {
         let mut args = vec![input(envelope), whole(onsets), whole(rate as usize), Arg::Real(low), Arg::Real(high)];
         args.extend(rooms.map(output::<f64>));
-        args.extend([SMALL, WIDE, WIDE, 3 * WIDE, 3 * WIDE, WIDE].map(cell));
+        args.extend(tempo_cells());
         args
     }
     pub fn reach(a: &[Arg], after: &After) -> Reach {
@@ -689,7 +701,7 @@ mod stability {
     fn call(rate: u32, low: f64, high: f64, envelope: &[f64], lag: usize, rooms: [usize; 3]) -> Vec<Arg> {
         let mut args = vec![input(envelope), whole(rate as usize), Arg::Real(low), Arg::Real(high), whole(lag)];
         args.extend(rooms.map(output::<f64>));
-        args.extend([SMALL, WIDE, WIDE, WIDE].map(cell));
+        args.extend(stability_cells());
         args
     }
     pub fn reach(a: &[Arg], after: &After) -> Reach {
@@ -727,7 +739,7 @@ mod grid {
             output::<f64>(score),
             output::<u32>(back),
             output::<u32>(beats),
-            cell(WIDE),
+            cell::<usize>(),
         ]
     }
     pub fn reach(a: &[Arg], after: &After) -> Reach {
@@ -745,12 +757,12 @@ mod bars {
         let (n, m) = (length(r), length(r));
         let past = r.between(1, 2 * n + 1);
         let beats: Vec<u32> = (0..m).map(|_| frame(r, past)).collect();
-        vec![input(&values::<f64>(r, n)), input(&beats), output::<u32>(room(r, m)), cell(WIDE)]
+        vec![input(&values::<f64>(r, n)), input(&beats), output::<u32>(room(r, m)), cell::<usize>()]
     }
     pub fn bound(_: &mut Numbers, k: u64) -> Option<Vec<Arg>> {
         let n = around(k, MOST_ROWS)?;
         let beats: Vec<u32> = (0..MOST_ROWS as u32).rev().collect();
-        Some(vec![input(&steady(n)), input(&beats), output::<u32>(beats.len()), cell(WIDE)])
+        Some(vec![input(&steady(n)), input(&beats), output::<u32>(beats.len()), cell::<usize>()])
     }
     pub fn reach(a: &[Arg], after: &After) -> Reach {
         let count = counted(after, 3, slots(&a[1]).div_ceil(4))?;
@@ -771,11 +783,13 @@ mod places {
         };
         let (downbeats, beats) = (list(n), list(m));
         let time = if r.once_in(2) { values::<f64>(r, 1)[0] } else { r.one_of(&[&downbeats[..], &[0.5]].concat()) };
-        vec![Arg::Real(time), input(&downbeats), input(&beats), cell(SMALL), cell(WIDE), cell(WIDE)]
+        vec![Arg::Real(time), input(&downbeats), input(&beats), cell::<u32>(), cell::<usize>(), cell::<usize>()]
     }
     pub fn bound(_: &mut Numbers, k: u64) -> Option<Vec<Arg>> {
         let n = *[1 << 20, (1 << 20) + 1].get(k as usize)?;
-        Some(vec![Arg::Real(8.0), input(&steady(n)), input(&steady(n)), cell(SMALL), cell(WIDE), cell(WIDE)])
+        let lists = [input(&steady(n)), input(&steady(n))];
+        let cells = [cell::<u32>(), cell::<usize>(), cell::<usize>()];
+        Some([Arg::Real(8.0)].into_iter().chain(lists).chain(cells).collect())
     }
     pub fn reach(a: &[Arg], after: &After) -> Reach {
         let (bar, beat) = (after.whole(4), after.whole(5));
@@ -859,7 +873,7 @@ mod sections {
     fn call(curve: &[f64], length: u64, rate: u32, most: usize, rooms: [usize; 2]) -> Vec<Arg> {
         let [rows, work] = rooms;
         let mut args = vec![input(curve), Arg::Whole(length), whole(rate as usize), whole(most)];
-        args.extend([output::<u32>(rows), output::<f64>(work), cell(WIDE), cell(WIDE), cell(WIDE)]);
+        args.extend([output::<u32>(rows), output::<f64>(work), cell::<usize>(), cell::<usize>(), cell::<f64>()]);
         args
     }
     pub fn reach(a: &[Arg], after: &After) -> Reach {
@@ -910,6 +924,10 @@ fn mended(start: usize, new: usize, rows: usize, before: usize, after: usize) ->
         start.saturating_sub(before)..(start + new + after).min(rows)
     }
 }
+// the lent numbers that name them: the first and the past-last slot of two curves
+fn named_cells() -> [Arg; 4] {
+    [(); 4].map(|_| cell::<usize>())
+}
 fn named(after: &After, k: usize) -> Range<usize> {
     after.whole(k)..after.whole(k + 1)
 }
@@ -925,7 +943,7 @@ mod magnitudes {
         }
         let (slab, flux, threshold) = (values::<f32>(r, rows * bins), values::<f64>(r, rows), values::<f64>(r, rows));
         let rooms = [room(r, rows), room(r, rows), room(r, rows.min(21))];
-        call(&slab, [count(r, rows), count(r, bins), count(r, start)], &patch, flux, threshold, rooms)
+        call(&slab, [count(r, rows), count(r, bins), count(r, start)], &patch, &flux, &threshold, rooms)
     }
     pub fn bound(_: &mut Numbers, k: u64) -> Option<Vec<Arg>> {
         let all = MOST_ROWS;
@@ -934,23 +952,20 @@ mod magnitudes {
         let (rows, start, new) = *patches.get(k as usize)?;
         let slab: Vec<f32> = (0..rows).map(|i| (i % 7) as f32).collect();
         let curve = steady(rows);
-        Some(call(&slab, [rows, 1, start], &vec![9.0; new], curve.clone(), curve, [rows, rows, 21]))
+        Some(call(&slab, [rows, 1, start], &vec![9.0; new], &curve, &curve, [rows, rows, 21]))
     }
     fn call(
         slab: &[f32],
         told: [usize; 3],
         patch: &[f32],
-        mut flux: Vec<f64>,
-        mut threshold: Vec<f64>,
+        flux: &[f64],
+        threshold: &[f64],
         rooms: [usize; 3],
     ) -> Vec<Arg> {
-        let [flux_room, threshold_room, work] = rooms;
-        // slots past the formula are not read: they hold what no call accepts
-        flux.resize(flux_room, f64::NAN);
-        threshold.resize(threshold_room, f64::NAN);
-        let mut args = vec![changed(slab), whole(told[0]), whole(told[1]), whole(told[2]), input(patch)];
-        args.extend([changed(&flux), changed(&threshold), output::<f64>(work)]);
-        args.extend([WIDE; 4].map(cell));
+        // slots past the formula are not read: they are room, which holds what no call accepts
+        let curves = [changed(flux, rooms[0]), changed(threshold, rooms[1]), output::<f64>(rooms[2])];
+        let mut args = vec![changed(slab, slab.len()), whole(told[0]), whole(told[1]), whole(told[2]), input(patch)];
+        args.extend(curves.into_iter().chain(named_cells()));
         args
     }
     pub fn reach(a: &[Arg], after: &After) -> Reach {
@@ -977,7 +992,7 @@ mod features {
         let slab = values::<f64>(r, rows * FEATURE_WIDTH);
         let (band, curve) = (values_up_to::<f64>(r, rows * SIMILARITY_WIDTH, 1.0), values::<f64>(r, rows));
         let rooms = [room(r, rows * SIMILARITY_WIDTH), room(r, rows)];
-        call(&slab, [count(r, rows), count(r, start)], &patch, band, curve, rooms)
+        call(&slab, [count(r, rows), count(r, start)], &patch, &band, &curve, rooms)
     }
     pub fn bound(_: &mut Numbers, k: u64) -> Option<Vec<Arg>> {
         let all = MOST_FEATURE_ROWS;
@@ -986,21 +1001,11 @@ mod features {
         let (rows, start, new) = *patches.get(k as usize)?;
         let band = vec![0.25; rows * SIMILARITY_WIDTH];
         let (slab, patch) = (steady(rows * FEATURE_WIDTH), steady(new * FEATURE_WIDTH));
-        Some(call(&slab, [rows, start], &patch, band, steady(rows), [rows * SIMILARITY_WIDTH, rows]))
+        Some(call(&slab, [rows, start], &patch, &band, &steady(rows), [rows * SIMILARITY_WIDTH, rows]))
     }
-    fn call(
-        slab: &[f64],
-        told: [usize; 2],
-        patch: &[f64],
-        mut band: Vec<f64>,
-        mut curve: Vec<f64>,
-        rooms: [usize; 2],
-    ) -> Vec<Arg> {
-        band.resize(rooms[0], f64::NAN);
-        curve.resize(rooms[1], f64::NAN);
-        let mut args =
-            vec![changed(slab), whole(told[0]), whole(told[1]), input(patch), changed(&band), changed(&curve)];
-        args.extend([WIDE; 4].map(cell));
+    fn call(slab: &[f64], told: [usize; 2], patch: &[f64], band: &[f64], curve: &[f64], rooms: [usize; 2]) -> Vec<Arg> {
+        let mut args = vec![changed(slab, slab.len()), whole(told[0]), whole(told[1]), input(patch)];
+        args.extend([changed(band, rooms[0]), changed(curve, rooms[1])].into_iter().chain(named_cells()));
         args
     }
     pub fn reach(a: &[Arg], after: &After) -> Reach {
@@ -1034,7 +1039,7 @@ mod track_rooms {
     }
     fn call(rows: usize, rate: u32, low: f64, high: f64) -> Vec<Arg> {
         let mut args = vec![whole(rows), whole(rate as usize), Arg::Real(low), Arg::Real(high)];
-        args.extend([WIDE; 3].map(cell));
+        args.extend([(); 3].map(|_| cell::<usize>()));
         args
     }
     pub fn reach(a: &[Arg], after: &After) -> Reach {
@@ -1071,8 +1076,9 @@ fn lend_track(args: &mut Vec<Arg>, rooms: [usize; TRACK_SLICES]) {
             }
         },
     ));
-    let (tempo, steady) = ([SMALL, WIDE, WIDE, 3 * WIDE, 3 * WIDE, WIDE], [SMALL, WIDE, WIDE, WIDE]);
-    args.extend([&[WIDE], &tempo[..], &steady, &[WIDE, WIDE]].concat().into_iter().map(cell));
+    args.push(cell::<usize>());
+    args.extend(tempo_cells().into_iter().chain(stability_cells()));
+    args.extend([cell::<usize>(), cell::<usize>()]);
 }
 // what a track of n frames may have changed, its thresholds being argument k
 fn track_reach(after: &After, k: usize, n: usize, range: LagRange) -> Reach {

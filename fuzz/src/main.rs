@@ -1,7 +1,8 @@
 //! Guarded runs: the exported functions on random and damaged input, with every lent slice against an unmapped page, once behind it and
 //! once before it. No read or write may go outside what was lent, no input may be written, a refusal may change nothing, and an answer
-//! may change nothing past its count or its formula; and the place of the memory may make no difference. A call gives no number of
-//! refusal that it doesn't have, and among 2,000 inputs and more it answers, and refuses with each number that it has.
+//! may change nothing past its count or its formula; and neither the place of the memory nor what room held may make a difference. A call
+//! gives no number of refusal that it doesn't have, and among 2,000 inputs and more it answers, and refuses with each number that it has,
+//! while NaNs show that slots stay.
 //!
 //!   fuzz run SEED COUNT [CALL]    COUNT inputs a call, and those at the bounds; the last line is 'N calls, 0 faults', or the exit is not 0
 //!   fuzz case CALL SEED NUMBER    one of the inputs again, and what came of it; `fuzz case CALL bound NUMBER` for one at the bounds
@@ -16,68 +17,129 @@ mod numbers;
 use alarm::Case;
 use calls::{Call, CALLS};
 use guard::Pool;
-use lend::{After, Arg, Guard};
+use lend::{emptied, own_nan, After, Arg, Fill, Guard, Kind};
 use numbers::Numbers;
 use std::ops::Range;
 use std::process::exit;
 
-fn arguments(call: &Call, case: Case) -> Option<Vec<Arg>> {
+// the numbers that a case is made of
+fn numbers_of(what: &str, case: Case) -> Numbers {
     match case {
-        Case::Drawn { seed, number } => Some((call.draw)(&mut Numbers::of(seed, call.name, number))),
-        Case::Bound { number } => (call.bound)(&mut Numbers::of(0, call.name, number), number),
+        Case::Drawn { seed, number } => Numbers::of(seed, what, number),
+        Case::Bound { number } => Numbers::of(0, what, number),
     }
 }
 
-// the first byte outside the free ranges that isn't what it was
-fn changed(was: &[u8], is: &[u8], mut free: Vec<Range<usize>>) -> Option<usize> {
-    free.push(was.len()..was.len());
+fn arguments(call: &Call, case: Case) -> Option<Vec<Arg>> {
+    let mut r = numbers_of(call.name, case);
+    match case {
+        Case::Drawn { .. } => Some((call.draw)(&mut r)),
+        Case::Bound { number } => (call.bound)(&mut r, number),
+    }
+}
+
+// the bytes outside the free ranges, range by range
+fn kept(bytes: usize, mut free: Vec<Range<usize>>) -> Vec<Range<usize>> {
+    free.push(bytes..bytes);
     free.sort_by_key(|r| r.start);
     let mut from = 0;
-    free.into_iter().find_map(|r| {
-        let kept = from..r.start.clamp(from, was.len());
-        from = r.end.clamp(kept.end, was.len());
-        (was[kept.clone()] != is[kept.clone()]).then(|| kept.into_iter().find(|&i| was[i] != is[i]))?
-    })
+    let before = |r: Range<usize>| {
+        let kept = from..r.start.clamp(from, bytes);
+        from = r.end.clamp(kept.end, bytes);
+        kept
+    };
+    free.into_iter().map(before).filter(|r| !r.is_empty()).collect()
 }
 
-// what a call may not have done to the memory it was lent
-fn wrong(call: &Call, args: &[Arg], after: &After) -> Option<String> {
+/// A call that was made: what it was lent, and what came of it.
+struct Made {
+    lent: Vec<Vec<u8>>,
+    after: After,
+    /// Whether NaNs showed that slots stay: of a refusal in every slot of floats that the call may write, of an answer in one that it
+    /// may not.
+    shown: bool,
+}
+
+// whether NaNs showed that slots stay; or what a call may not have done to the memory it was lent
+fn stays(call: &Call, args: &[Arg], lent: &[Vec<u8>], after: &After) -> Result<bool, String> {
     if after.number != 0 && !call.refuses.contains(&after.number) {
-        return Some(format!("refuses with {}, which is no number that it has", after.number));
+        return Err(format!("refuses with {}, which is no number that it has", after.number));
     }
-    let reach = if after.number == 0 {
-        match (call.reach)(args, after) {
-            Ok(reach) => reach,
-            Err(what) => return Some(what),
-        }
-    } else {
-        Vec::new()
-    };
+    let reach = if after.number == 0 { (call.reach)(args, after)? } else { Vec::new() };
+    let (mut nans, mut others) = (0, 0);
     for (k, arg) in args.iter().enumerate() {
-        if let Arg::Lent { bytes, slot, written: true } = arg {
-            let free = reach.iter().filter(|r| r.0 == k).map(|r| r.1.start * slot..r.1.end * slot).collect();
-            if let Some(i) = changed(bytes, &after.held[k], free) {
+        let Arg::Lent { kind, written: true, .. } = arg else { continue };
+        let (was, is) = (&lent[k], &after.held[k]);
+        let free = reach.iter().filter(|r| r.0 == k).map(|r| r.1.start * kind.bytes..r.1.end * kind.bytes).collect();
+        for range in kept(was.len(), free) {
+            if was[range.clone()] != is[range.clone()] {
+                let slot = range.into_iter().find(|&i| was[i] != is[i]).unwrap() / kind.bytes;
                 let when = if after.number == 0 { "an answer" } else { "a refusal" };
-                return Some(format!("{when} ({}) changed slot {} of argument {k}", after.number, i / slot));
+                return Err(format!("{when} ({}) changed slot {slot} of argument {k}", after.number));
+            }
+            if kind.float {
+                let own = was[range.clone()].chunks(kind.bytes).filter(|slot| own_nan(*kind, slot)).count();
+                nans += own;
+                others += range.len() / kind.bytes - own;
             }
         }
     }
-    None
+    Ok(nans > 0 && (after.number == 0 || others == 0))
 }
 
-/// Both runs of one input: the number, or what is wrong.
-fn tried(call: &Call, case: Case, args: &[Arg], pool: &mut Pool) -> Result<u32, String> {
-    let mut run = |guard| lend::call(call.name, call.function, case, args, guard, pool);
-    let (behind, before) = (run(Guard::Behind)?, run(Guard::Before)?);
-    if behind != before {
-        return Err("the same input at another place gives another outcome".into());
+// each slot of an argument, before and after
+fn slots(made: &Made, k: usize, kind: Kind) -> impl Iterator<Item = (&[u8], &[u8])> {
+    made.lent[k].chunks(kind.bytes).zip(made.after.held[k].chunks(kind.bytes))
+}
+
+// whether two calls did the same: each slot stayed in both, or holds the same bits after both
+fn alike(args: &[Arg], one: &Made, other: &Made) -> bool {
+    let same = |(k, arg): (usize, &Arg)| {
+        let Arg::Lent { kind, written: true, .. } = arg else { return true };
+        slots(one, k, *kind).zip(slots(other, k, *kind)).all(|((a, b), (c, d))| b == d || a == b && c == d)
+    };
+    one.after.number == other.after.number && args.iter().enumerate().all(same)
+}
+
+/// What came of an input: the number, the calls made, and whether NaNs showed that slots stay.
+struct Came {
+    number: u32,
+    calls: u64,
+    shown: bool,
+}
+
+/// The calls on one input: what came of them, or what is wrong.
+fn tried(call: &Call, case: Case, args: &[Arg], pool: &mut Pool) -> Result<Came, String> {
+    let mut made = |args: &[Arg], guard, fill| {
+        let lent = lend::contents(args, fill, &mut numbers_of("room", case));
+        let after = lend::call(call.name, call.function, case, args, &lent, guard, pool)?;
+        let shown = stays(call, args, &lent, &after)?;
+        Ok::<_, String>(Made { lent, after, shown })
+    };
+    let (one, other) = (made(args, Guard::Behind, Fill::Nans)?, made(args, Guard::Before, Fill::Bytes)?);
+    if !alike(args, &one, &other) {
+        return Err("the same input in other memory gives another outcome".into());
     }
-    wrong(call, args, &behind).map_or(Ok(behind.number), Err)
+    let (number, shown) = (one.after.number, one.shown);
+    if number == 0 || !args.iter().any(Arg::is_changed) {
+        return Ok(Came { number, calls: 2, shown });
+    }
+    // It stays this refusal where what the call was lent to change is NaNs: numbers 1 to 3 come before a look at values, and number 4 is
+    // theirs too.
+    let refused = made(&emptied(args), Guard::Behind, Fill::Nans)?;
+    if refused.after.number != number {
+        return Err(format!("with NaNs to change it gives {} in place of {number}", refused.after.number));
+    }
+    Ok(Came { number, calls: 3, shown: refused.shown })
 }
 
 #[derive(Default)]
 struct Tally {
     numbers: [u64; 5],
+    // inputs with each number of which NaNs showed that slots stay
+    shown: [u64; 5],
+    // whether the call may write floats
+    floats: bool,
     faults: u64,
 }
 
@@ -87,8 +149,12 @@ fn all_of(call: &Call, seed: u64, count: u64, pool: &mut Pool) -> Tally {
     let bound = (0..).map(|number| Case::Bound { number });
     for case in drawn.chain(bound) {
         let Some(args) = arguments(call, case) else { break };
+        tally.floats |= args.iter().any(|arg| matches!(arg, Arg::Lent { kind, written: true, .. } if kind.float));
         match tried(call, case, &args, pool) {
-            Ok(number) => tally.numbers[number as usize] += 2,
+            Ok(came) => {
+                tally.numbers[came.number as usize] += came.calls;
+                tally.shown[came.number as usize] += u64::from(came.shown);
+            }
             Err(what) => {
                 tally.faults += 1;
                 if tally.faults <= 3 {
@@ -103,12 +169,21 @@ fn all_of(call: &Call, seed: u64, count: u64, pool: &mut Pool) -> Tally {
 // from so many inputs on a call must have given whatever it can: the rarest number comes of one input in eighty
 const MANY: u64 = 2_000;
 
-// what never came of a call, though some input gives it
+// what never came of a call, though some input gives it: a number, or one while NaNs showed that slots stay
 fn never(call: &Call, tally: &Tally) -> Vec<String> {
-    let given = |n: u32| tally.numbers[n as usize] > 0;
-    let answered = (!given(0)).then(|| "never answered".into());
-    let refused = call.refuses.iter().filter(|&&n| !given(n)).map(|n| format!("never refused with {n}"));
-    answered.into_iter().chain(refused).collect()
+    let lacks = |&number: &u32| {
+        let of = number as usize;
+        let what = if number == 0 { "answered".into() } else { format!("refused with {number}") };
+        if tally.numbers[of] == 0 {
+            Some(format!("never {what}"))
+        } else if tally.floats && tally.shown[of] == 0 {
+            let slots = if number == 0 { "a slot that it leaves alone" } else { "every slot of floats" };
+            Some(format!("never {what} with a NaN in {slots}"))
+        } else {
+            None
+        }
+    };
+    [0].iter().chain(call.refuses).filter_map(lacks).collect()
 }
 
 fn run(list: &[&Call], seed: u64, count: u64) -> bool {
@@ -156,19 +231,16 @@ fn case(name: &str, case: Case) -> bool {
     };
     for (k, arg) in args.iter().enumerate() {
         match arg {
-            Arg::Lent { bytes, slot, written } => {
-                println!(
-                    "argument {k}: {} slots of {slot} bytes{}",
-                    bytes.len() / slot,
-                    if *written { ", written" } else { "" }
-                )
+            Arg::Lent { slots, kind, written, .. } => {
+                let written = if *written { ", written" } else { "" };
+                println!("argument {k}: {slots} slots of {} bytes{written}", kind.bytes)
             }
             number => println!("argument {k}: {number:?}"),
         }
     }
     let came = tried(call, case, &args, &mut Pool::default());
     match &came {
-        Ok(number) => println!("ph_{name}: number {number}, nothing wrong"),
+        Ok(Came { number, .. }) => println!("ph_{name}: number {number}, nothing wrong"),
         Err(what) => println!("ph_{name}: {what}"),
     }
     came.is_ok()

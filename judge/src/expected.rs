@@ -1,7 +1,7 @@
 //! What each call must do: its number by document 01's table, its answer by the Rust, every other slot as it was.
 use crate::cases::Field;
 use crate::differences;
-use crate::lent::{Slot, bits_of, cell, poisoned};
+use crate::lent::{Floats, Slot, cell, held, poisoned};
 use crate::table::{self, BAND, WIDTH};
 use oracle::structure::StructureOpts;
 use oracle::tempo::{DEFAULT_BEATS_PER_BAR, TempoOpts, TempoReport};
@@ -11,6 +11,15 @@ use oracle::{onsets, structure, tempo};
 pub struct Slots {
     pub bits: Vec<u64>,
     pub open: usize,
+    /// Which floats its slots are, if they are.
+    pub floats: Option<Floats>,
+}
+
+impl Slots {
+    /// Of each slot of floats that is not open, whether it holds a NaN that no operation gives.
+    pub fn nans(&self) -> impl Iterator<Item = bool> {
+        self.floats.into_iter().flat_map(|floats| self.bits.iter().skip(self.open).map(move |&bits| floats.own_nan(bits)))
+    }
 }
 
 pub struct Expected {
@@ -19,13 +28,13 @@ pub struct Expected {
     pub slots: Vec<Slots>,
 }
 
-fn fixed(bits: Vec<u64>) -> Slots {
-    Slots { bits, open: 0 }
+fn fixed<T: Slot>(bits: Vec<u64>) -> Slots {
+    Slots { bits, open: 0, floats: T::FLOATS }
 }
 
 // sorting room or lag room: open as far as its formula, where the call is answered
 fn room(slots: usize, formula: usize, number: u32) -> Slots {
-    Slots { bits: poisoned::<f64>(slots), open: if number == 0 { formula } else { 0 } }
+    Slots { open: if number == 0 { formula } else { 0 }, ..fixed::<f64>(poisoned::<f64>(slots)) }
 }
 
 // the slots of an output: entries first, the rest as it was
@@ -34,7 +43,12 @@ fn listed<T: Slot>(slots: usize, entries: &[T]) -> Slots {
     for (slot, x) in bits.iter_mut().zip(entries) {
         *slot = x.bits();
     }
-    fixed(bits)
+    fixed::<T>(bits)
+}
+
+// the slots that a call is lent to change
+fn changed<T: Slot>(slots: &[T]) -> Slots {
+    fixed::<T>(held(slots))
 }
 
 fn frames(list: &[usize]) -> Vec<u32> {
@@ -46,14 +60,14 @@ fn indices(list: &[u32]) -> Vec<usize> {
 
 pub fn median_of(f: &[Field]) -> Expected {
     let number = table::median_of(f[0].reals(), f[1].size());
-    let median = if number == 0 { onsets::open::median_of(f[0].reals()) } else { cell() };
-    Expected { number, answers: vec![median.bits()], slots: vec![room(f[1].size(), f[0].reals().len(), number)] }
+    let median = if number == 0 { onsets::open::median_of(f[0].reals()).bits() } else { cell::<f64>() };
+    Expected { number, answers: vec![median], slots: vec![room(f[1].size(), f[0].reals().len(), number)] }
 }
 
 pub fn mad_of(f: &[Field]) -> Expected {
     let number = table::mad_of(f[0].reals(), f[1].real(), f[2].size());
-    let mad = if number == 0 { onsets::open::mad_of(f[0].reals(), f[1].real()) } else { cell() };
-    Expected { number, answers: vec![mad.bits()], slots: vec![room(f[2].size(), f[0].reals().len(), number)] }
+    let mad = if number == 0 { onsets::open::mad_of(f[0].reals(), f[1].real()).bits() } else { cell::<f64>() };
+    Expected { number, answers: vec![mad], slots: vec![room(f[2].size(), f[0].reals().len(), number)] }
 }
 
 /// The flux that the Rust gives these rows, with D1 and D2.
@@ -77,8 +91,8 @@ pub fn adaptive_threshold(f: &[Field]) -> Expected {
 }
 
 fn list(number: u32, entries: &[usize], slots: usize) -> Expected {
-    let count = if number == 0 { entries.len() } else { cell() };
-    Expected { number, answers: vec![count.bits()], slots: vec![listed(slots, &frames(entries))] }
+    let count = if number == 0 { entries.len().bits() } else { cell::<usize>() };
+    Expected { number, answers: vec![count], slots: vec![listed(slots, &frames(entries))] }
 }
 
 pub fn pick_onsets(f: &[Field]) -> Expected {
@@ -107,8 +121,12 @@ pub fn lags(rate: u32, min_bpm: f64, max_bpm: f64) -> (usize, usize) {
 
 pub fn lag_range(f: &[Field]) -> Expected {
     let number = table::lag_range(f[0].whole(), f[1].real(), f[2].real());
-    let (min, max) = if number == 0 { lags(f[0].small(), f[1].real(), f[2].real()) } else { (cell(), cell()) };
-    Expected { number, answers: vec![min.bits(), max.bits()], slots: vec![] }
+    let mut answers = vec![cell::<usize>(); 2];
+    if number == 0 {
+        let (min, max) = lags(f[0].small(), f[1].real(), f[2].real());
+        answers = vec![min.bits(), max.bits()];
+    }
+    Expected { number, answers, slots: vec![] }
 }
 
 fn lag_count(rate: u32, bpm: (f64, f64)) -> usize {
@@ -121,7 +139,7 @@ pub fn estimate(f: &[Field]) -> Expected {
     let rooms = [f[5].size(), f[6].size(), f[7].size()];
     let number = table::estimate(envelope, f[2].whole(), bpm, rooms, || lag_count(rate, bpm));
     let mut curves = (vec![], vec![]);
-    let mut answers = vec![cell::<u32>().bits(), cell::<f64>().bits(), cell::<f64>().bits(), cell::<usize>().bits()];
+    let mut answers = vec![cell::<u32>(), cell::<f64>(), cell::<f64>(), cell::<usize>()];
     let mut pairs = (poisoned::<usize>(3), poisoned::<f64>(3));
     if number == 0 {
         let (min, max) = lags(rate, bpm.0, bpm.1);
@@ -141,8 +159,8 @@ pub fn estimate(f: &[Field]) -> Expected {
             }
         }
     }
-    let slots =
-        vec![listed(rooms[0], &curves.0), listed(rooms[1], &curves.1), fixed(poisoned::<f64>(rooms[2])), fixed(pairs.0), fixed(pairs.1)];
+    let (lags, saliences) = (fixed::<usize>(pairs.0), fixed::<f64>(pairs.1));
+    let slots = vec![listed(rooms[0], &curves.0), listed(rooms[1], &curves.1), room(rooms[2], 0, number), lags, saliences];
     Expected { number, answers, slots }
 }
 
@@ -150,7 +168,7 @@ pub fn stability_of(f: &[Field]) -> Expected {
     let (envelope, rate, bpm, whole_lag) = (f[0].reals(), f[1].small(), (f[2].real(), f[3].real()), f[4].size());
     let rooms = [f[5].size(), f[6].size(), f[7].size()];
     let number = table::stability_of(envelope, f[1].whole(), bpm, f[4].whole(), rooms, || lag_count(rate, bpm));
-    let mut answers = vec![cell::<u32>().bits(), cell::<f64>().bits(), cell::<usize>().bits(), cell::<usize>().bits()];
+    let mut answers = vec![cell::<u32>(), cell::<f64>(), cell::<usize>(), cell::<usize>()];
     // lag room is open only where windows are searched
     let mut formula = 0;
     if number == 0 {
@@ -170,17 +188,17 @@ pub fn stability_of(f: &[Field]) -> Expected {
 pub fn beat_grid(f: &[Field]) -> Expected {
     let rooms = [f[2].size(), f[3].size(), f[4].size()];
     let number = table::beat_grid(f[0].reals(), f[1].whole(), rooms);
-    let (mut scores, mut links, mut beats, mut count) = (vec![], vec![], vec![], cell());
+    let (mut scores, mut links, mut beats, mut count) = (vec![], vec![], vec![], cell::<usize>());
     if number == 0 {
         beats = tempo::open::beat_grid(f[0].reals(), f[1].size());
-        count = beats.len();
+        count = beats.len().bits();
         if let Some((score, back)) = tempo::open::scores(f[0].reals(), f[1].size()) {
             scores = score;
             links = back.iter().map(|link| link.map_or(u32::MAX, |t| t as u32)).collect();
         }
     }
     let slots = vec![listed(rooms[0], &scores), listed(rooms[1], &links), listed(rooms[2], &frames(&beats))];
-    Expected { number, answers: vec![count.bits()], slots }
+    Expected { number, answers: vec![count], slots }
 }
 
 pub fn room_of(f: &[Field]) -> Expected {
@@ -189,9 +207,9 @@ pub fn room_of(f: &[Field]) -> Expected {
     let mut answers = [cell::<usize>(); 3];
     if number == 0 {
         let lags = lag_count(f[1].small(), bpm);
-        answers = [f[0].size(), lags, table::track_sorting(f[0].size(), lags)];
+        answers = [f[0].size(), lags, table::track_sorting(f[0].size(), lags)].map(Slot::bits);
     }
-    Expected { number, answers: answers.map(Slot::bits).into(), slots: vec![] }
+    Expected { number, answers: answers.into(), slots: vec![] }
 }
 
 fn track_room(f: &[Field]) -> table::TrackRoom {
@@ -205,12 +223,12 @@ fn track(number: u32, envelope: &[f64], rate: u32, bpm: (f64, f64), f: &[Field])
     let field = |n: usize| Field::Whole(n as u64);
     let (hertz, low, high) = (field(rate as usize), Field::Real(bpm.0), Field::Real(bpm.1));
     let lent = || Field::Reals(envelope.to_vec());
-    let mut answers: Vec<u64> = [cell::<usize>().bits(); 11].into();
-    (answers[1], answers[5]) = (cell::<u32>().bits(), cell::<u32>().bits());
-    (answers[2], answers[3], answers[6]) = (cell::<f64>().bits(), cell::<f64>().bits(), cell::<f64>().bits());
-    let mut slots: Vec<Slots> =
-        (0..11).map(|k| fixed(if [1, 7, 8, 9].contains(&k) { poisoned::<u32>(room_at(k)) } else { poisoned::<f64>(room_at(k)) })).collect();
-    slots.extend([fixed(poisoned::<usize>(3)), fixed(poisoned::<f64>(3))]);
+    let mut answers = vec![cell::<usize>(); 11];
+    (answers[1], answers[5]) = (cell::<u32>(), cell::<u32>());
+    (answers[2], answers[3], answers[6]) = (cell::<f64>(), cell::<f64>(), cell::<f64>());
+    let empty = |k: usize| if [1, 7, 8, 9].contains(&k) { listed::<u32>(room_at(k), &[]) } else { listed::<f64>(room_at(k), &[]) };
+    let mut slots: Vec<Slots> = (0..11).map(empty).collect();
+    slots.extend([listed::<usize>(3, &[]), listed::<f64>(3, &[])]);
     if number != 0 {
         return Expected { number, answers, slots };
     }
@@ -327,7 +345,7 @@ pub fn novelty(f: &[Field]) -> Expected {
 pub fn boundaries(f: &[Field]) -> Expected {
     let number = table::boundaries(f[0].reals(), f[1].whole(), f[2].whole(), f[4].size(), f[5].size());
     let mut rows = vec![];
-    let mut answers = vec![cell::<usize>().bits(), cell::<usize>().bits(), cell::<f64>().bits()];
+    let mut answers = vec![cell::<usize>(), cell::<usize>(), cell::<f64>()];
     if number == 0 {
         let opts = StructureOpts::default().with_max_sections(f[3].size());
         let report = structure::open::sections(f[0].reals(), f[1].size(), f[2].small(), &opts, &mut rows);
@@ -345,7 +363,7 @@ pub fn boundary_times(f: &[Field]) -> Expected {
 }
 
 fn named(number: u32, ranges: [usize; 4]) -> Vec<u64> {
-    if number == 0 { ranges.map(Slot::bits).into() } else { [cell::<usize>(); 4].map(Slot::bits).into() }
+    if number == 0 { ranges.map(Slot::bits).into() } else { vec![cell::<usize>(); 4] }
 }
 
 // Patching is added; its parts are the Rust's: slots of the flux of the edited rows, thresholds of the flux as it then stands.
@@ -366,7 +384,7 @@ pub fn patch_magnitudes(f: &[Field]) -> Expected {
     // an empty patch sorts nothing
     let sorted = if new.is_empty() { 0 } else { table::window(rows) };
     let sorting = room(f[7].size(), sorted, number);
-    let slots = vec![fixed(bits_of(&slab)), fixed(bits_of(&flux)), fixed(bits_of(&threshold)), sorting];
+    let slots = vec![changed(&slab), changed(&flux), changed(&threshold), sorting];
     Expected { number, answers: named(number, ranges), slots }
 }
 
@@ -393,6 +411,6 @@ pub fn patch_features(f: &[Field]) -> Expected {
         let fresh = novelty_of(&similarity[..rows * BAND], rows);
         novelty[ranges[2]..ranges[3]].copy_from_slice(&fresh[ranges[2]..ranges[3]]);
     }
-    let slots = vec![fixed(bits_of(&features)), fixed(bits_of(&similarity)), fixed(bits_of(&novelty))];
+    let slots = vec![changed(&features), changed(&similarity), changed(&novelty)];
     Expected { number, answers: named(number, ranges), slots }
 }

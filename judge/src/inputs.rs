@@ -720,7 +720,11 @@ pub fn at_the_bounds(call: &str, each: &mut dyn FnMut(Fields)) {
             "mad_of" => each(vec![Reals(saw(n)), Real(50.0), size(n)]),
             "spectral_flux" => each(vec![Singles(vec![1.0; n]), size(n), Whole(1), size(n)]),
             "adaptive_threshold" => each(vec![Reals(saw(n)), size(n), Whole(21)]),
-            "pick_onsets" => each(vec![Reals(saw(n)), Reals(vec![40.0; n]), Whole(48_000), size(n)]),
+            "pick_onsets" => {
+                each(vec![Reals(saw(n)), Reals(vec![40.0; n]), Whole(48_000), size(n)]);
+                // a threshold of another length than its flux is number 2, however long
+                each(vec![Reals(saw(3)), Reals(vec![40.0; n]), Whole(48_000), size(3)]);
+            }
             "suppress_close_peaks" => each(vec![Frames((0..n as u32).step_by(3).collect()), Reals(saw(n)), Whole(7), size(n)]),
             "estimate" => each(vec![Reals(saw(n)), Whole(2), Whole(900), Real(30.0), Real(300.0), Whole(9), Whole(9), Whole(9)]),
             "stability_of" => each(vec![Reals(saw(n)), Whole(900), Real(30.0), Real(300.0), Whole(3), Whole(9), Whole(9), Whole(9)]),

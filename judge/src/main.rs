@@ -17,7 +17,7 @@ mod table;
 mod tracks;
 
 use cases::Field;
-use expected::Expected;
+use expected::{Expected, Slots};
 use inputs::Fields;
 use numbers::Numbers;
 use port::Outcome;
@@ -25,6 +25,8 @@ use port::Outcome;
 pub struct Call {
     pub name: &'static str,
     pub fields: &'static str,
+    // the numbers of refusal that it has
+    refuses: &'static [u32],
     expected: fn(&[Field]) -> Expected,
     port: fn(&[Field]) -> Outcome,
     all: fn(&mut dyn FnMut(Fields)),
@@ -34,10 +36,11 @@ pub struct Call {
 }
 
 macro_rules! call {
-    ($name:ident, $fields:literal, $all:ident, $count:literal) => {
+    ($name:ident, $fields:literal, $refuses:tt, $all:ident, $count:literal) => {
         Call {
             name: stringify!($name),
             fields: $fields,
+            refuses: &$refuses,
             expected: expected::$name,
             port: port::$name,
             all: inputs::$all,
@@ -48,38 +51,41 @@ macro_rules! call {
 }
 
 pub const CALLS: &[Call] = &[
-    call!(median_of, "values work", all_medians, 60_000),
-    call!(mad_of, "values median work", all_mads, 60_000),
-    call!(spectral_flux, "magnitudes rows bins flux", all_fluxes, 60_000),
-    call!(adaptive_threshold, "flux threshold work", all_thresholds, 40_000),
-    call!(pick_onsets, "flux threshold rate frames", all_onsets, 60_000),
-    call!(suppress_close_peaks, "peaks curve gap frames", all_peaks, 60_000),
-    call!(frame_times, "frames rate ms", all_times, 40_000),
-    call!(lag_range, "rate min_bpm max_bpm", all_lag_ranges, 100_000),
-    call!(estimate, "envelope onsets rate min_bpm max_bpm clarity_curve weight_curve work", all_tempos, 30_000),
-    call!(stability_of, "envelope rate min_bpm max_bpm whole_lag clarity_curve weight_curve work", all_stabilities, 30_000),
-    call!(beat_grid, "envelope period score back beats", all_grids, 25_000),
-    call!(downbeats, "envelope beats frames", all_downbeats, 40_000),
-    call!(bar_beat_at, "time downbeats beats", all_bars, 60_000),
-    call!(room_of, "rows rate min_bpm max_bpm", all_rooms, 40_000),
+    call!(median_of, "values work", [1, 3, 4], all_medians, 60_000),
+    call!(mad_of, "values median work", [1, 3, 4], all_mads, 60_000),
+    call!(spectral_flux, "magnitudes rows bins flux", [1, 2, 3, 4], all_fluxes, 60_000),
+    call!(adaptive_threshold, "flux threshold work", [1, 3, 4], all_thresholds, 40_000),
+    call!(pick_onsets, "flux threshold rate frames", [1, 2, 3, 4], all_onsets, 60_000),
+    call!(suppress_close_peaks, "peaks curve gap frames", [1, 3, 4], all_peaks, 60_000),
+    call!(frame_times, "frames rate ms", [1, 3], all_times, 40_000),
+    call!(lag_range, "rate min_bpm max_bpm", [1], all_lag_ranges, 100_000),
+    call!(estimate, "envelope onsets rate min_bpm max_bpm clarity_curve weight_curve work", [1, 3, 4], all_tempos, 30_000),
+    call!(stability_of, "envelope rate min_bpm max_bpm whole_lag clarity_curve weight_curve work", [1, 3, 4], all_stabilities, 30_000),
+    call!(beat_grid, "envelope period score back beats", [1, 3, 4], all_grids, 25_000),
+    call!(downbeats, "envelope beats frames", [1, 3, 4], all_downbeats, 40_000),
+    call!(bar_beat_at, "time downbeats beats", [], all_bars, 60_000),
+    call!(room_of, "rows rate min_bpm max_bpm", [1], all_rooms, 40_000),
     call!(
         analyse_envelope,
         "envelope rate min_bpm max_bpm threshold onsets clarity_curve weight_curve window_clarity window_weight score back beats downbeats work",
+        [1, 3, 4],
         all_envelopes,
         15_000
     ),
     call!(
         analyse_magnitudes,
-        "magnitudes rows bins rate min_bpm max_bpm flux threshold onsets clarity_curve weight_curve window_clarity window_weight score back beats downbeats work",
+        "magnitudes rows bins rate min_bpm max_bpm flux threshold onsets clarity_curve weight_curve window_clarity window_weight \
+         score back beats downbeats work",
+        [1, 2, 3, 4],
         all_slabs,
         15_000
     ),
-    call!(similarity, "features rows similarity", all_similarities, 30_000),
-    call!(novelty, "similarity rows novelty", all_novelties, 12_000),
-    call!(boundaries, "novelty length rate max_sections rows work", all_boundaries, 60_000),
-    call!(boundary_times, "rows length rate ms", all_row_times, 40_000),
-    call!(patch_magnitudes, "magnitudes rows bins start new_rows flux threshold work", all_patches_of_magnitudes, 30_000),
-    call!(patch_features, "features rows start new_rows similarity novelty", all_patches_of_features, 6_000),
+    call!(similarity, "features rows similarity", [1, 2, 3, 4], all_similarities, 30_000),
+    call!(novelty, "similarity rows novelty", [1, 2, 3, 4], all_novelties, 12_000),
+    call!(boundaries, "novelty length rate max_sections rows work", [1, 3, 4], all_boundaries, 60_000),
+    call!(boundary_times, "rows length rate ms", [1, 3], all_row_times, 40_000),
+    call!(patch_magnitudes, "magnitudes rows bins start new_rows flux threshold work", [1, 2, 3, 4], all_patches_of_magnitudes, 30_000),
+    call!(patch_features, "features rows start new_rows similarity novelty", [1, 2, 3, 4], all_patches_of_features, 6_000),
 ];
 
 /// The first difference between what must be and what is, in words.
@@ -111,9 +117,47 @@ fn difference(must: &Expected, is: &Outcome) -> Option<String> {
     None
 }
 
+/// One case on both sides.
+struct Judged {
+    must: Expected,
+    is: Outcome,
+    // the calls made, and whether NaNs showed that slots stay (`shown`)
+    calls: u64,
+    shown: bool,
+    difference: Option<String>,
+}
+
+/// Whether NaNs show that slots stay: of a refusal in every slot of floats that the call may write, of an answer in one that it may not.
+fn shown(must: &Expected) -> bool {
+    let mut slots = must.slots.iter().flat_map(Slots::nans).peekable();
+    if must.number == 0 { slots.any(|nan| nan) } else { slots.peek().is_some() && slots.all(|nan| nan) }
+}
+
+/// Runs one case on both sides. A refused patch is run again with NaNs for what it is lent to change: it stays this refusal, as numbers
+/// 1 to 3 come before a look at values, and number 4 is theirs too.
+fn judged(call: &Call, fields: &[Field]) -> Judged {
+    let sides = || {
+        let (must, is) = ((call.expected)(fields), (call.port)(fields));
+        let difference = difference(&must, &is);
+        Judged { shown: shown(&must), calls: 1, must, is, difference }
+    };
+    let mut one = sides();
+    if one.must.number != 0 && call.name.starts_with("patch_") {
+        let again = lent::emptied(sides);
+        one.calls += 1;
+        one.shown = again.shown;
+        one.difference = one.difference.or(again.difference.map(|what| format!("with NaNs to change, {what}")));
+    }
+    one
+}
+
 #[derive(Default)]
 struct Tally {
     numbers: [u64; 5],
+    // cases with each number of which NaNs showed that slots stay
+    shown: [u64; 5],
+    // whether the call may write floats
+    floats: bool,
     // answers that hold something: a tempo, a stability, a place in a bar, entries of a list, slots of a curve
     full: u64,
     differences: u64,
@@ -131,24 +175,43 @@ impl Tally {
     }
 }
 
-/// Runs one case on both sides, counts it, and tells a difference with the smallest case that shows one.
+/// Judges one case, counts it, and tells a difference with the smallest case that shows one.
 fn judge(call: &Call, fields: &[Field], tally: &mut Tally) -> Outcome {
-    let (must, is) = ((call.expected)(fields), (call.port)(fields));
-    tally.numbers[(must.number as usize).min(4)] += 1;
-    tally.full += u64::from(full(&must));
-    if let Some(what) = difference(&must, &is) {
+    lent::fill(tally.calls());
+    let one = judged(call, fields);
+    let number = (one.must.number as usize).min(4);
+    tally.numbers[number] += one.calls;
+    tally.shown[number] += u64::from(one.shown);
+    tally.floats |= one.must.slots.iter().any(|s| s.floats.is_some());
+    tally.full += u64::from(full(&one.must));
+    if let Some(what) = one.difference {
         tally.differences += 1;
         if tally.differences <= 3 {
-            let differs = |f: &[Field]| difference(&(call.expected)(f), &(call.port)(f)).is_some();
-            let small = cases::smallest(fields.to_vec(), &differs);
+            let small = cases::smallest(fields.to_vec(), &|f| judged(call, f).difference.is_some());
             let names: Vec<&str> = call.fields.split(' ').collect();
             println!("{}: {what}", call.name);
             println!("  judge case '{}'", cases::text(call.name, &names, &small));
-            let what = difference(&(call.expected)(&small), &(call.port)(&small));
-            println!("  {}", what.unwrap_or_default());
+            println!("  {}", judged(call, &small).difference.unwrap_or_default());
         }
     }
-    is
+    one.is
+}
+
+// what never came of a call, though some input gives it: a number, or one while NaNs showed that slots stay
+fn never(call: &Call, tally: &Tally) -> Vec<String> {
+    let lacks = |&number: &u32| {
+        let of = number as usize;
+        let what = if number == 0 { "answered".into() } else { format!("refused with {number}") };
+        if tally.numbers[of] == 0 {
+            Some(format!("never {what}"))
+        } else if tally.floats && tally.shown[of] == 0 {
+            let slots = if number == 0 { "a slot that it leaves alone" } else { "every slot of floats" };
+            Some(format!("never {what} with a NaN in {slots}"))
+        } else {
+            None
+        }
+    };
+    [0].iter().chain(call.refuses).filter_map(lacks).collect()
 }
 
 fn seed_of(seed: u64, salt: &str) -> Numbers {
@@ -207,7 +270,7 @@ fn run(seed: u64, only: &[&str]) -> bool {
         "{:24}{:>10}{:>10}{:>10}{:>8}{:>8}{:>8}{:>8}{:>13}",
         "call", "calls", "answered", "not empty", "no. 1", "no. 2", "no. 3", "no. 4", "differences"
     );
-    let (mut calls, mut differences) = (0, 0);
+    let (mut calls, mut differences, mut lacks) = (0, 0, vec![]);
     let mut line = |name: &str, t: Tally| {
         let [a, b, c, d, e] = t.numbers;
         println!("{name:24}{:>10}{a:>10}{:>10}{b:>8}{c:>8}{d:>8}{e:>8}{:>13}", t.calls(), t.full, t.differences);
@@ -215,14 +278,17 @@ fn run(seed: u64, only: &[&str]) -> bool {
         differences += t.differences;
     };
     for call in CALLS.iter().filter(|c| only.is_empty() || only.contains(&c.name)) {
-        line(call.name, one(call, seed));
+        let tally = one(call, seed);
+        lacks.extend(never(call, &tally).into_iter().map(|what| format!("{} {what}", call.name)));
+        line(call.name, tally);
     }
     let runs = if only.is_empty() { together(seed) } else { vec![] };
     for (name, tally) in runs {
         line(name, tally);
     }
+    lacks.iter().for_each(|what| println!("{what}"));
     println!("{calls} calls, {differences} differences");
-    differences == 0
+    differences == 0 && lacks.is_empty()
 }
 
 fn main() {
@@ -234,12 +300,17 @@ fn main() {
             let name = line.split_whitespace().next().unwrap_or_default();
             let call = CALLS.iter().find(|c| c.name == name).expect("no call of this name");
             let fields = cases::parse(line, &(call.random)(&mut Numbers(1)));
-            let (must, is) = ((call.expected)(&fields), (call.port)(&fields));
+            // with each fill, and the one that differs is told
+            let fills = (0..lent::FILLS).map(|number| {
+                lent::fill(number);
+                judged(call, &fields)
+            });
+            let all: Vec<Judged> = fills.collect();
+            let Judged { must, is, difference, .. } = all.iter().find(|j| j.difference.is_some()).unwrap_or(&all[0]);
             println!("must be: number {}, answers {:x?}", must.number, must.answers);
             println!("is:      number {}, answers {:x?}, slots {:x?}", is.number, is.answers, is.slots);
-            let what = difference(&must, &is);
-            println!("{}", what.as_deref().unwrap_or("no difference"));
-            what.is_none()
+            println!("{}", difference.as_deref().unwrap_or("no difference"));
+            difference.is_none()
         }
         ["sample"] => {
             sample::print();

@@ -692,8 +692,8 @@ pub fn boundary_times(f: &[Field]) -> Outcome {
 }
 
 pub fn patch_magnitudes(f: &[Field]) -> Outcome {
-    let (mut magnitudes, new_rows) = (Lent::of(f[0].singles()), Lent::of(f[4].singles()));
-    let (mut flux, mut threshold, mut work) = (Lent::of(f[5].reals()), Lent::of(f[6].reals()), Lent::<f64>::room(f[7].size()));
+    let (mut magnitudes, new_rows) = (Lent::changed(f[0].singles()), Lent::of(f[4].singles()));
+    let (mut flux, mut threshold, mut work) = (Lent::changed(f[5].reals()), Lent::changed(f[6].reals()), Lent::<f64>::room(f[7].size()));
     let mut named = [Number::<usize>::lent(); 4];
     let [a, b, c, d] = &mut named;
     let number = unsafe {
@@ -724,8 +724,8 @@ pub fn patch_magnitudes(f: &[Field]) -> Outcome {
 }
 
 pub fn patch_features(f: &[Field]) -> Outcome {
-    let (mut features, new_rows) = (Lent::of(f[0].reals()), Lent::of(f[3].reals()));
-    let (mut similarity, mut novelty) = (Lent::of(f[4].reals()), Lent::of(f[5].reals()));
+    let (mut features, new_rows) = (Lent::changed(f[0].reals()), Lent::of(f[3].reals()));
+    let (mut similarity, mut novelty) = (Lent::changed(f[4].reals()), Lent::changed(f[5].reals()));
     let mut named = [Number::<usize>::lent(); 4];
     let [a, b, c, d] = &mut named;
     let number = unsafe {
