@@ -31,10 +31,17 @@ passing test (t ∷ ts) = let rest = passing test ts in pick (test t) (suc rest)
 unfoldable pub beatIn : ℕ → Float → List Float → List Float → ℕ
 beatIn k time downbeats beats = max 1 (passing (during (getD downbeats k nan ⊖ slack) (time ⊕ slack)) beats)
 
--- each case's values, bar 0 being nowhere; the number is 0 in both: `Nowhere`, or `At` with bar and beat from 1
-unfoldable pub inBar : ℕ → Float → List Float → List Float → BarBeat
-inBar zero time downbeats beats = Nowhere
-inBar (suc k) time downbeats beats = At (suc k) (beatIn k time downbeats beats)
+-- What an answer says, "this paper's number and values for each of its cases". Nothing is refused, so both are number 0; `Nowhere` has no
+-- values, and `At` has the bar and the beat.
+abbrev pub barBeatSays : BarBeat → ℕ × List ℕ
+barBeatSays Nowhere = (0, [])
+barBeatSays (At bar beat) = (0, bar ∷ beat ∷ [])
 
-unfoldable pub barBeatOf : Float → List Float → List Float → BarBeat
-barBeatOf time downbeats beats = inBar (lastBar (time ⊕ slack) downbeats (length downbeats)) time downbeats beats
+-- the bar and the beat of a time in this bar, both from 1: none in bar 0, where no downbeat is reached
+unfoldable pub inBar : (bar : ℕ) → Float → List Float → List Float → List ℕ
+inBar zero time downbeats beats = []
+inBar (suc k) time downbeats beats = suc k ∷ beatIn k time downbeats beats ∷ []
+
+-- the bar and the beat of a time, none where it lies in no bar
+unfoldable pub barAndBeat : (time : Float) → (downbeats beats : List Float) → List ℕ
+barAndBeat time downbeats beats = inBar (lastBar (time ⊕ slack) downbeats (length downbeats)) time downbeats beats

@@ -2,12 +2,11 @@
 //
 // Document 01, "Beats and bars". The Rust: tempo.rs `downbeat_phase` and `bar_beat_at`.
 ghost use mathlib.Core.Path.{_≡_};
-ghost use mathlib.Core.List.{List};
 ghost use Prim.Native.Nat.{_<_, _≤_};
 ghost use lib.ListN.{length};
 ghost use Rattle.numbers.specs.Lists.{every, listed};
 ghost use Rattle.bars.specs.Downbeats.{frameFine, downbeatRefusal, fluxAt, inPhase, phaseSum, downbeatPhase, Downbeats, commonMeter};
-ghost use Rattle.bars.specs.BarBeats.{lastBar, during, passing, barBeatOf};
+ghost use Rattle.bars.specs.BarBeats.{lastBar, during, passing, barBeatSays, barAndBeat};
 use numbers::Listing;
 
 // beats a bar, where nothing else is said
@@ -53,7 +52,7 @@ pub fn downbeats_in(envelope: &[f64], beats: &[u32], meter: usize, frames: &mut 
 // Both tests have a slack of 0.000001. Any f64 will do in each place, in any order; a NaN is reached by nothing and reaches nothing.
 // Refuses nothing.
 pub fn bar_beat_at(time: f64, downbeats: &[f64], beats: &[f64]) -> BarBeat
-    ensures { λ r. ⌜ r ≡ barBeatOf time (now (downbeats .entry)) (now (beats .entry)) ⌝ }
+    ensures { λ r. ⌜ barBeatSays r ≡ (0, barAndBeat time (now (downbeats .entry)) (now (beats .entry))) ⌝ }
 {
     let limit = time + 0.000001;
     let bar = last_bar(limit, downbeats);
@@ -154,7 +153,10 @@ fn downbeat_phase(envelope: &[f64], beats: &[u32], meter: usize) -> usize
 
 fn list_phase(beats: &[u32], meter: usize, phase: usize, frames: &mut [u32]) -> usize
     requires { ⌜ (0 < meter) × (length (now beats) ≤ length (now frames)) ⌝ }
-    ensures { λ r. ⌜ (r ≡ length (inPhase meter phase 0 (now (beats .entry)))) × (now (frames .exit) ≡ listed (inPhase meter phase 0 (now (beats .entry))) (now (frames .entry))) ⌝ }
+    ensures { λ r. ⌜
+        (r ≡ length (inPhase meter phase 0 (now (beats .entry))))
+        × (now (frames .exit) ≡ listed (inPhase meter phase 0 (now (beats .entry))) (now (frames .entry)))
+        ⌝ }
 {
     let mut count = 0;
     let mut i = 0;

@@ -6,14 +6,13 @@ use mathlib.Core.Path.{_≡_, sym, _∙_}
 use mathlib.Core.List.{List}
 use lib.ListN.{length, drop}
 use lib.Ieee.{Float}
-use Rattle.numbers.specs.Refusals.{unlessRefused}
 use Rattle.median.specs.Answers.{sortedIn}
 use Rattle.lags.specs.declared.TempoOpts.{TempoOpts}
 use Rattle.lags.specs.Lags.{minLag, maxLag}
 use Rattle.tempo.proofs.Promises as tempo
 use Rattle.stability.specs.Answers.{stabilityRefusal, leftOpen}
 use Rattle.stability.proofs.Promises as stability
-use Rattle.bars.specs.declared.BarBeat.{BarBeat}
+use Rattle.sections.specs.Outcomes.{workedIn}
 use Rattle.patching.specs.Patches.{Patch}
 use Rattle.patch_refusal.specs.Tracks as tracks
 use Rattle.patch_magnitudes.specs.Magnitudes as magnitudes
@@ -22,7 +21,6 @@ use Rattle.handing.specs.Handed.{Handed}
 use Rattle.handing.specs.Tempos.{TempoLent, ShareLent}
 use Rattle.handing.specs.Grids.{Placed}
 use Rattle.handing.specs.Forms.{SectionsLent}
-use Rattle.handing.specs.Repairs.{Ranges}
 use Rattle.capi.specs.Lists.{Listed}
 use Rattle.capi.specs.Medians.{Valued}
 use Rattle.capi.specs.Tempos.{EstimatePromise, StabilityPromise}
@@ -67,7 +65,7 @@ stability-unique p q =
     let same = stability.coincide (p .slices) (q .slices) in
     (handed-unique (p .handed) (q .handed), (same .1, same .2, same .3))
 
-pub placed-unique : {place : BarBeat} {a b f g m n u v : ℕ} → Placed place a f m u → Placed place b g n v → (a ≡ b) × (f ≡ g) × (m ≡ n) × (u ≡ v)
+pub placed-unique : {said : ℕ × List ℕ} {a b f g m n u v : ℕ} → Placed said a f m u → Placed said b g n v → (a ≡ b) × (f ≡ g) × (m ≡ n) × (u ≡ v)
 placed-unique p q = (
   p .number-is ∙ sym (q .number-is),
   p .found-is ∙ sym (q .found-is),
@@ -93,13 +91,14 @@ pub boundaries-unique : {number : ℕ} {novelty : List Float} {bounds rows : Lis
     {a b : ℕ} {x y : List ℕ} {u v : List Float} {s t : SectionsLent}
     → BoundariesTold number novelty bounds rows work lent₀ a x u s → BoundariesTold number novelty bounds rows work lent₀ b y v t
     → ((a ≡ b) × (s ≡ t))
-    × ((x ≡ y) × (length u ≡ length v) × (drop (unlessRefused number (length novelty) 0) u ≡ drop (unlessRefused number (length novelty) 0) v))
+    × ((x ≡ y) × (length u ≡ length v) × (drop (workedIn number (length novelty)) u ≡ drop (workedIn number (length novelty)) v))
 boundaries-unique p q = (
   handed-unique (p .handed) (q .handed),
   (p .rows-are ∙ sym (q .rows-are), p .work-length ∙ sym (q .work-length), p .work-keeps ∙ sym (q .work-keeps)),
 )
 
-pub rows-unique : {rows bins : ℕ} {was : tracks.Track} {patch : Patch} {work : List Float} {lent₀ : Ranges} {a b : ℕ} {x y : tracks.Track} {u v : List Float} {s t : Ranges}
+pub rows-unique : {rows bins : ℕ} {was : tracks.Track} {patch : Patch} {work : List Float} {lent₀ : List ℕ}
+    {a b : ℕ} {x y : tracks.Track} {u v : List Float} {s t : List ℕ}
     → RowsPromise rows bins was patch work lent₀ a x u s → RowsPromise rows bins was patch work lent₀ b y v t
     → let sorted = magnitudes.sortedIn (tracks.numberOf rows bins was patch (length work)) rows patch in
     ((a ≡ b) × (s ≡ t)) × ((x ≡ y) × (length u ≡ length v) × (drop sorted u ≡ drop sorted v))
@@ -108,6 +107,6 @@ rows-unique p q = (
   (p .slices .track-is ∙ sym (q .slices .track-is), p .slices .work-length ∙ sym (q .slices .work-length), p .slices .work-keeps ∙ sym (q .slices .work-keeps)),
 )
 
-pub features-unique : {rows : ℕ} {was : features.Track} {patch : Patch} {lent₀ : Ranges} {a b : ℕ} {x y : features.Track} {s t : Ranges}
+pub features-unique : {rows : ℕ} {was : features.Track} {patch : Patch} {lent₀ : List ℕ} {a b : ℕ} {x y : features.Track} {s t : List ℕ}
     → FeaturesPromise rows was patch lent₀ a x s → FeaturesPromise rows was patch lent₀ b y t → ((a ≡ b) × (s ≡ t)) × (x ≡ y)
 features-unique p q = (handed-unique (p .handed) (q .handed), p .slices .track-is ∙ sym (q .slices .track-is))

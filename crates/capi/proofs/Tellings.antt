@@ -2,7 +2,7 @@
 -- Assumes nothing.
 use Prim.Native.Nat.{ℕ, zero, suc}
 use mathlib.Core.Path.{_≡_, refl, _∙_}
-use mathlib.Core.List.{List, [], _∷_}
+use mathlib.Core.List.{List}
 use lib.ListN.{length}
 use lib.Ieee.{Float}
 use Rattle.numbers.specs.Refusals.{unlessRefused}
@@ -22,23 +22,23 @@ use Rattle.sections.specs.Boundaries.{sectionsOf}
 use Rattle.sections.specs.Confidence.{confidenceOf}
 use Rattle.sections.specs.Outcomes.{Found}
 use Rattle.sections.specs.declared.Sections.{Sections}
-use Rattle.patching.specs.Patches.{Patch, unlessEmpty}
+use Rattle.patching.specs.Patches.{Patch, ranges}
 use Rattle.patch_magnitudes.specs.declared.Patched as rows-done
-use Rattle.patch_magnitudes.specs.declared.Patched.the-variants as rows-case
 use Rattle.patch_refusal.specs.Tracks as tracks
 use Rattle.patch_magnitudes.specs.Magnitudes as magnitudes
+use Rattle.patch_magnitudes.proofs.Outcomes as rows-outcomes
 use Rattle.patch_features.specs.declared.PatchedFeatures as features-done
-use Rattle.patch_features.specs.declared.PatchedFeatures.the-variants as features-case
 use Rattle.patch_features.specs.Features as features
+use Rattle.patch_features.proofs.Outcomes as features-outcomes
 use Rattle.handing.specs.Handed.{Handed}
 use Rattle.handing.specs.Medians.{numberIn, valueIn}
 use Rattle.handing.specs.Tempos.{TempoLent, tempoParts, ShareLent, shareParts}
 use Rattle.handing.specs.Forms.{SectionsLent, sectionsLent, partsIn}
-use Rattle.handing.specs.Repairs as ranges
-use Rattle.handing.proofs.Hands.{handed-on}
+use Rattle.handing.specs.Repairs.{SlotsHanded}
+use Rattle.handing.proofs.Hands.{handed-on, ranges-handed}
 use Rattle.capi.specs.Lists.{Listed}
 use Rattle.capi.specs.Medians.{Valued}
-use Rattle.capi.specs.Tempos.{EstimateTold, EstimatePromise, StabilityTold, StabilityPromise}
+use Rattle.capi.specs.Tempos.{EstimatePromise, StabilityPromise}
 use Rattle.capi.specs.Grids.{BeatsTold}
 use Rattle.capi.specs.Forms.{sectionParts, BoundariesTold}
 use Rattle.capi.specs.Repairs as repairs
@@ -131,74 +131,28 @@ boundaries-told {number} {novelty} {bounds} {own = own} p h =
 
 -- ---- patches
 
-module _ (a b c d : ℕ) where
-  rows-number : (new : List Float) → ranges.numberIn (unlessEmpty new (rows-case.Wrote a b c d) (rows-case.Wrote 0 0 0 0)) ≡ 0
-  rows-number [] = refl
-  rows-number (x ∷ xs) = refl
+-- the four numbers that are lent, and what they then hold
+module _ {p q r s answer : ℕ} {lent : List ℕ} where
+  pub rows-told : {rows bins : ℕ} {was : tracks.Track} {patch : Patch} {work : List Float} {own : rows-done.Patched} {now : tracks.Track} {work′ : List Float}
+      → magnitudes.Patches rows bins was patch work own now work′ → SlotsHanded (magnitudes.patchedSays own) (ranges p q r s) answer lent
+      → repairs.RowsPromise rows bins was patch work (ranges p q r s) answer now work′ lent
+  rows-told {rows} {bins} {was} {patch} {work} done h =
+      record {
+        handed = ranges-handed (tracks.numberOf rows bins was patch (length work)) (patch .new) _ _ _ _ _ _ _ _ (done .answer-is) h;
+        slices =
+            record {
+              answer-is = rows-outcomes.answered-says _ rows bins patch;
+              track-is = done .track-is;
+              work-length = done .work-length;
+              work-keeps = done .work-keeps;
+            };
+      }
 
-  rows-ranges : (new : List Float) (lent₀ : ranges.Ranges)
-      → ranges.rangesIn (unlessEmpty new (rows-case.Wrote a b c d) (rows-case.Wrote 0 0 0 0)) lent₀ ≡ unlessEmpty new (ranges.ranges a b c d) (ranges.ranges 0 0 0 0)
-  rows-ranges [] lent₀ = refl
-  rows-ranges (x ∷ xs) lent₀ = refl
-
-  features-number : (new : List Float) → ranges.featuresNumberIn (unlessEmpty new (features-case.Wrote a b c d) (features-case.Wrote 0 0 0 0)) ≡ 0
-  features-number [] = refl
-  features-number (x ∷ xs) = refl
-
-  features-ranges : (new : List Float) (lent₀ : ranges.Ranges)
-      → ranges.featuresRangesIn (unlessEmpty new (features-case.Wrote a b c d) (features-case.Wrote 0 0 0 0)) lent₀
-      ≡ unlessEmpty new (ranges.ranges a b c d) (ranges.ranges 0 0 0 0)
-  features-ranges [] lent₀ = refl
-  features-ranges (x ∷ xs) lent₀ = refl
-
-rows-answered : (n rows bins : ℕ) (patch : Patch) → ranges.numberIn (magnitudes.answered n rows bins patch) ≡ n
-unfolding magnitudes.answered
-rows-answered zero rows bins patch = rows-number _ _ _ _ (patch .new)
-rows-answered (suc k) rows bins patch = refl
-
-rows-named : (n rows bins : ℕ) (patch : Patch) (lent₀ : ranges.Ranges)
-    → ranges.rangesIn (magnitudes.answered n rows bins patch) lent₀ ≡ unlessRefused n (repairs.rowsNamed rows bins patch) lent₀
-unfolding magnitudes.answered
-rows-named zero rows bins patch lent₀ = rows-ranges _ _ _ _ (patch .new) lent₀
-rows-named (suc k) rows bins patch lent₀ = refl
-
-features-answered : (n rows : ℕ) (patch : Patch) → ranges.featuresNumberIn (features.answered n rows patch) ≡ n
-unfolding features.answered
-features-answered zero rows patch = features-number _ _ _ _ (patch .new)
-features-answered (suc k) rows patch = refl
-
-features-named : (n rows : ℕ) (patch : Patch) (lent₀ : ranges.Ranges)
-    → ranges.featuresRangesIn (features.answered n rows patch) lent₀ ≡ unlessRefused n (repairs.featuresNamed rows patch) lent₀
-unfolding features.answered
-features-named zero rows patch lent₀ = features-ranges _ _ _ _ (patch .new) lent₀
-features-named (suc k) rows patch lent₀ = refl
-
-pub rows-told : {rows bins : ℕ} {was : tracks.Track} {patch : Patch} {work : List Float} {own : rows-done.Patched} {now : tracks.Track} {work′ : List Float}
-    {lent₀ : ranges.Ranges} {answer : ℕ} {lent : ranges.Ranges}
-    → magnitudes.Patches rows bins was patch work own now work′ → (answer ≡ ranges.numberIn own) × (lent ≡ ranges.rangesIn own lent₀)
-    → repairs.RowsPromise rows bins was patch work lent₀ answer now work′ lent
-rows-told {rows} {bins} {was} {patch} {work} {lent₀ = lent₀} p h =
-    let n = tracks.numberOf rows bins was patch (length work) in
-    record {
-      handed =
-          record {
-            number-is = h .0 ∙ rw (p .answer-is) (rows-answered n rows bins patch);
-            parts-are = h .1 ∙ rw (p .answer-is) (rows-named n rows bins patch lent₀);
-          };
-      slices = record { answer-is = refl; track-is = p .track-is; work-length = p .work-length; work-keeps = p .work-keeps };
-    }
-
-pub features-told : {rows : ℕ} {was : features.Track} {patch : Patch} {own : features-done.PatchedFeatures} {now : features.Track}
-    {lent₀ : ranges.Ranges} {answer : ℕ} {lent : ranges.Ranges}
-    → features.Patches rows was patch own now → (answer ≡ ranges.featuresNumberIn own) × (lent ≡ ranges.featuresRangesIn own lent₀)
-    → repairs.FeaturesPromise rows was patch lent₀ answer now lent
-features-told {rows} {was} {patch} {lent₀ = lent₀} p h =
-    let n = features.numberOf rows was patch in
-    record {
-      handed =
-          record {
-            number-is = h .0 ∙ rw (p .answer-is) (features-answered n rows patch);
-            parts-are = h .1 ∙ rw (p .answer-is) (features-named n rows patch lent₀);
-          };
-      slices = record { answer-is = refl; track-is = p .track-is };
-    }
+  pub features-told : {rows : ℕ} {was : features.Track} {patch : Patch} {own : features-done.PatchedFeatures} {now : features.Track}
+      → features.Patches rows was patch own now → SlotsHanded (features.patchedFeaturesSays own) (ranges p q r s) answer lent
+      → repairs.FeaturesPromise rows was patch (ranges p q r s) answer now lent
+  features-told {rows} {was} {patch} done h =
+      record {
+        handed = ranges-handed (features.numberOf rows was patch) (patch .new) _ _ _ _ _ _ _ _ (done .answer-is) h;
+        slices = record { answer-is = features-outcomes.answered-says _ rows patch; track-is = done .track-is };
+      }

@@ -8,6 +8,7 @@ use Rattle.numbers.specs.Lists.{listed}
 use Rattle.numbers.specs.Refusals.{unlessRefused}
 use Rattle.sections.specs.Boundaries.{sectionsOf, boundariesOf, boundariesRefusal}
 use Rattle.sections.specs.Confidence.{confidenceOf}
+use Rattle.sections.specs.Outcomes.{workedIn}
 use Rattle.handing.specs.Handed.{Handed}
 use Rattle.handing.specs.Forms.{SectionsLent, sectionsLent}
 
@@ -22,7 +23,7 @@ pub record BoundariesTold
   pub handed : Handed number (sectionParts novelty bounds) lent₀ answer lent
   pub rows-are : rows′ ≡ unlessRefused number (listed bounds rows) rows
   pub work-length : length work′ ≡ length work
-  pub work-keeps : drop (unlessRefused number (length novelty) 0) work′ ≡ drop (unlessRefused number (length novelty) 0) work
+  pub work-keeps : drop (workedIn number (length novelty)) work′ ≡ drop (workedIn number (length novelty)) work
 
 -- what `ph_boundaries` promises
 abbrev pub BoundariesPromise : (novelty : List Float) (samples rate maxSections : ℕ) (rows : List ℕ) (work : List Float) (lent₀ : SectionsLent)

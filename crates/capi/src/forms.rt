@@ -35,7 +35,11 @@ pub extern "C" fn ph_boundaries(
     count: &mut usize,
     confidence: &mut f64,
 ) -> u32
-    ensures { λ r. ⌜ BoundariesPromise (now (novelty .entry)) length rate «max_sections» (now (rows .entry)) (now (work .entry)) (sectionsLent (now (sections .entry)) (now (count .entry)) (now (confidence .entry))) r (now (rows .exit)) (now (work .exit)) (sectionsLent (now (sections .exit)) (now (count .exit)) (now (confidence .exit))) ⌝ }
+    ensures { λ r. ⌜
+        BoundariesPromise (now (novelty .entry)) length rate «max_sections»
+        (now (rows .entry)) (now (work .entry)) (sectionsLent (now (sections .entry)) (now (count .entry)) (now (confidence .entry)))
+        r (now (rows .exit)) (now (work .exit)) (sectionsLent (now (sections .exit)) (now (count .exit)) (now (confidence .exit)))
+        ⌝ }
 {
     let answer = sections::boundaries(novelty, length, rate, max_sections, rows, work);
     put_sections(answer, sections, count, confidence)

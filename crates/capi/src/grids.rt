@@ -3,7 +3,7 @@ use handing::counts::counted;
 use handing::grids::put_place;
 ghost use lib.ListN.{length};
 ghost use Rattle.bars.specs.Downbeats.{downbeatRefusal, downbeatsOf, commonMeter};
-ghost use Rattle.bars.specs.BarBeats.{barBeatOf};
+ghost use Rattle.bars.specs.BarBeats.{barAndBeat};
 ghost use Rattle.handing.specs.Grids.{Placed};
 ghost use Rattle.capi.specs.Lists.{Listed};
 ghost use Rattle.capi.specs.Grids.{BeatsTold};
@@ -18,7 +18,11 @@ pub extern "C" fn ph_beat_grid(
     beats: &mut [u32],
     count: &mut usize,
 ) -> u32
-    ensures { λ r. ⌜ BeatsTold (now (envelope .entry)) period (now (score .entry)) (now (back .entry)) (now (beats .entry)) (now (count .entry)) r (now (score .exit)) (now (back .exit)) (now (beats .exit)) (now (count .exit)) ⌝ }
+    ensures { λ r. ⌜
+        BeatsTold (now (envelope .entry)) period
+        (now (score .entry)) (now (back .entry)) (now (beats .entry)) (now (count .entry))
+        r (now (score .exit)) (now (back .exit)) (now (beats .exit)) (now (count .exit))
+        ⌝ }
 {
     counted(
         beats::beat_grid(envelope, period, score, back, beats),
@@ -34,7 +38,12 @@ pub extern "C" fn ph_downbeats(
     frames: &mut [u32],
     count: &mut usize,
 ) -> u32
-    ensures { λ r. ⌜ Listed (downbeatRefusal (now (envelope .entry)) (now (beats .entry)) commonMeter (length (now (frames .entry)))) (downbeatsOf (now (envelope .entry)) (now (beats .entry)) commonMeter) (now (frames .entry)) (now (count .entry)) r (now (frames .exit)) (now (count .exit)) ⌝ }
+    ensures { λ r. ⌜
+        Listed (downbeatRefusal (now (envelope .entry)) (now (beats .entry)) commonMeter (length (now (frames .entry))))
+        (downbeatsOf (now (envelope .entry)) (now (beats .entry)) commonMeter)
+        (now (frames .entry)) (now (count .entry))
+        r (now (frames .exit)) (now (count .exit))
+        ⌝ }
 {
     counted(bars::downbeats(envelope, beats, frames), count)
 }
@@ -49,7 +58,10 @@ pub extern "C" fn ph_bar_beat_at(
     bar: &mut usize,
     beat: &mut usize,
 ) -> u32
-    ensures { λ r. ⌜ Placed (barBeatOf time (now (downbeats .entry)) (now (beats .entry))) r (now (found .exit)) (now (bar .exit)) (now (beat .exit)) ⌝ }
+    ensures { λ r. ⌜
+        Placed (0, barAndBeat time (now (downbeats .entry)) (now (beats .entry)))
+        r (now (found .exit)) (now (bar .exit)) (now (beat .exit))
+        ⌝ }
 {
     put_place(bars::bar_beat_at(time, downbeats, beats), found, bar, beat)
 }

@@ -1,8 +1,7 @@
 // `patch_magnitudes` and `patch_features`, for C.
 use handing::repairs::put_features;
 use handing::repairs::put_rows;
-ghost use Rattle.patching.specs.Patches.{patchOf};
-ghost use Rattle.handing.specs.Repairs.{ranges};
+ghost use Rattle.patching.specs.Patches.{patchOf, ranges};
 ghost use Rattle.capi.specs.Repairs.{rowsLent, RowsPromise, featuresLent, FeaturesPromise};
 
 // `patch_magnitudes::patch_magnitudes`, for C.
@@ -21,7 +20,13 @@ pub extern "C" fn ph_patch_magnitudes(
     threshold_first: &mut usize,
     threshold_past: &mut usize,
 ) -> u32
-    ensures { λ r. ⌜ RowsPromise rows bins (rowsLent (now (magnitudes .entry)) (now (flux .entry)) (now (threshold .entry))) (patchOf start (now («new_rows» .entry))) (now (work .entry)) (ranges (now («flux_first» .entry)) (now («flux_past» .entry)) (now («threshold_first» .entry)) (now («threshold_past» .entry))) r (rowsLent (now (magnitudes .exit)) (now (flux .exit)) (now (threshold .exit))) (now (work .exit)) (ranges (now («flux_first» .exit)) (now («flux_past» .exit)) (now («threshold_first» .exit)) (now («threshold_past» .exit))) ⌝ }
+    ensures { λ r. ⌜
+        RowsPromise rows bins
+        (rowsLent (now (magnitudes .entry)) (now (flux .entry)) (now (threshold .entry))) (patchOf start (now («new_rows» .entry))) (now (work .entry))
+        (ranges (now («flux_first» .entry)) (now («flux_past» .entry)) (now («threshold_first» .entry)) (now («threshold_past» .entry)))
+        r (rowsLent (now (magnitudes .exit)) (now (flux .exit)) (now (threshold .exit))) (now (work .exit))
+        (ranges (now («flux_first» .exit)) (now («flux_past» .exit)) (now («threshold_first» .exit)) (now («threshold_past» .exit)))
+        ⌝ }
 {
     let answer = patch_magnitudes::patch_magnitudes(
         magnitudes,
@@ -56,7 +61,13 @@ pub extern "C" fn ph_patch_features(
     novelty_first: &mut usize,
     novelty_past: &mut usize,
 ) -> u32
-    ensures { λ r. ⌜ FeaturesPromise rows (featuresLent (now (features .entry)) (now (similarity .entry)) (now (novelty .entry))) (patchOf start (now («new_rows» .entry))) (ranges (now («similarity_first» .entry)) (now («similarity_past» .entry)) (now («novelty_first» .entry)) (now («novelty_past» .entry))) r (featuresLent (now (features .exit)) (now (similarity .exit)) (now (novelty .exit))) (ranges (now («similarity_first» .exit)) (now («similarity_past» .exit)) (now («novelty_first» .exit)) (now («novelty_past» .exit))) ⌝ }
+    ensures { λ r. ⌜
+        FeaturesPromise rows
+        (featuresLent (now (features .entry)) (now (similarity .entry)) (now (novelty .entry))) (patchOf start (now («new_rows» .entry)))
+        (ranges (now («similarity_first» .entry)) (now («similarity_past» .entry)) (now («novelty_first» .entry)) (now («novelty_past» .entry)))
+        r (featuresLent (now (features .exit)) (now (similarity .exit)) (now (novelty .exit)))
+        (ranges (now («similarity_first» .exit)) (now («similarity_past» .exit)) (now («novelty_first» .exit)) (now («novelty_past» .exit)))
+        ⌝ }
 {
     let answer = patch_features::patch_features(
         features,

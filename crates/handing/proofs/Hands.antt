@@ -1,12 +1,15 @@
 -- Handing an answer over: a refusal and an answer each meet `Handed`, and a part that the call itself keeps at 0 where it refuses is handed over
--- all the same. Assumes nothing.
+-- all the same; so are the slots that a patch names. Assumes nothing.
 use Prim.Native.Nat.{ℕ, zero, suc}
-use mathlib.Core.Path.{_≡_, refl, sym, _∙_}
-use mathlib.Core.List.{List}
+use mathlib.Core.Path.{_≡_, refl, sym, ap, _∙_}
+use mathlib.Core.List.{List, [], _∷_}
 use lib.Ieee.{Float}
+use Rattle.numbers.specs.Lists.{listed}
 use Rattle.numbers.specs.Refusals.{unlessRefused}
 use Rattle.numbers.proofs.Tests.{refused-keeps, passed-does}
+use Rattle.patching.specs.Patches.{ranges, rangesNamed, returned}
 use Rattle.handing.specs.Handed.{Handed}
+use Rattle.handing.specs.Repairs.{SlotsHanded}
 use Rattle.handing.specs.Tempos.{TempoLent, tempoLent, ShareLent}
 use Rattle.handing.specs.Tracks.{TrackLent}
 
@@ -42,3 +45,23 @@ pub track-made : {t t′ : TempoLent} {s s′ : ShareLent} (onsets beats downbea
     → _≡_ {A = TrackLent} (record { onsets = onsets; tempo = t; share = s; beats = beats; downbeats = downbeats })
     (record { onsets = onsets; tempo = t′; share = s′; beats = beats; downbeats = downbeats })
 track-made onsets beats downbeats t s = rw (t, s)
+
+-- ---- patches
+
+-- the four lent numbers hold what an accepted patch names, be it empty or not, and what they held where it is refused
+ranges-stored : (number : ℕ) (new : List Float) (a b c d p q r s : ℕ)
+    → listed (unlessRefused number (rangesNamed new (ranges a b c d)) []) (ranges p q r s)
+    ≡ unlessRefused number (rangesNamed new (ranges a b c d)) (ranges p q r s)
+unfolding listed
+ranges-stored (suc k) new a b c d p q r s = refl
+ranges-stored zero [] a b c d p q r s = refl
+ranges-stored zero (x ∷ xs) a b c d p q r s = refl
+
+pub ranges-handed : (number : ℕ) (new : List Float) (a b c d p q r s : ℕ) {said : ℕ × List ℕ} {answer : ℕ} {lent : List ℕ}
+    → said ≡ returned number (rangesNamed new (ranges a b c d)) → SlotsHanded said (ranges p q r s) answer lent
+    → Handed number (rangesNamed new (ranges a b c d)) (ranges p q r s) answer lent
+ranges-handed number new a b c d p q r s e h =
+    record {
+      number-is = h .number-is ∙ ap (λ (x : ℕ × List ℕ). x .0) e;
+      parts-are = h .slots-are ∙ ap (λ (x : ℕ × List ℕ). listed (x .1) (ranges p q r s)) e ∙ ranges-stored number new a b c d p q r s;
+    }

@@ -1,25 +1,13 @@
 -- An answer of `bar_beat_at`, handed over.
-use Prim.Native.Nat.{ℕ}
+use Prim.Native.Nat.{ℕ, min}
 use mathlib.Core.Path.{_≡_}
-use Rattle.bars.specs.declared.BarBeat.{BarBeat}
-use Rattle.bars.specs.declared.BarBeat.the-variants.{Nowhere, At}
+use mathlib.Core.List.{List}
+use lib.ListN.{length, getD}
 
--- each case's kind, 0 for nowhere and 1 for a place, and its values, zeros for nowhere
-abbrev pub foundIn : BarBeat → ℕ
-foundIn Nowhere = 0
-foundIn (At bar beat) = 1
-
-abbrev pub barIn : BarBeat → ℕ
-barIn Nowhere = 0
-barIn (At bar beat) = bar
-
-abbrev pub beatIn : BarBeat → ℕ
-beatIn Nowhere = 0
-beatIn (At bar beat) = beat
-
--- What `ph_bar_beat_at` promises, of the answer of `bar_beat_at`: it refuses nothing, and the lent numbers are the answer's.
-pub record Placed (place : BarBeat) (answer found bar beat : ℕ) : Type 0 where
-  pub number-is : answer ≡ 0
-  pub found-is : found ≡ foundIn place
-  pub bar-is : bar ≡ barIn place
-  pub beat-is : beat ≡ beatIn place
+-- What `ph_bar_beat_at` promises, of the number and the values that the answer of `bar_beat_at` says: the number is returned; `found` is 1 where
+-- there are values, a bar and a beat, and 0 for nowhere; the lent numbers are the values, and zeros for nowhere.
+pub record Placed (said : ℕ × List ℕ) (answer found bar beat : ℕ) : Type 0 where
+  pub number-is : answer ≡ said .0
+  pub found-is : found ≡ min 1 (length (said .1))
+  pub bar-is : bar ≡ getD (said .1) 0 0
+  pub beat-is : beat ≡ getD (said .1) 1 0

@@ -1,10 +1,11 @@
 // An answer of `bar_beat_at`, handed over.
 use bars::BarBeat;
+ghost use Rattle.bars.specs.BarBeats.{barBeatSays};
 ghost use Rattle.handing.specs.Grids.{Placed};
 
 // Inner: stores the kind of a place, and its values, zeros for nowhere.
 pub fn put_place(place: BarBeat, found: &mut u32, bar: &mut usize, beat: &mut usize) -> u32
-    ensures { λ r. ⌜ Placed place r (now (found .exit)) (now (bar .exit)) (now (beat .exit)) ⌝ }
+    ensures { λ r. ⌜ Placed (barBeatSays place) r (now (found .exit)) (now (bar .exit)) (now (beat .exit)) ⌝ }
 {
     match place {
         BarBeat::Nowhere => {

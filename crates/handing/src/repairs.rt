@@ -1,8 +1,10 @@
 // An answer of `patch_magnitudes` or `patch_features`, handed over.
 use patch_features::PatchedFeatures;
 use patch_magnitudes::Patched;
-ghost use mathlib.Core.Path.{_≡_};
-ghost use Rattle.handing.specs.Repairs.{ranges, numberIn, rangesIn, featuresNumberIn, featuresRangesIn};
+ghost use Rattle.patching.specs.Patches.{ranges};
+ghost use Rattle.patch_magnitudes.specs.Magnitudes.{patchedSays};
+ghost use Rattle.patch_features.specs.Features.{patchedFeaturesSays};
+ghost use Rattle.handing.specs.Repairs.{SlotsHanded};
 
 // Inner: stores the ranges unless the call refused, and answers its number.
 pub fn put_rows(
@@ -12,7 +14,11 @@ pub fn put_rows(
     threshold_first: &mut usize,
     threshold_past: &mut usize,
 ) -> u32
-    ensures { λ r. ⌜ (r ≡ numberIn answer) × (ranges (now («flux_first» .exit)) (now («flux_past» .exit)) (now («threshold_first» .exit)) (now («threshold_past» .exit)) ≡ rangesIn answer (ranges (now («flux_first» .entry)) (now («flux_past» .entry)) (now («threshold_first» .entry)) (now («threshold_past» .entry)))) ⌝ }
+    ensures { λ r. ⌜
+        SlotsHanded (patchedSays answer)
+        (ranges (now («flux_first» .entry)) (now («flux_past» .entry)) (now («threshold_first» .entry)) (now («threshold_past» .entry)))
+        r (ranges (now («flux_first» .exit)) (now («flux_past» .exit)) (now («threshold_first» .exit)) (now («threshold_past» .exit)))
+        ⌝ }
 {
     match answer {
         Patched::Refused(number) => number,
@@ -39,7 +45,11 @@ pub fn put_features(
     novelty_first: &mut usize,
     novelty_past: &mut usize,
 ) -> u32
-    ensures { λ r. ⌜ (r ≡ featuresNumberIn answer) × (ranges (now («similarity_first» .exit)) (now («similarity_past» .exit)) (now («novelty_first» .exit)) (now («novelty_past» .exit)) ≡ featuresRangesIn answer (ranges (now («similarity_first» .entry)) (now («similarity_past» .entry)) (now («novelty_first» .entry)) (now («novelty_past» .entry)))) ⌝ }
+    ensures { λ r. ⌜
+        SlotsHanded (patchedFeaturesSays answer)
+        (ranges (now («similarity_first» .entry)) (now («similarity_past» .entry)) (now («novelty_first» .entry)) (now («novelty_past» .entry)))
+        r (ranges (now («similarity_first» .exit)) (now («similarity_past» .exit)) (now («novelty_first» .exit)) (now («novelty_past» .exit)))
+        ⌝ }
 {
     match answer {
         PatchedFeatures::Refused(number) => number,

@@ -1,5 +1,5 @@
--- The three outcomes of a patch of features meet its promise, and any two that it permits coincide.
-use mathlib.Core.List.{List}
+-- The three outcomes of a patch of features meet its promise, and any two that it permits coincide: what an answer says tells which it is. Assumes nothing.
+use mathlib.Core.List.{List, [], _∷_}
 use mathlib.Core.Path.{_≡_, refl, sym, ap, _∙_}
 use Prim.Native.Nat.{ℕ, zero, suc}
 use lib.Ieee.{Float}
@@ -8,7 +8,8 @@ use Rattle.numbers.proofs.Tests.{refused-keeps}
 use Rattle.numbers.specs.Limits.{featureWidth}
 use Rattle.numbers.specs.Lists.{filled}
 use Rattle.patching.proofs.Wholes.{empty-keeps, full-does}
-use Rattle.patching.specs.Patches.{Patch, pastRow, edited}
+use Rattle.patching.proofs.Answers.{same-number, same-slots, some-slots, refused-returns}
+use Rattle.patching.specs.Patches.{Patch, pastRow, edited, unlessEmpty, ranges, rangesNamed, returned}
 use Rattle.novelties.specs.Novelty.{noveltyAt}
 use Rattle.patch_features.specs.declared.PatchedFeatures.{PatchedFeatures}
 use Rattle.patch_features.specs.declared.PatchedFeatures.the-variants.{Refused, Wrote}
@@ -25,31 +26,49 @@ use Rattle.patch_features.specs.Features.{
   mendedNovelty,
   mended,
   numberOf,
+  patchedFeaturesSays,
+  featuresNamed,
   answered,
   after,
   Patches,
 }
 
-module _ (rows : ℕ) (was : Track) (patch : Patch) where
-  names : (k : ℕ) → (k ≡ 0 → ⊥) → Refused k ≡ answered k rows patch
-  unfolding answered
-  names zero h = absurd (h refl)
-  names (suc k) h = refl
+-- what an answer says tells which it is
+pub says-one : (a b : PatchedFeatures) → patchedFeaturesSays a ≡ patchedFeaturesSays b → a ≡ b
+says-one (Refused k) (Refused l) e = ap Refused (same-number e)
+says-one (Wrote f g t u) (Wrote f′ g′ t′ u′) e = cc (same-slots e)
+says-one (Refused k) (Wrote f g t u) e = absurd (some-slots (same-slots e))
+says-one (Wrote f g t u) (Refused k) e = absurd (some-slots (sym (same-slots e)))
 
+-- `answered` says its number and the slots that the patch names, and no other answer does
+wrote-says : (a b c d : ℕ) (new : List Float) → patchedFeaturesSays (unlessEmpty new (Wrote a b c d) (Wrote 0 0 0 0)) ≡ (0, rangesNamed new (ranges a b c d))
+wrote-says a b c d [] = refl
+wrote-says a b c d (x ∷ xs) = refl
+
+pub answered-says : (n rows : ℕ) (patch : Patch) → patchedFeaturesSays (answered n rows patch) ≡ returned n (featuresNamed rows patch)
+unfolding answered
+answered-says zero rows patch = wrote-says _ _ _ _ (patch .new)
+answered-says (suc k) rows patch = refl
+
+pub is-answered : {rows : ℕ} {was : Track} {patch : Patch} {answer : PatchedFeatures} {now : Track}
+    → Patches rows was patch answer now → answer ≡ answered (numberOf rows was patch) rows patch
+is-answered {rows} {patch = patch} done = says-one _ _ (done .answer-is ∙ sym (answered-says _ rows patch))
+
+module _ (rows : ℕ) (was : Track) (patch : Patch) where
   pub refused : (k : ℕ) → k ≡ numberOf rows was patch → (k ≡ 0 → ⊥) → Patches rows was patch (Refused k) was
   unfolding after
   refused k e h =
       record {
-        answer-is = names k h ∙ ap (λ (n : ℕ). answered n rows patch) e;
+        answer-is = refused-returns k (featuresNamed rows patch) h ∙ ap (λ (n : ℕ). returned n (featuresNamed rows patch)) e;
         track-is = sym (refused-keeps (numberOf rows was patch) _ was (λ z. h (e ∙ z)));
       }
 
   module _ (none : numberOf rows was patch ≡ 0) where
     pub empty : length (patch .new) ≡ 0 → Patches rows was patch (Wrote 0 0 0 0) was
-    unfolding answered after
+    unfolding after
     empty e =
         record {
-          answer-is = rw none (sym (empty-keeps _ (Wrote 0 0 0 0) (patch .new) e));
+          answer-is = rw (none, empty-keeps _ (ranges 0 0 0 0) (patch .new) e);
           track-is = rw none (sym (empty-keeps _ was (patch .new) e));
         }
 
@@ -59,13 +78,13 @@ module _ (rows : ℕ) (was : Track) (patch : Patch) where
         → s ≡ filled (mendedAt f rows (patch .start) (pastRow featureWidth patch) (was .similarity)) (was .similarity) (similarityFirst patch) (similarityPast patch)
         → n ≡ filled (noveltyAt (take (pairs rows) s) rows) (was .novelty) nf np
         → Patches rows was patch (Wrote sf (similarityPast patch) nf np) (track f s n)
-    unfolding answered after mended mendedSimilarity mendedNovelty
+    unfolding after mended mendedSimilarity mendedNovelty
     wrote some sf nf np a b c f s n ef es en =
         record {
-          answer-is = rw (none, a, b, c) (sym (full-does _ _ (patch .new) some));
+          answer-is = rw (none, a, b, c, full-does _ (ranges 0 0 0 0) (patch .new) some);
           track-is = rw (none, en, es, ef, b, c) (sym (full-does _ was (patch .new) some));
         }
 
   -- any two outcomes coincide
   pub unique : {a b : PatchedFeatures} {x y : Track} → Patches rows was patch a x → Patches rows was patch b y → (a ≡ b) × (x ≡ y)
-  unique p q = (p .answer-is ∙ sym (q .answer-is), p .track-is ∙ sym (q .track-is))
+  unique p q = (says-one _ _ (p .answer-is ∙ sym (q .answer-is)), p .track-is ∙ sym (q .track-is))

@@ -47,6 +47,7 @@ use Rattle.patch_features.specs.Features.{
 use Rattle.patch_features.specs.Runs.{similarityCurve, noveltyCurve, Fresh, Kept, Sound, Good, analysed, Ran, stays, patches, refuses, empties}
 use Rattle.patch_features.proofs.Asked.{Asked, asked, bounds-asked, room-asked}
 use Rattle.patch_features.proofs.Fine.{similarities-are-fine, novelties-are-fine}
+use Rattle.patch_features.proofs.Outcomes.{is-answered}
 use Rattle.patch_features.proofs.Mended.{similarity-mends, novelty-mends, similarity-rest, novelty-rest}
 
 -- What holds of the track before a patch, and of a mended one, holds after it: it is refused, empty, or mended.
@@ -97,14 +98,14 @@ pub accepted-is-edited : (rows : ℕ) (was : Track) (patch : Patch) (f g t u : �
     → Patches rows was patch (Wrote f g t u) now → now .features ≡ edited featureWidth (was .features) patch
 unfolding after
 accepted-is-edited rows was patch f g t u now done =
-    edited-by rows was f g t u now (numberOf rows was patch) (patch .start) (patch .new) (done .answer-is) (done .track-is)
+    edited-by rows was f g t u now (numberOf rows was patch) (patch .start) (patch .new) (is-answered done) (done .track-is)
 
 -- row a + j is then the patch's row j
 pub replaced-are-new : (rows : ℕ) (was : Track) (patch : Patch) (f g t u : ℕ) (now : Track) → Patches rows was patch (Wrote f g t u) now
     → (j : ℕ) → j < length (patch .new) / featureWidth → row (now .features) featureWidth (patch .start + j) ≡ row (patch .new) featureWidth j
 unfolding edited
 replaced-are-new rows was patch f g t u now done j h =
-    let w = asked rows was patch (accepted-passes rows was f g t u now (numberOf rows was patch) patch (done .answer-is)) .lengths in
+    let w = asked rows was patch (accepted-passes rows was f g t u now (numberOf rows was patch) patch (is-answered done)) .lengths in
     ap (λ (m : List Float). row m featureWidth (patch .start + j)) (accepted-is-edited rows was patch f g t u now done)
     ∙ row-over-in (was .features) (patch .new) rows featureWidth (patch .start) (length (patch .new) / featureWidth) nan (w .whole) (w .new-whole) (w .inside) j h
 
@@ -167,7 +168,7 @@ module _ (rows : ℕ) (was : Track) (f g t u : ℕ) (now : Track) where
 pub outside-stays : (rows : ℕ) (was : Track) (patch : Patch) (f g t u : ℕ) (now : Track) → Patches rows was patch (Wrote f g t u) now → Kept patch f g t u was now
 unfolding after
 outside-stays rows was patch f g t u now done =
-    kept-by rows was f g t u now (numberOf rows was patch) (patch .start) (patch .new) refl (done .answer-is) (done .track-is)
+    kept-by rows was f g t u now (numberOf rows was patch) (patch .start) (patch .new) refl (is-answered done) (done .track-is)
 
 -- ---- (3) An empty patch changes nothing. (4) A refused one changes nothing.
 
@@ -191,7 +192,7 @@ module _ (rows : ℕ) (was now : Track) (k : ℕ) where
 pub refused-changes-nothing : (rows : ℕ) (was : Track) (patch : Patch) (k : ℕ) (now : Track) → Patches rows was patch (Refused k) now → now ≡ was
 unfolding after
 refused-changes-nothing rows was patch k now done =
-    refused-keeps-all rows was now k (numberOf rows was patch) (patch .start) (patch .new) (done .answer-is) (done .track-is)
+    refused-keeps-all rows was now k (numberOf rows was patch) (patch .start) (patch .new) (is-answered done) (done .track-is)
 
 -- ---- (5) Any run of patches on a fresh analysis, refused ones among them, ends as one fresh analysis of the last rows.
 

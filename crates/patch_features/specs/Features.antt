@@ -4,7 +4,7 @@
 use Prim.Native.Nat.{ℕ, zero, suc, _+_, _-_, _*_, _/_, _%_, min}
 use mathlib.Core.Path.{_≡_}
 use mathlib.Core.Bool.{Bool, _&&_, _||_}
-use mathlib.Core.List.{List}
+use mathlib.Core.List.{List, []}
 use lib.Dec.{leb, ltb}
 use lib.ListN.{length, getD, take}
 use lib.Ieee.{Float, nan}
@@ -12,7 +12,7 @@ use Rattle.numbers.specs.Limits.{mostFeatures, featureWidth, valueFine, similar
 use Rattle.numbers.specs.Lists.{filled, every}
 use Rattle.numbers.specs.Refusals.{lowest, unlessRefused}
 use Rattle.numbers.specs.Rounded.{pick}
-use Rattle.patching.specs.Patches.{Patch, pastRow, wholeRows, edited, unlessEmpty}
+use Rattle.patching.specs.Patches.{Patch, pastRow, wholeRows, edited, unlessEmpty, ranges, rangesNamed, returned}
 use Rattle.row_pairs.specs.Pairs.{bandWidth, similarityAt}
 use Rattle.novelties.specs.Novelty.{noveltyAt}
 use Rattle.patch_features.specs.declared.PatchedFeatures.{PatchedFeatures}
@@ -111,7 +111,17 @@ numberOf rows was patch =
 
 -- ---- the call
 
--- each case's number and slots: `Refused k` is the number k of the table alone, `Wrote` is number 0 with both ranges
+-- What an answer says, "this paper's number and values for each of its cases". `Refused k` is number k and names no slots; `Wrote` is number 0
+-- and names first and past-last slot of the similarity, and of the novelty.
+abbrev pub patchedFeaturesSays : PatchedFeatures → ℕ × List ℕ
+patchedFeaturesSays (Refused k) = (k, [])
+patchedFeaturesSays (Wrote similarityFrom similarityTo noveltyFrom noveltyTo) = (0, ranges similarityFrom similarityTo noveltyFrom noveltyTo)
+
+-- the slots that a patch names
+abbrev pub featuresNamed : (rows : ℕ) → Patch → List ℕ
+featuresNamed rows patch = rangesNamed (patch .new) (ranges (similarityFirst patch) (similarityPast patch) (noveltyFirst patch) (noveltyPast rows patch))
+
+-- Inner: the one answer with this number that says so (`is-answered`, proofs/Outcomes)
 unfoldable pub answered : (number rows : ℕ) → Patch → PatchedFeatures
 answered zero rows patch =
     unlessEmpty (patch .new) (Wrote (similarityFirst patch) (similarityPast patch) (noveltyFirst patch) (noveltyPast rows patch)) (Wrote 0 0 0 0)
@@ -123,5 +133,5 @@ after rows was patch = unlessRefused (numberOf rows was patch) (unlessEmpty (pat
 
 -- What `patch_features` promises: its answer, and the track afterwards, each slot of it.
 pub record Patches (rows : ℕ) (was : Track) (patch : Patch) (answer : PatchedFeatures) (now : Track) : Type 0 where
-  pub answer-is : answer ≡ answered (numberOf rows was patch) rows patch
+  pub answer-is : patchedFeaturesSays answer ≡ returned (numberOf rows was patch) (featuresNamed rows patch)
   pub track-is : now ≡ after rows was patch

@@ -47,7 +47,11 @@ pub fn patch_features(
     similarity: &mut [f64],
     novelty: &mut [f64],
 ) -> PatchedFeatures
-    ensures { λ r. ⌜ Patches rows (track (now (features .entry)) (now (similarity .entry)) (now (novelty .entry))) (patchOf start (now (new .entry))) r (track (now (features .exit)) (now (similarity .exit)) (now (novelty .exit))) ⌝ }
+    ensures { λ r. ⌜
+        Patches rows
+        (track (now (features .entry)) (now (similarity .entry)) (now (novelty .entry))) (patchOf start (now (new .entry)))
+        r (track (now (features .exit)) (now (similarity .exit)) (now (novelty .exit)))
+        ⌝ }
 {
     let number = refusal(features, rows, start, new, similarity, novelty);
     if number != 0 {

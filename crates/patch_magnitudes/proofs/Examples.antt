@@ -3,29 +3,23 @@ use mathlib.Core.List.{[]}
 use mathlib.Core.Path.{_≡_, refl}
 use Rattle.numbers.specs.Lists.{curve}
 use Rattle.numbers.specs.Rounded.{nought}
-use Rattle.patching.specs.Patches.{patchOf}
-use Rattle.patch_magnitudes.specs.declared.Patched.the-variants.{Refused, Wrote}
-use Rattle.patch_magnitudes.specs.Magnitudes.{answered}
+use Rattle.patching.specs.Patches.{patchOf, ranges, returned}
+use Rattle.patch_magnitudes.specs.Magnitudes.{rowsNamed}
 
 -- rows 15 and 16
-inside : answered 0 40 3 (patchOf 15 (curve (λ i. nought) 6)) ≡ Wrote 15 18 5 28
-unfolding answered
+inside : rowsNamed 40 3 (patchOf 15 (curve (λ i. nought) 6)) ≡ ranges 15 18 5 28
 inside = refl
 
 -- row 0, and the last row
-first : answered 0 40 3 (patchOf 0 (curve (λ i. nought) 3)) ≡ Wrote 0 2 0 12
-unfolding answered
+first : rowsNamed 40 3 (patchOf 0 (curve (λ i. nought) 3)) ≡ ranges 0 2 0 12
 first = refl
 
-last : answered 0 40 3 (patchOf 39 (curve (λ i. nought) 3)) ≡ Wrote 39 40 29 40
-unfolding answered
+last : rowsNamed 40 3 (patchOf 39 (curve (λ i. nought) 3)) ≡ ranges 39 40 29 40
 last = refl
 
 -- none, and a refusal
-none : answered 0 40 3 (patchOf 40 []) ≡ Wrote 0 0 0 0
-unfolding answered
+none : rowsNamed 40 3 (patchOf 40 []) ≡ ranges 0 0 0 0
 none = refl
 
-refused : answered 4 40 3 (patchOf 15 (curve (λ i. nought) 6)) ≡ Refused 4
-unfolding answered
+refused : returned 4 (rowsNamed 40 3 (patchOf 15 (curve (λ i. nought) 6))) ≡ (4, [])
 refused = refl

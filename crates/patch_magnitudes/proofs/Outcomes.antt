@@ -1,5 +1,5 @@
--- The three outcomes of a patch of magnitudes meet its promise, and any two that it permits coincide.
-use mathlib.Core.List.{List}
+-- The three outcomes of a patch of magnitudes meet its promise, and any two that it permits coincide: what an answer says tells which it is. Assumes nothing.
+use mathlib.Core.List.{List, [], _∷_}
 use mathlib.Core.Path.{_≡_, refl, sym, ap, _∙_}
 use Prim.Native.Nat.{ℕ, zero, suc}
 use lib.Ieee.{Float}
@@ -9,38 +9,56 @@ use Rattle.numbers.specs.Lists.{filled}
 use Rattle.flux.specs.Flux.{fluxAt}
 use Rattle.threshold.specs.Threshold.{thresholdAt, windowRoom}
 use Rattle.patching.proofs.Wholes.{empty-keeps, full-does}
-use Rattle.patching.specs.Patches.{Patch, edited}
+use Rattle.patching.proofs.Answers.{same-number, same-slots, some-slots, refused-returns}
+use Rattle.patching.specs.Patches.{Patch, edited, unlessEmpty, ranges, rangesNamed, returned}
 use Rattle.patch_magnitudes.specs.declared.Patched.{Patched}
 use Rattle.patch_magnitudes.specs.declared.Patched.the-variants.{Refused, Wrote}
 use Rattle.patch_refusal.specs.Tracks.{Track, track, numberOf}
 use Rattle.patch_magnitudes.specs.Magnitudes.{
-  fluxFirst,
   fluxPast,
   thresholdFirst,
   thresholdPast,
   mendedFlux,
   mendedThreshold,
   mended,
+  patchedSays,
+  rowsNamed,
   answered,
   after,
   sortedIn,
   Patches,
 }
 
+-- what an answer says tells which it is
+pub says-one : (a b : Patched) → patchedSays a ≡ patchedSays b → a ≡ b
+says-one (Refused k) (Refused l) e = ap Refused (same-number e)
+says-one (Wrote f g t u) (Wrote f′ g′ t′ u′) e = cc (same-slots e)
+says-one (Refused k) (Wrote f g t u) e = absurd (some-slots (same-slots e))
+says-one (Wrote f g t u) (Refused k) e = absurd (some-slots (sym (same-slots e)))
+
+-- `answered` says its number and the slots that the patch names, and no other answer does
+wrote-says : (a b c d : ℕ) (new : List Float) → patchedSays (unlessEmpty new (Wrote a b c d) (Wrote 0 0 0 0)) ≡ (0, rangesNamed new (ranges a b c d))
+wrote-says a b c d [] = refl
+wrote-says a b c d (x ∷ xs) = refl
+
+pub answered-says : (n rows bins : ℕ) (patch : Patch) → patchedSays (answered n rows bins patch) ≡ returned n (rowsNamed rows bins patch)
+unfolding answered
+answered-says zero rows bins patch = wrote-says _ _ _ _ (patch .new)
+answered-says (suc k) rows bins patch = refl
+
+pub is-answered : {rows bins : ℕ} {was : Track} {patch : Patch} {work : List Float} {answer : Patched} {now : Track} {work′ : List Float}
+    → Patches rows bins was patch work answer now work′ → answer ≡ answered (numberOf rows bins was patch (length work)) rows bins patch
+is-answered {rows} {bins} {patch = patch} done = says-one _ _ (done .answer-is ∙ sym (answered-says _ rows bins patch))
+
 module _ (rows bins : ℕ) (was : Track) (patch : Patch) (work : List Float) where
   abbrev number : ℕ
   number = numberOf rows bins was patch (length work)
-
-  names : (k : ℕ) → (k ≡ 0 → ⊥) → Refused k ≡ answered k rows bins patch
-  unfolding answered
-  names zero h = absurd (h refl)
-  names (suc k) h = refl
 
   pub refused : (k : ℕ) → k ≡ number → (k ≡ 0 → ⊥) → Patches rows bins was patch work (Refused k) was work
   unfolding after
   refused k e h =
       record {
-        answer-is = names k h ∙ ap (λ (n : ℕ). answered n rows bins patch) e;
+        answer-is = refused-returns k (rowsNamed rows bins patch) h ∙ ap (λ (n : ℕ). returned n (rowsNamed rows bins patch)) e;
         track-is = sym (refused-keeps number _ was (λ z. h (e ∙ z)));
         work-length = refl;
         work-keeps = refl;
@@ -48,10 +66,10 @@ module _ (rows bins : ℕ) (was : Track) (patch : Patch) (work : List Float) whe
 
   module _ (none : number ≡ 0) where
     pub empty : length (patch .new) ≡ 0 → Patches rows bins was patch work (Wrote 0 0 0 0) was work
-    unfolding answered after
+    unfolding after
     empty e =
         record {
-          answer-is = rw none (sym (empty-keeps _ (Wrote 0 0 0 0) (patch .new) e));
+          answer-is = rw (none, empty-keeps _ (ranges 0 0 0 0) (patch .new) e);
           track-is = rw none (sym (empty-keeps _ was (patch .new) e));
           work-length = refl;
           work-keeps = refl;
@@ -62,10 +80,10 @@ module _ (rows bins : ℕ) (was : Track) (patch : Patch) (work : List Float) whe
         → (m f t work′ : List Float) → m ≡ edited bins (was .magnitudes) patch → f ≡ filled (fluxAt m bins) (was .flux) (patch .start) fp
         → t ≡ filled (thresholdAt (take rows f)) (was .threshold) tf tp → length work′ ≡ length work → drop (windowRoom rows) work′ ≡ drop (windowRoom rows) work
         → Patches rows bins was patch work (Wrote (patch .start) fp tf tp) (track m f t) work′
-    unfolding answered after mended mendedFlux mendedThreshold sortedIn
+    unfolding after mended mendedFlux mendedThreshold sortedIn
     wrote some fp tf tp a b c m f t work′ em ef et l k =
         record {
-          answer-is = rw (none, a, b, c) (sym (full-does _ _ (patch .new) some));
+          answer-is = rw (none, a, b, c, full-does _ (ranges 0 0 0 0) (patch .new) some);
           track-is = rw (none, et, ef, em, a, b, c) (sym (full-does _ was (patch .new) some));
           work-length = l;
           work-keeps = rw (none, full-does (windowRoom rows) 0 (patch .new) some) k;
@@ -74,5 +92,9 @@ module _ (rows bins : ℕ) (was : Track) (patch : Patch) (work : List Float) whe
   -- any two outcomes coincide, but for the slots that are sorted in
   pub unique : {a b : Patched} {x y : Track} {v w : List Float} → Patches rows bins was patch work a x v → Patches rows bins was patch work b y w
       → (a ≡ b) × (x ≡ y) × (length v ≡ length w) × (drop (sortedIn number rows patch) v ≡ drop (sortedIn number rows patch) w)
-  unique p q =
-      (p .answer-is ∙ sym (q .answer-is), p .track-is ∙ sym (q .track-is), p .work-length ∙ sym (q .work-length), p .work-keeps ∙ sym (q .work-keeps))
+  unique p q = (
+    says-one _ _ (p .answer-is ∙ sym (q .answer-is)),
+    p .track-is ∙ sym (q .track-is),
+    p .work-length ∙ sym (q .work-length),
+    p .work-keeps ∙ sym (q .work-keeps),
+  )

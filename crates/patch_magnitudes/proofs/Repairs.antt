@@ -39,6 +39,7 @@ use Rattle.patch_magnitudes.specs.Magnitudes.{
 }
 use Rattle.patch_magnitudes.specs.Runs.{fluxCurve, thresholdCurve, Fresh, Kept, Sound, Good, analysed, Ran, stays, patches, refuses, empties}
 use Rattle.patch_refusal.proofs.Asked.{Asked, asked, bounds-asked, room-asked}
+use Rattle.patch_magnitudes.proofs.Outcomes.{is-answered}
 use Rattle.patch_magnitudes.proofs.Mended.{flux-mends, threshold-mends, flux-rest, threshold-rest, fluxes-fine, thresholds-fine}
 
 -- What holds of the track before a patch, and of a mended one, holds after it: it is refused, empty, or mended.
@@ -91,7 +92,7 @@ pub accepted-is-edited : (rows bins : ℕ) (was : Track) (patch : Patch) (work :
     → Patches rows bins was patch work (Wrote f g t u) now work′ → now .magnitudes ≡ edited bins (was .magnitudes) patch
 unfolding after
 accepted-is-edited rows bins was patch work f g t u now work′ done =
-    edited-by rows bins was f g t u now (numberOf rows bins was patch (length work)) (patch .start) (patch .new) (done .answer-is) (done .track-is)
+    edited-by rows bins was f g t u now (numberOf rows bins was patch (length work)) (patch .start) (patch .new) (is-answered done) (done .track-is)
 
 -- row a + j is then the patch's row j
 pub replaced-are-new : (rows bins : ℕ) (was : Track) (patch : Patch) (work : List Float) (f g t u : ℕ) (now : Track) (work′ : List Float)
@@ -99,7 +100,8 @@ pub replaced-are-new : (rows bins : ℕ) (was : Track) (patch : Patch) (work : L
     → (j : ℕ) → j < length (patch .new) / bins → row (now .magnitudes) bins (patch .start + j) ≡ row (patch .new) bins j
 unfolding edited
 replaced-are-new rows bins was patch work f g t u now work′ done j h =
-    let w = asked rows bins was patch (length work) (accepted-passes rows bins was f g t u now (numberOf rows bins was patch (length work)) patch (done .answer-is)) .lengths in
+    let z = accepted-passes rows bins was f g t u now (numberOf rows bins was patch (length work)) patch (is-answered done) in
+    let w = asked rows bins was patch (length work) z .lengths in
     ap (λ (m : List Float). row m bins (patch .start + j)) (accepted-is-edited rows bins was patch work f g t u now work′ done)
     ∙ row-over-in (was .magnitudes) (patch .new) rows bins (patch .start) (length (patch .new) / bins) nan (w .whole) (w .new-whole) (w .inside) j h
 
@@ -148,7 +150,8 @@ pub outside-stays : (rows bins : ℕ) (was : Track) (patch : Patch) (work : List
     → Patches rows bins was patch work (Wrote f g t u) now work′ → Kept bins patch f g t u was now
 unfolding after
 outside-stays rows bins was patch work f g t u now work′ done =
-    kept-by rows bins was (length work) f g t u now (numberOf rows bins was patch (length work)) (patch .start) (patch .new) refl (done .answer-is) (done .track-is)
+    kept-by rows bins was (length work) f g t u now (numberOf rows bins was patch (length work)) (patch .start) (patch .new) refl
+    (is-answered done) (done .track-is)
 
 -- ---- (3) An empty patch changes nothing. (4) A refused one changes nothing.
 
@@ -177,7 +180,8 @@ pub refused-changes-nothing : (rows bins : ℕ) (was : Track) (patch : Patch) (w
     → Patches rows bins was patch work (Refused k) now work′ → (now ≡ was) × (work′ ≡ work)
 unfolding after
 refused-changes-nothing rows bins was patch work k now work′ done =
-    refused-keeps-all rows bins was now work work′ k (numberOf rows bins was patch (length work)) (patch .start) (patch .new) (done .answer-is) (done .track-is) (done .work-keeps)
+    refused-keeps-all rows bins was now work work′ k (numberOf rows bins was patch (length work)) (patch .start) (patch .new)
+    (is-answered done) (done .track-is) (done .work-keeps)
 
 -- ---- (5) Any run of patches on a fresh analysis, refused ones among them, ends as one fresh analysis of the last rows.
 

@@ -3,14 +3,14 @@
 -- slot written per curve; .. an empty patch names 0 to 0." Demand 3: "flux slots a to b and threshold slots a-10 to b+10, cut at the ends".
 use Prim.Native.Nat.{ℕ, zero, suc, _+_, _-_, min}
 use mathlib.Core.Path.{_≡_}
-use mathlib.Core.List.{List}
+use mathlib.Core.List.{List, []}
 use lib.ListN.{length, take, drop}
 use lib.Ieee.{Float}
 use Rattle.numbers.specs.Lists.{filled}
 use Rattle.numbers.specs.Refusals.{unlessRefused}
 use Rattle.flux.specs.Flux.{fluxAt}
 use Rattle.threshold.specs.Threshold.{reach, thresholdAt, windowRoom}
-use Rattle.patching.specs.Patches.{Patch, pastRow, edited, unlessEmpty}
+use Rattle.patching.specs.Patches.{Patch, pastRow, edited, unlessEmpty, ranges, rangesNamed, returned}
 use Rattle.patch_refusal.specs.Tracks.{Track, track, numberOf}
 use Rattle.patch_magnitudes.specs.declared.Patched.{Patched}
 use Rattle.patch_magnitudes.specs.declared.Patched.the-variants.{Refused, Wrote}
@@ -48,7 +48,18 @@ mended rows bins was patch =
 
 -- ---- the call
 
--- each case's number and slots: `Refused k` is the number k of the table alone, `Wrote` is number 0 with both ranges
+-- What an answer says, "this paper's number and values for each of its cases". `Refused k` is number k and names no slots; `Wrote` is number 0
+-- and names first and past-last slot of the flux, and of the threshold.
+abbrev pub patchedSays : Patched → ℕ × List ℕ
+patchedSays (Refused k) = (k, [])
+patchedSays (Wrote fluxFrom fluxTo thresholdFrom thresholdTo) = (0, ranges fluxFrom fluxTo thresholdFrom thresholdTo)
+
+-- the slots that a patch names
+abbrev pub rowsNamed : (rows bins : ℕ) → Patch → List ℕ
+rowsNamed rows bins patch =
+    rangesNamed (patch .new) (ranges (fluxFirst patch) (fluxPast rows bins patch) (thresholdFirst patch) (thresholdPast rows bins patch))
+
+-- Inner: the one answer with this number that says so (`is-answered`, proofs/Outcomes)
 unfoldable pub answered : (number rows bins : ℕ) → Patch → Patched
 answered zero rows bins patch =
     unlessEmpty (patch .new) (Wrote (fluxFirst patch) (fluxPast rows bins patch) (thresholdFirst patch) (thresholdPast rows bins patch))
@@ -67,7 +78,7 @@ sortedIn number rows patch = unlessRefused number (unlessEmpty (patch .new) (win
 -- What `patch_magnitudes` promises: its answer, and the track afterwards, each slot of it. Of the work slice, which is left open: it
 -- keeps its length and its slots past the sorting room, and all of them where nothing is written.
 pub record Patches (rows bins : ℕ) (was : Track) (patch : Patch) (work : List Float) (answer : Patched) (now : Track) (work′ : List Float) : Type 0 where
-  pub answer-is : answer ≡ answered (numberOf rows bins was patch (length work)) rows bins patch
+  pub answer-is : patchedSays answer ≡ returned (numberOf rows bins was patch (length work)) (rowsNamed rows bins patch)
   pub track-is : now ≡ after rows bins was patch (length work)
   pub work-length : length work′ ≡ length work
   pub work-keeps :

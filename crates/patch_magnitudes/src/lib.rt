@@ -31,7 +31,11 @@ pub fn patch_magnitudes(
     threshold: &mut [f64],
     work: &mut [f64],
 ) -> Patched
-    ensures { λ r. ⌜ Patches rows bins (track (now (magnitudes .entry)) (now (flux .entry)) (now (threshold .entry))) (patchOf start (now (new .entry))) (now (work .entry)) r (track (now (magnitudes .exit)) (now (flux .exit)) (now (threshold .exit))) (now (work .exit)) ⌝ }
+    ensures { λ r. ⌜
+        Patches rows bins
+        (track (now (magnitudes .entry)) (now (flux .entry)) (now (threshold .entry))) (patchOf start (now (new .entry))) (now (work .entry))
+        r (track (now (magnitudes .exit)) (now (flux .exit)) (now (threshold .exit))) (now (work .exit))
+        ⌝ }
 {
     let number = patch_refusal::refusal(
         magnitudes,

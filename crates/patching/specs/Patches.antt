@@ -7,6 +7,7 @@ use lib.Dec.{leb, eqb}
 use lib.ListN.{length}
 use lib.Ieee.{Float}
 use Rattle.numbers.specs.Lists.{over}
+use Rattle.numbers.specs.Refusals.{unlessRefused}
 
 -- the first row that is replaced, and the rows that replace it and those after it
 pub record Patch : Type 0 where
@@ -37,3 +38,17 @@ edited width slab patch = over slab (patch .start * width) (patch .new)
 abbrev pub unlessEmpty : {A : Type 0} → List Float → A → A → A
 unlessEmpty [] done was = was
 unlessEmpty (x ∷ xs) done was = done
+
+-- ---- what is answered
+
+-- "The answer names first and past-last slot written per curve": of one curve, and of the curve that follows from it
+abbrev pub ranges : (first past first-then past-then : ℕ) → List ℕ
+ranges first past first-then past-then = first ∷ past ∷ first-then ∷ past-then ∷ []
+
+-- the slots that a patch names: the ranges that it writes, and "an empty patch names 0 to 0"
+abbrev pub rangesNamed : (new : List Float) → (written : List ℕ) → List ℕ
+rangesNamed new written = unlessEmpty new written (ranges 0 0 0 0)
+
+-- what the table of refusals has returned: number 0 with "the answer", here the slots named, and another "number only"
+abbrev pub returned : (number : ℕ) → (slots : List ℕ) → ℕ × List ℕ
+returned number slots = (number, unlessRefused number slots [])

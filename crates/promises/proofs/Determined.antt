@@ -6,10 +6,11 @@ use mathlib.Core.List.{List}
 use mathlib.Core.Path.{_≡_, sym, ap, _∙_}
 use Prim.Native.Nat.{ℕ}
 use denote.Ref.{RefT, now}
-use lib.Ieee.{Float}
+use lib.Ieee.{Float, ofInt, ofBits}
 use lib.ListN.{length, drop}
 use Rattle.numbers.specs.Lists.{curve, listed}
 use Rattle.numbers.specs.Refusals.{unlessRefused}
+use Rattle.numbers.specs.Rounded.{real}
 use Rattle.numbers.specs.declared.Listing.{Listing}
 use Rattle.numbers.specs.Outcomes.{Written}
 use Rattle.numbers.proofs.Outcomes.{written-unique}
@@ -23,6 +24,7 @@ use Rattle.threshold.specs.Threshold.{sortingRoom, Thresholds}
 use Rattle.onsets.proofs.Outcomes.{lists-unique}
 use Rattle.threshold.proofs.Thresholds.{thresholds-unique}
 use Rattle.lags.specs.Lags.{minLag, maxLag, lagRange}
+use Rattle.lags.specs.Options.{defaultOptions, optionsOf, withMinBpm, withMaxBpm}
 use Rattle.lags.specs.declared.LagRange.{LagRange}
 use Rattle.lags.specs.declared.TempoOpts.{TempoOpts}
 use Rattle.tempo.specs.Answers.{Estimated}
@@ -32,12 +34,13 @@ use Rattle.stability.specs.Answers.{stabilityRefusal, leftOpen, Steadied}
 use Rattle.stability.specs.declared.Steadiness.{Steadiness}
 use Rattle.stability.proofs.Promises as stability
 use Rattle.beats.specs.Grids.{scoresOf, linksOf, gridOf, Gridded}
-use Rattle.bars.specs.BarBeats.{barBeatOf}
+use Rattle.bars.specs.BarBeats.{barBeatSays, barAndBeat}
 use Rattle.bars.specs.Downbeats.{Downbeats}
 use Rattle.bars.specs.declared.BarBeat.{BarBeat}
+use Rattle.bars.proofs.BarBeats.{says-one}
 use Rattle.similarities.specs.Similarity.{SimilarityDone}
 use Rattle.novelties.specs.Novelty.{NoveltyDone}
-use Rattle.sections.specs.Outcomes.{Found}
+use Rattle.sections.specs.Outcomes.{workedIn, Found}
 use Rattle.sections.specs.declared.Sections.{Sections}
 use Rattle.sections.proofs.Outcomes.{found-unique}
 use Rattle.patching.specs.Patches.{Patch}
@@ -55,19 +58,41 @@ use Rattle.track.specs.declared.Analysis.{Analysis}
 use Rattle.rooms.specs.declared.Room.{Room}
 use Rattle.analysis.proofs.Promises as analyses
 
--- `lag_range`, `room_of`, `bar_beat_at`
+-- `lag_range`, `room_of`
 pub lag-range : (rate : ℕ) (o : TempoOpts) {a b : LagRange} → a ≡ lagRange rate o → b ≡ lagRange rate o → a ≡ b
 lag-range rate o p q = p ∙ sym q
 
 pub room-of : (rows rate : ℕ) (o : TempoOpts) {a b : Room} → a ≡ roomOf rows rate o → b ≡ roomOf rows rate o → a ≡ b
 room-of rows rate o p q = p ∙ sym q
 
-pub bar-beat-at : (time : Float) (bars beats : List Float) {a b : BarBeat} → a ≡ barBeatOf time bars beats → b ≡ barBeatOf time bars beats → a ≡ b
-bar-beat-at time bars beats p q = p ∙ sym q
+-- `bar_beat_at`: two answers that say the same are one
+pub bar-beat-at : (time : Float) (bars beats : List Float) {a b : BarBeat}
+    → barBeatSays a ≡ (0, barAndBeat time bars beats) → barBeatSays b ≡ (0, barAndBeat time bars beats) → a ≡ b
+bar-beat-at time bars beats p q = says-one _ _ (p ∙ sym q)
 
--- `TempoOpts::new`, `between`, `with_min_bpm`, `with_max_bpm`: the options equal a value of the inputs
-pub options : {value a b : TempoOpts} → a ≡ value → b ≡ value → a ≡ b
-options p q = p ∙ sym q
+-- both bounds of options that equal others
+bounds : {a o : TempoOpts} → a ≡ o → (a .«min_bpm» ≡ o .«min_bpm») × (a .«max_bpm» ≡ o .«max_bpm»)
+bounds p = (ap (λ (x : TempoOpts). x .«min_bpm») p, ap (λ (x : TempoOpts). x .«max_bpm») p)
+
+-- `TempoOpts::new`: the defaults, 30 and 300
+pub options-new : {a b : TempoOpts} → a ≡ defaultOptions → b ≡ defaultOptions
+    → (a ≡ b) × ((a .«min_bpm» ≡ real 30) × (a .«max_bpm» ≡ real 300))
+unfolding ofInt ofBits
+options-new p q = (p ∙ sym q, bounds p)
+
+-- `TempoOpts::between`: the bounds that are given
+pub options-between : (minBpm maxBpm : Float) {a b : TempoOpts} → a ≡ optionsOf minBpm maxBpm → b ≡ optionsOf minBpm maxBpm
+    → (a ≡ b) × ((a .«min_bpm» ≡ minBpm) × (a .«max_bpm» ≡ maxBpm))
+options-between minBpm maxBpm p q = (p ∙ sym q, bounds p)
+
+-- `with_min_bpm`, `with_max_bpm`: a setter changes its own bound and no other
+pub with-min-bpm : (bpm : Float) (o : TempoOpts) {a b : TempoOpts} → a ≡ withMinBpm bpm o → b ≡ withMinBpm bpm o
+    → (a ≡ b) × ((a .«min_bpm» ≡ bpm) × (a .«max_bpm» ≡ o .«max_bpm»))
+with-min-bpm bpm o p q = (p ∙ sym q, bounds p)
+
+pub with-max-bpm : (bpm : Float) (o : TempoOpts) {a b : TempoOpts} → a ≡ withMaxBpm bpm o → b ≡ withMaxBpm bpm o
+    → (a ≡ b) × ((a .«min_bpm» ≡ o .«min_bpm») × (a .«max_bpm» ≡ bpm))
+with-max-bpm bpm o p q = (p ∙ sym q, bounds p)
 
 -- `spectral_flux`, `frame_times`, `boundary_times`: a number, and one lent list
 pub written : {A : Type 0} (number : ℕ) (done was : List A) {a b : ℕ} {x y : List A} → Written number done was a x → Written number done was b y
@@ -147,7 +172,7 @@ novelty p q = (p .answer ∙ sym (q .answer), p .slots ∙ sym (q .slots))
 pub boundaries : (number : ℕ) (curve : List Float) (bounds rows : List ℕ) (work : List Float) {a b : Sections} {x y : List ℕ} {u v : List Float}
     → Found number curve bounds rows work a x u → Found number curve bounds rows work b y v
     → ((a .number ≡ b .number) × (a .sections ≡ b .sections) × (a .count ≡ b .count) × (a .confidence ≡ b .confidence) × (x ≡ y)
-    × (drop (unlessRefused number (length curve) 0) u ≡ drop (unlessRefused number (length curve) 0) v)) × (length u ≡ length v)
+    × (drop (workedIn number (length curve)) u ≡ drop (workedIn number (length curve)) v)) × (length u ≡ length v)
 boundaries number curve bounds rows work p q = (found-unique number curve bounds rows work p q, p .work-length ∙ sym (q .work-length))
 
 -- `patch_magnitudes`: both ranges, the rows and both curves; and the work slice past the slots that are sorted in

@@ -28,6 +28,7 @@ use Rattle.patch_magnitudes.specs.declared.Patched.the-variants.{Refused, Wrote
 use Rattle.patch_refusal.specs.Tracks.{Track, track, numberOf}
 use Rattle.patch_magnitudes.specs.Magnitudes.{fluxFirst, fluxPast, thresholdFirst, thresholdPast, answered, Patches}
 use Rattle.patch_magnitudes.specs.Runs.{fluxCurve, thresholdCurve, Fresh, Kept, Sound, Good, analysed, Ran}
+use Rattle.patch_magnitudes.proofs.Outcomes.{is-answered}
 use Rattle.patch_magnitudes.proofs.Repairs as repairs
 use Rattle.rooms.specs.Rooms.{Results, Spare, roomOf}
 use Rattle.rooms.proofs.Numbers.{by-bounds}
@@ -97,7 +98,7 @@ pub names-its-slots : (rows bins : ℕ) (was : Track) (start : ℕ) (x : Float) 
     → Patches rows bins was (patchOf start (x ∷ xs)) work (Wrote f g t u) now work′
     → let past = pastRow bins (patchOf start (x ∷ xs)) in (f ≡ start) × (g ≡ min (past + 1) rows) × (t ≡ start - 10) × (u ≡ min (past + 10 + 1) rows)
 names-its-slots rows bins was start x xs work f g t u now work′ done =
-    named rows bins start x xs (numberOf rows bins was (patchOf start (x ∷ xs)) (length work)) f g t u (done .answer-is)
+    named rows bins start x xs (numberOf rows bins was (patchOf start (x ∷ xs)) (length work)) f g t u (is-answered done)
 
 -- Outside them and the slots that the answer names nothing differs.
 pub outside-stays : (rows bins : ℕ) (was : Track) (patch : Patch) (work : List Float) (f g t u : ℕ) (now : Track) (work′ : List Float)

@@ -19,6 +19,7 @@ use Rattle.patch_features.specs.declared.PatchedFeatures.{PatchedFeatures}
 use Rattle.patch_features.specs.declared.PatchedFeatures.the-variants.{Refused, Wrote}
 use Rattle.patch_features.specs.Features.{Track, track, pairs, similarityFirst, similarityPast, noveltyFirst, noveltyPast, numberOf, answered, Patches}
 use Rattle.patch_features.specs.Runs.{noveltyCurve, Fresh, Kept, Sound, Good, analysed, Ran}
+use Rattle.patch_features.proofs.Outcomes.{is-answered}
 use Rattle.patch_features.proofs.Repairs as repairs
 use Rattle.promises.specs.Repaired.{SameSections}
 use Rattle.promises.proofs.Determined.{boundaries}
@@ -82,7 +83,7 @@ pub names-its-slots : (rows : ℕ) (was : Track) (start : ℕ) (x : Float) (xs :
     → Patches rows was (patchOf start (x ∷ xs)) (Wrote f g t u) now
     → let past = pastRow featureWidth (patchOf start (x ∷ xs)) in
     (f ≡ (start - 16) * 17 + min start 16) × (g ≡ past * 17) × (t ≡ start - 7) × (u ≡ min (past + 8) rows)
-names-its-slots rows was start x xs f g t u now done = named rows start x xs (numberOf rows was (patchOf start (x ∷ xs))) f g t u (done .answer-is)
+names-its-slots rows was start x xs f g t u now done = named rows start x xs (numberOf rows was (patchOf start (x ∷ xs))) f g t u (is-answered done)
 
 -- Outside them, the pairs that touch one of them and the slots that the answer names nothing differs.
 pub outside-stays : (rows : ℕ) (was : Track) (patch : Patch) (f g t u : ℕ) (now : Track)

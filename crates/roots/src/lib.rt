@@ -73,7 +73,7 @@ fn halley(s: f64, x: f64) -> f64 {
     s * (square + 3.0 * x) / (3.0 * square + x)
 }
 
-// A guess at the whole number nearest to the root of a * 2 ^ 52, of which nothing is promised: two of Halley's steps from
+// A guess at the whole number nearest to the root of a * 2 ^ 52, of which its fifty-three digits alone are promised: two of Halley's steps from
 // half the bits, and the remainder of that root cut to 26 digits, whose square is exact. It is wrong at 2 ^ 54 - 2 at least, where
 // it rounds up to the next power of two: what fails the test goes digit by digit.
 fn guess(a: u64) -> u64
@@ -131,9 +131,11 @@ fn root_bits(n: u64, guessed: u64) -> u64
     nearest_whole(a, guessed) + (power / 2 + 511) * HIDDEN
 }
 
-// Inner: a guess at the digits of x's root, for `sqrt_from`. Nothing is promised of it. It has no branch, so that a loop of guesses runs on
-// several lanes.
-pub fn guess_root(x: f64) -> u64 {
+// Inner: a guess at the digits of x's root, for `sqrt_from`. It has at most fifty-three binary digits; nothing else is promised of it, since
+// any guess will do. It has no branch, so that a loop of guesses runs on several lanes.
+pub fn guess_root(x: f64) -> u64
+    ensures { λ r. ⌜ r < 2 ^ 53 ⌝ }
+{
     let n = bits_of(x);
     let digits = n % HIDDEN + HIDDEN;
     guess(if n / HIDDEN % 2 == 0 {
@@ -144,6 +146,8 @@ pub fn guess_root(x: f64) -> u64 {
 }
 
 // Inner: the square root, correctly rounded, whatever was guessed: of +0, -0 and the infinity themselves, of anything below zero a NaN.
+// `sqrtOf` computes it digit by digit. Of a finite x above zero it is document 01's root, the nearest float, told by comparing squares, and
+// there is one: laws `sqrt-rounded` and `rounded-unique`, proofs/Roots.
 pub fn sqrt_from(x: f64, guessed: u64) -> f64
     ensures { λ r. ⌜ r ≡ sqrtOf x ⌝ }
 {
@@ -160,7 +164,7 @@ pub fn sqrt_from(x: f64, guessed: u64) -> f64
     0.0 / 0.0
 }
 
-// Inner: the square root, by a guess of its own.
+// Inner: the square root, by a guess of its own; document 01's by the laws named above `sqrt_from`.
 pub fn sqrt(x: f64) -> f64
     ensures { λ r. ⌜ r ≡ sqrtOf x ⌝ }
 {

@@ -12,14 +12,13 @@ use Rattle.median.specs.Median.{medianOf, madOf}
 use Rattle.numbers.proofs.Tabs.{listed-none}
 use Rattle.numbers.proofs.Tests.{refused-keeps}
 use Rattle.numbers.specs.Lists.{listed}
-use Rattle.numbers.specs.Refusals.{unlessRefused}
 use Rattle.numbers.specs.Rounded.{_⊕_, _⊗_, nought}
 use Rattle.onsets.specs.Peaks.{peaksOf, suppressed}
 use Rattle.onsets.specs.Steps.{Picked}
 use Rattle.section_peaks.specs.Greatest.{greatest}
 use Rattle.sections.specs.Boundaries.{madScale, leastRows, gapOf, thresholdOf, candidatesOf, mostBoundaries, boundariesOf, sectionsOf}
 use Rattle.sections.specs.Confidence.{confidenceOf}
-use Rattle.sections.specs.Outcomes.{Found}
+use Rattle.sections.specs.Outcomes.{workedIn, Found}
 use Rattle.section_peaks.specs.Steps.{PickedIn}
 use Rattle.sections.specs.declared.Sections.{Sections}
 
@@ -41,7 +40,7 @@ module _ (number : ℕ) (novelty : List Float) (bounds rows : List ℕ) (work : 
   -- any two outcomes coincide, but for the sorting room
   pub found-unique : {a b : Sections} {x y : List ℕ} {u v : List Float} → Found number novelty bounds rows work a x u → Found number novelty bounds rows work b y v
       → (a .number ≡ b .number) × (a .sections ≡ b .sections) × (a .count ≡ b .count) × (a .confidence ≡ b .confidence) × (x ≡ y)
-      × (drop (unlessRefused number (length novelty) 0) u ≡ drop (unlessRefused number (length novelty) 0) v)
+      × (drop (workedIn number (length novelty)) u ≡ drop (workedIn number (length novelty)) v)
   found-unique p q = (
     p .number-is ∙ sym (q .number-is),
     p .sections-are ∙ sym (q .sections-are),
@@ -101,18 +100,19 @@ sections-long zero b h = absurd (omega arith)
 sections-long (suc n) b h = refl
 
 pub found-picked : (novelty : List Float) (bounds rows : List ℕ) (work : List Float) (answer : Sections) (rows′ : List ℕ) (work₁ work′ : List Float)
-    → 0 < length novelty → answer .number ≡ 0 → answer .sections ≡ answer .count + 1 → answer .confidence ≡ confidenceOf novelty bounds → length work′ ≡ length work
+    → leastRows ≤ length novelty → answer .number ≡ 0 → answer .sections ≡ answer .count + 1 → answer .confidence ≡ confidenceOf novelty bounds
+    → length work′ ≡ length work
     → drop (length novelty) work₁ ≡ drop (length novelty) work → PickedIn (length novelty) bounds rows work₁ (answer .count) rows′ work′
     → Found 0 novelty bounds rows work answer rows′ work′
 found-picked novelty bounds rows work answer rows′ work₁ work′ h a s c l w p =
     record {
       number-is = a;
-      sections-are = s ∙ rw (p .picked .count-is) (sections-long (length novelty) (length bounds) h);
+      sections-are = s ∙ rw (p .picked .count-is) (sections-long (length novelty) (length bounds) (omega arith));
       count-is = p .picked .count-is;
       confidence-is = c;
       rows-are = p .picked .frames-are;
       work-length = l;
-      work-keeps = p .work-keeps ∙ w;
+      work-keeps = rw (le-ltb (length novelty) leastRows h) (p .work-keeps ∙ w);
     }
 
 pub found-long : (number : ℕ) (novelty : List Float) (samples rate maxSections gap most : ℕ) (rows : List ℕ) (work : List Float) (answer : Sections) (rows′ : List ℕ) (work′ : List Float)

@@ -3,31 +3,40 @@
 use Prim.Native.Nat.{ℕ}
 use mathlib.Core.Path.{_≡_}
 use mathlib.Core.List.{List, map}
+use lib.Dec.{ltb}
 use lib.ListN.{length, drop}
 use lib.Ieee.{Float}
-use Rattle.numbers.specs.Rounded.{nought}
+use Rattle.numbers.specs.Rounded.{nought, pick}
 use Rattle.numbers.specs.Lists.{listed}
 use Rattle.numbers.specs.Refusals.{unlessRefused}
 use Rattle.numbers.specs.Outcomes.{Written}
-use Rattle.sections.specs.Boundaries.{boundariesOf, sectionsOf, boundariesRefusal}
+use Rattle.sections.specs.Boundaries.{leastRows, boundariesOf, sectionsOf, boundariesRefusal}
 use Rattle.sections.specs.Confidence.{confidenceOf}
 use Rattle.sections.specs.Times.{rowTime, timesRefusal}
 use Rattle.sections.specs.declared.Sections.{Sections}
 
+-- how many slots of the work slice, from its start on, may differ afterwards: one for each row where the curve is searched, and none at a
+-- refusal or where there are too few rows for a boundary
+abbrev pub workedIn : (number rows : ℕ) → ℕ
+workedIn number rows = unlessRefused number (pick (ltb rows leastRows) 0 rows) 0
+
 -- A call that finds these boundaries in a novelty curve: it answers this number, how many sections there are, how many boundaries it
 -- listed, and a confidence; a refusal answers zeros and changes no slot. Of the sorting room, which is left open: it keeps its length
--- and its slots past the novelty's, and is unchanged where the number refuses.
-pub record Found (number : ℕ) (novelty : List Float) (bounds rows : List ℕ) (work : List Float) (answer : Sections) (rows′ : List ℕ) (work′ : List Float) : Type 0 where
+-- and its slots past those that are worked in.
+pub record Found
+    (number : ℕ) (novelty : List Float) (bounds rows : List ℕ) (work : List Float)
+    (answer : Sections) (rows′ : List ℕ) (work′ : List Float) : Type 0 where
   pub number-is : answer .number ≡ number
   pub sections-are : answer .sections ≡ unlessRefused number (sectionsOf (length novelty) (length bounds)) 0
   pub count-is : answer .count ≡ unlessRefused number (length bounds) 0
   pub confidence-is : answer .confidence ≡ unlessRefused number (confidenceOf novelty bounds) nought
   pub rows-are : rows′ ≡ unlessRefused number (listed bounds rows) rows
   pub work-length : length work′ ≡ length work
-  pub work-keeps : drop (unlessRefused number (length novelty) 0) work′ ≡ drop (unlessRefused number (length novelty) 0) work
+  pub work-keeps : drop (workedIn number (length novelty)) work′ ≡ drop (workedIn number (length novelty)) work
 
 -- what `boundaries` promises
-abbrev pub BoundariesPromise : (novelty : List Float) (samples rate maxSections : ℕ) (rows : List ℕ) (work : List Float) (answer : Sections) (rows′ : List ℕ) (work′ : List Float) → Type 0
+abbrev pub BoundariesPromise : (novelty : List Float) (samples rate maxSections : ℕ) (rows : List ℕ) (work : List Float)
+    (answer : Sections) (rows′ : List ℕ) (work′ : List Float) → Type 0
 BoundariesPromise novelty samples rate maxSections rows work =
     Found (boundariesRefusal novelty samples rate (length rows) (length work)) novelty (boundariesOf novelty samples rate maxSections) rows work
 

@@ -5,13 +5,13 @@ mod confidence; // confidence.rt: how far they stand out
 
 ghost use mathlib.Core.Path.{_≡_};
 ghost use mathlib.Core.List.{map};
-ghost use Prim.Native.Nat.{_≤_, _<_};
+ghost use Prim.Native.Nat.{_≤_};
 ghost use lib.ListN.{length};
 ghost use Rattle.numbers.specs.Rounded.{_⊗_, real};
 ghost use Rattle.numbers.specs.Limits.{mostFeatures};
 ghost use Rattle.numbers.specs.Lists.{every, listed};
 ghost use Rattle.section_peaks.specs.Greatest.{greatest};
-ghost use Rattle.sections.specs.Boundaries.{frameMs, gapOf, candidatesOf, gridFine, boundariesRefusal};
+ghost use Rattle.sections.specs.Boundaries.{leastRows, frameMs, gapOf, candidatesOf, gridFine, boundariesRefusal};
 ghost use Rattle.sections.specs.Times.{rowFine, timesRefusal};
 ghost use Rattle.sections.specs.Outcomes.{Found, BoundariesPromise, TimesPromise};
 
@@ -30,8 +30,8 @@ const LEAST_ROWS: usize = 16;
 // Lists the rows of a novelty curve at which a section begins, at most max_sections - 1, given a feature row's length in samples and the
 // sample rate. Room: a slot of rows and of work for each slot of novelty. Refuses: 1 a novelty longer than 50,000, a length outside
 // 1 to 2^31 or a rate outside 1 to 192,000; 3 rows or work shorter than novelty; 4 a value that isn't finite or is larger than 2^150.
-// Slots of rows past the count stay, all of them at a refusal. Work's first slots, one for each slot of novelty, then hold anything;
-// the others, and all of them at a refusal, are unchanged.
+// Slots of rows past the count stay, all of them at a refusal. Work's first slots, one for each slot of novelty, then hold anything where
+// those are 16 or more; the others, all of them below 16 and all of them at a refusal, are unchanged.
 pub fn boundaries(
     novelty: &[f64],
     length: u64,
@@ -40,7 +40,11 @@ pub fn boundaries(
     rows: &mut [u32],
     work: &mut [f64],
 ) -> Sections
-    ensures { λ r. ⌜ BoundariesPromise (now (novelty .entry)) length rate «max_sections» (now (rows .entry)) (now (work .entry)) r (now (rows .exit)) (now (work .exit)) ⌝ }
+    ensures { λ r. ⌜
+        BoundariesPromise (now (novelty .entry)) length rate «max_sections»
+        (now (rows .entry)) (now (work .entry))
+        r (now (rows .exit)) (now (work .exit))
+        ⌝ }
 {
     let number = refusal(novelty, length, rate, rows.len(), work.len());
     if number != 0 {
@@ -66,8 +70,17 @@ pub fn boundaries(
 
 // The boundaries of a curve that is long enough, with the least rows between them and the most that are listed.
 fn find(novelty: &[f64], gap: usize, most: usize, rows: &mut [u32], work: &mut [f64]) -> Sections
-    requires { ⌜ (0 < length (now novelty)) × (length (now novelty) ≤ mostFeatures) × (length (now novelty) ≤ length (now rows)) × (length (now novelty) ≤ length (now work)) ⌝ }
-    ensures { λ r. ⌜ Found 0 (now (novelty .entry)) (greatest (now (novelty .entry)) most (candidatesOf (now (novelty .entry)) gap)) (now (rows .entry)) (now (work .entry)) r (now (rows .exit)) (now (work .exit)) ⌝ }
+    requires { ⌜
+        (leastRows ≤ length (now novelty))
+        × (length (now novelty) ≤ mostFeatures)
+        × (length (now novelty) ≤ length (now rows))
+        × (length (now novelty) ≤ length (now work))
+        ⌝ }
+    ensures { λ r. ⌜
+        Found 0 (now (novelty .entry)) (greatest (now (novelty .entry)) most (candidatesOf (now (novelty .entry)) gap))
+        (now (rows .entry)) (now (work .entry))
+        r (now (rows .exit)) (now (work .exit))
+        ⌝ }
 {
     let med = median::median_in(novelty, work);
     let level = med + 1.5 * median::mad_in(novelty, med, work);

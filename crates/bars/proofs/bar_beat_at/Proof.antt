@@ -1,4 +1,4 @@
--- `bars::bar_beat_at` meets its contract: bar 0 is nowhere, and any other is one more than its downbeat's place. Assumes nothing.
+-- `bars::bar_beat_at` meets its contract: bar 0 is nowhere and has no values, and any other is one more than its downbeat's place. Assumes nothing.
 use mathlib.Core.Path.{_≡_, refl, sym, ap, _∙_}
 use mathlib.Core.List.{List}
 use Prim.Native.Nat.{ℕ, zero, suc, _<_, _-_, max}
@@ -8,27 +8,28 @@ use lib.ListN.{length, getD}
 use lib.Ieee.{Float, nan}
 use Rattle.numbers.specs.Rounded.{_⊕_, _⊖_}
 use Rattle.bars.specs.declared.BarBeat.the-variants.{Nowhere, At}
-use Rattle.bars.specs.BarBeats.{slack, lastBar, during, passing, beatIn, inBar, barBeatOf}
+use Rattle.bars.specs.BarBeats.{slack, lastBar, during, passing, beatIn, barBeatSays, inBar, barAndBeat}
 use Rattle.bars.proofs.bar_beat_at.Statement.{statement}
 use Rattle.bars.proofs.bar_beat_at.Tie as tie
 
 module _ (time : Float) (downbeats beats : List Float) (bar : ℕ) (e : bar ≡ lastBar (time ⊕ slack) downbeats (length downbeats)) where
-  nowhere : bar ≡ 0 → Nowhere ≡ barBeatOf time downbeats beats
-  unfolding barBeatOf inBar
-  nowhere z = ap (λ (k : ℕ). inBar k time downbeats beats) (sym z ∙ e)
+  nowhere : bar ≡ 0 → barBeatSays Nowhere ≡ (0, barAndBeat time downbeats beats)
+  unfolding barAndBeat inBar
+  nowhere z = ap (λ (k : ℕ). (0, inBar k time downbeats beats)) (sym z ∙ e)
 
   at : (heard beat : ℕ) → 0 < bar → heard ≡ passing (during (getD downbeats (bar - 1) nan ⊖ slack) (time ⊕ slack)) beats → beat ≡ max 1 heard
-      → At bar beat ≡ barBeatOf time downbeats beats
-  unfolding barBeatOf inBar beatIn
+      → barBeatSays (At bar beat) ≡ (0, barAndBeat time downbeats beats)
+  unfolding barAndBeat inBar beatIn
   at heard beat h p q = go bar h refl
     where
-      go : (k : ℕ) → 0 < k → bar ≡ k → At bar beat ≡ inBar (lastBar (time ⊕ slack) downbeats (length downbeats)) time downbeats beats
+      go : (k : ℕ) → 0 < k → bar ≡ k → barBeatSays (At bar beat) ≡ (0, inBar (lastBar (time ⊕ slack) downbeats (length downbeats)) time downbeats beats)
       go zero g z = absurd (omega arith)
       go (suc k) g z =
           let j : bar - 1 ≡ k = omega arith in
-          ap (λ (b : ℕ). At b beat) z
-          ∙ ap (At (suc k)) (q ∙ ap (max 1) (p ∙ ap (λ (i : ℕ). passing (during (getD downbeats i nan ⊖ slack) (time ⊕ slack)) beats) j))
-          ∙ ap (λ (b : ℕ). inBar b time downbeats beats) (sym z ∙ e)
+          ap (λ (b : ℕ). barBeatSays (At b beat)) z
+          ∙ ap (λ (b : ℕ). barBeatSays (At (suc k) b))
+          (q ∙ ap (max 1) (p ∙ ap (λ (i : ℕ). passing (during (getD downbeats i nan ⊖ slack) (time ⊕ slack)) beats) j))
+          ∙ ap (λ (b : ℕ). (0, inBar b time downbeats beats)) (sym z ∙ e)
 
 last-bar-requires : tie.Need-last-bar-requires
 last-bar-requires c κs = search needs

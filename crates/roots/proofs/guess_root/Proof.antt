@@ -1,4 +1,4 @@
--- `roots::guess_root` asks nothing and promises nothing; what it lends `guess` are at most fifty-four digits. Assumes nothing.
+-- `roots::guess_root` meets its contract: what it hands `guess` are at most fifty-four digits, and what `guess` answers at most fifty-three. Assumes nothing.
 use mathlib.Core.Logic.{⊎-elim}
 use native.Mathlib.Omega.{arith}
 use borrow.Author.Needs.{needs}
