@@ -70,29 +70,29 @@ pub bar-beat-at : (time : Float) (bars beats : List Float) {a b : BarBeat}
     → barBeatSays a ≡ (0, barAndBeat time bars beats) → barBeatSays b ≡ (0, barAndBeat time bars beats) → a ≡ b
 bar-beat-at time bars beats p q = says-one _ _ (p ∙ sym q)
 
--- both bounds of options that equal others
-bounds : {a o : TempoOpts} → a ≡ o → (a .«min_bpm» ≡ o .«min_bpm») × (a .«max_bpm» ≡ o .«max_bpm»)
-bounds p = (ap (λ (x : TempoOpts). x .«min_bpm») p, ap (λ (x : TempoOpts). x .«max_bpm») p)
+-- options that are equal have each bound equal
+each-bound : {a o : TempoOpts} → a ≡ o → (a .«min_bpm» ≡ o .«min_bpm») × (a .«max_bpm» ≡ o .«max_bpm»)
+each-bound p = (ap (λ (x : TempoOpts). x .«min_bpm») p, ap (λ (x : TempoOpts). x .«max_bpm») p)
 
 -- `TempoOpts::new`: the defaults, 30 and 300
 pub options-new : {a b : TempoOpts} → a ≡ defaultOptions → b ≡ defaultOptions
     → (a ≡ b) × ((a .«min_bpm» ≡ real 30) × (a .«max_bpm» ≡ real 300))
 unfolding ofInt ofBits
-options-new p q = (p ∙ sym q, bounds p)
+options-new p q = (p ∙ sym q, each-bound p)
 
 -- `TempoOpts::between`: the bounds that are given
 pub options-between : (minBpm maxBpm : Float) {a b : TempoOpts} → a ≡ optionsOf minBpm maxBpm → b ≡ optionsOf minBpm maxBpm
     → (a ≡ b) × ((a .«min_bpm» ≡ minBpm) × (a .«max_bpm» ≡ maxBpm))
-options-between minBpm maxBpm p q = (p ∙ sym q, bounds p)
+options-between minBpm maxBpm p q = (p ∙ sym q, each-bound p)
 
 -- `with_min_bpm`, `with_max_bpm`: a setter changes its own bound and no other
 pub with-min-bpm : (bpm : Float) (o : TempoOpts) {a b : TempoOpts} → a ≡ withMinBpm bpm o → b ≡ withMinBpm bpm o
     → (a ≡ b) × ((a .«min_bpm» ≡ bpm) × (a .«max_bpm» ≡ o .«max_bpm»))
-with-min-bpm bpm o p q = (p ∙ sym q, bounds p)
+with-min-bpm bpm o p q = (p ∙ sym q, each-bound p)
 
 pub with-max-bpm : (bpm : Float) (o : TempoOpts) {a b : TempoOpts} → a ≡ withMaxBpm bpm o → b ≡ withMaxBpm bpm o
     → (a ≡ b) × ((a .«min_bpm» ≡ o .«min_bpm») × (a .«max_bpm» ≡ bpm))
-with-max-bpm bpm o p q = (p ∙ sym q, bounds p)
+with-max-bpm bpm o p q = (p ∙ sym q, each-bound p)
 
 -- `spectral_flux`, `frame_times`, `boundary_times`: a number, and one lent list
 pub written : {A : Type 0} (number : ℕ) (done was : List A) {a b : ℕ} {x y : List A} → Written number done was a x → Written number done was b y
