@@ -1,33 +1,64 @@
--- The parts of Repaired's first theorem, for magnitude rows. A full run, `analyse_magnitudes`, that isn't refused leaves flux and threshold as one
--- analysis from nothing does (`analysed`), so its curves are those of the rows (`Fresh`) and its rows are rows that a full run accepts (`Sound`).
--- Patches keep both, and so the last rows are accepted too, and the patched flux is the flux that a full run on them writes: an analysis of
--- either has one outcome. What a theorem asks is written in it or at the head of its section; no axiom stands behind one.
-use mathlib.Core.Bool.{true}
-use mathlib.Core.List.{List}
+-- The parts of Repaired's first two theorems, for magnitude rows. A full run, `analyse_magnitudes`, that isn't refused leaves flux and threshold as one
+-- analysis from nothing does (`analysed`), so its curves are those of the rows (`Fresh`) and its rows are rows that a full run accepts (`Sound`);
+-- `spectral_flux` and then the threshold of its flux leave no other. Each step of `Used` keeps both: patches do, other slices hold the same first N
+-- slots, and a threshold written anew is again that of the rows, since the flux is theirs. So the last rows are accepted too, and the patched flux is the
+-- flux that a full run on them writes: an analysis of either has one outcome, and lent different slices it writes the same into each. What a theorem
+-- asks is written in it or at the head of its section; no axiom stands behind one.
+use mathlib.Core.Bool.{Bool, true, false}
+use mathlib.Core.List.{List, []}
 use mathlib.Core.Path.{_≡_, refl, sym, ap, _∙_}
 use Prim.Native.Nat.{ℕ, zero, suc, _≤_}
 use lib.Ieee.{Float}
-use lib.ListN.{length, take}
-use Rattle.numbers.specs.Lists.{curve, filled}
+use lib.ListN.{length, take, drop}
+use lib.Seq.{take-append-seam}
+use native.Mathlib.Omega.{arith}
+use Rattle.numbers.specs.Rounded.{pick}
+use Rattle.numbers.specs.Limits.{magnitudeFine}
+use Rattle.numbers.specs.Lists.{curve, filled, listed, every}
 use Rattle.numbers.specs.Refusals.{unlessRefused}
-use Rattle.numbers.proofs.Tabs.{length-tab}
+use Rattle.numbers.proofs.Tabs.{length-tab, length-filled}
 use Rattle.numbers.proofs.Tests.{passed-does}
 use Rattle.flux.specs.Flux.{fluxAt}
+use Rattle.flux.proofs.Fluxes.{flux-told}
 use Rattle.threshold.specs.Threshold.{thresholdAt}
+use Rattle.threshold.proofs.Thresholds.{threshold-told}
 use Rattle.lags.specs.declared.TempoOpts.{TempoOpts}
-use Rattle.rooms.specs.Rooms.{Results, Spare, frameSlots, lagSlots, numbersFine, roomOf, magnitudesNumber}
+use Rattle.lags.specs.Lags.{maxLag}
+use Rattle.tempo.specs.Answers.{unwritten, curveOf}
+use Rattle.beats.specs.Envelopes.{beatless, scaled}
+use Rattle.beats.specs.Scores.{scores, links}
+use Rattle.beats.specs.Grids.{grid, scoresOf, linksOf, gridOf}
+use Rattle.beats.proofs.Chains.{length-scores, length-links}
+use Rattle.rooms.specs.Rooms.{Results, Spare, frameSlots, lagSlots, lagsOf, numbersFine, roomOf, envelopeNumber, magnitudesNumber}
 use Rattle.rooms.specs.declared.Room.{Room}
 use Rattle.rooms.proofs.Numbers.{rows-fine, room-inside, magnitudes-0}
 use Rattle.rooms.specs.Enough.{Enough}
-use Rattle.rooms.proofs.Rooms.{enough-suffices, told}
+use Rattle.rooms.proofs.Rooms.{enough-suffices, ready-of, told, flux-taken}
+use Rattle.track_parts.specs.Parts.{onsetsIn}
 use Rattle.track.specs.declared.Analysis.{Analysis}
-use Rattle.track.specs.Analyses.{analysisOf, withoutAnalysis, writtenIn}
+use Rattle.track.specs.Analyses.{periodIn, beatsIn, downbeatsIn, analysisOf, withoutAnalysis, writtenIn}
 use Rattle.analysis.specs.Analyses.{AnalysedEnvelope, AnalysedMagnitudes}
 use Rattle.analysis.proofs.Promises.{coincide, flux-is-the-envelope}
+use Rattle.patching.proofs.Parts.{filled-first}
 use Rattle.patch_refusal.specs.Tracks.{Track, track}
-use Rattle.patch_magnitudes.specs.Runs.{fluxCurve, Fresh, Sound, analysed, Ran}
+use Rattle.patch_magnitudes.specs.Runs.{fluxCurve, thresholdCurve, Fresh, Sound, analysed, Ran, stays}
 use Rattle.patch_magnitudes.proofs.Repairs.{analysed-is-fresh, analysed-is-sound, calls-end-fresh, calls-keep-sound}
-use Rattle.promises.specs.Repaired.{SameRun}
+use Rattle.promises.specs.Repaired.{
+  Thresholded,
+  alone,
+  analysing,
+  Begun,
+  at-once,
+  in-turn,
+  Relent,
+  Used,
+  ends,
+  runs,
+  relends,
+  analyses,
+  SameRun,
+  SameElsewhere,
+}
 
 -- a refusal's answer holds its number, and any other answer 0
 answered-number : (n : ℕ) (env : List Float) (rate : ℕ) (o : TempoOpts) (a : Analysis) → a ≡ unlessRefused n (analysisOf env rate o) (withoutAnalysis n)
@@ -78,6 +109,101 @@ module _
           threshold-room = t .room .threshold;
         }))
 
+-- ---- how a track begins, and what is done with it
+
+-- a call that writes the threshold of the first N slots of the flux of some rows leaves theirs, and was lent room for it
+module _ (rows bins : ℕ) (m flux : List Float) (is : take rows flux ≡ fluxCurve rows bins m) where
+  flux-long : length (take rows flux) ≡ rows
+  unfolding fluxCurve
+  flux-long = ap length is ∙ length-tab (fluxAt m bins) 0 rows
+
+  filled-is-threshold : (lent : List Float) {threshold : List Float} → length (take rows flux) ≤ length lent
+      → threshold ≡ filled (thresholdAt (take rows flux)) lent 0 (length (take rows flux))
+      → (take rows threshold ≡ thresholdCurve rows bins m) × (rows ≤ length threshold)
+  unfolding thresholdCurve
+  filled-is-threshold lent {threshold} room e =
+      let rule = thresholdAt (fluxCurve rows bins m) in
+      let r : rows ≤ length lent = rw flux-long at room in
+      let f : threshold ≡ filled rule lent 0 rows =
+      e ∙ ap (filled (thresholdAt (take rows flux)) lent 0) flux-long ∙ ap (λ (x : List Float). filled (thresholdAt x) lent 0 rows) is in
+      let l : length threshold ≡ length lent = ap length f ∙ length-filled rule lent 0 rows (omega arith) r in
+      (ap (take rows) f ∙ filled-first rule lent rows, omega arith)
+
+  thresholded-is : {threshold : List Float} → Thresholded (take rows flux) threshold
+      → (take rows threshold ≡ thresholdCurve rows bins m) × (rows ≤ length threshold)
+  unfolding writtenIn
+  thresholded-is (alone {lent} {threshold} {work} t) =
+      let z = sym (t .curve .number-is) in
+      filled-is-threshold lent (threshold-told (take rows flux) (length lent) (length work) z .has-room) (t .curve .slots-are ∙ passed-does _ _ _ z)
+  thresholded-is (analysing {rate} {opts} {lent} {results} {spare} p passed) =
+      let env = take rows flux in
+      let z = sym (answered-number (envelopeNumber env rate opts lent spare) env rate opts _ (p .answered)) ∙ passed in
+      filled-is-threshold (lent .threshold) (ready-of env rate opts lent spare z .thresholds)
+      (ap (λ (r : Results). r .threshold) (p .written ∙ passed-does _ (writtenIn env rate opts lent) lent z))
+
+-- a track that has begun has the curves of its rows, and is one that the analysis accepts
+pub begun-is-fresh : (rows bins : ℕ) {first : Track} → Begun rows bins first → Fresh rows bins first
+unfolding fluxCurve
+begun-is-fresh rows bins (at-once p passed) = full-run-is-fresh _ rows bins _ _ _ _ _ (sym (full-run-number _ rows bins _ _ _ _ _ p) ∙ passed) p
+begun-is-fresh rows bins (in-turn {magnitudes = m} {flux₀} {flux} w t) =
+    let e = ap (take rows) (w .slots-are ∙ passed-does _ _ _ (sym (w .number-is))) ∙ filled-first (fluxAt m bins) flux₀ rows in
+    record { flux = e; threshold = thresholded-is rows bins m flux e t .0 }
+
+pub begun-is-sound : (rows bins : ℕ) {first : Track} → Begun rows bins first → Sound rows bins first
+unfolding fluxCurve
+begun-is-sound rows bins (at-once p passed) = full-run-is-sound _ rows bins _ _ _ _ _ (sym (full-run-number _ rows bins _ _ _ _ _ p) ∙ passed) p
+begun-is-sound rows bins (in-turn {magnitudes = m} {flux₀} {flux} w t) =
+    let z = sym (w .number-is) in
+    let fine = flux-told m rows bins (length flux₀) z in
+    let e = w .slots-are ∙ passed-does _ _ _ z in
+    record {
+      rows-fit = fine .rows-fit;
+      some-bins = fine .some-bins;
+      bins-fit = fine .bins-fit;
+      whole = fine .whole;
+      fine = fine .fine;
+      flux-room = rw (ap length e ∙ length-filled (fluxAt m bins) flux₀ 0 rows (omega arith) (fine .has-room)) (fine .has-room);
+      threshold-room = thresholded-is rows bins m flux (ap (take rows) e ∙ filled-first (fluxAt m bins) flux₀ rows) t .1;
+    }
+
+-- each step keeps both
+relent-keeps : (rows bins : ℕ) {was now : Track} → Relent rows was now → Fresh rows bins was → Sound rows bins was
+    → Fresh rows bins now × Sound rows bins now
+relent-keeps rows bins r f s = (
+  record {
+    flux = r .same-flux ∙ f .flux ∙ ap (fluxCurve rows bins) (sym (r .same-rows));
+    threshold = r .same-threshold ∙ f .threshold ∙ ap (thresholdCurve rows bins) (sym (r .same-rows));
+  },
+  record {
+    rows-fit = s .rows-fit;
+    some-bins = s .some-bins;
+    bins-fit = s .bins-fit;
+    whole = ap length (r .same-rows) ∙ s .whole;
+    fine = ap (every magnitudeFine) (r .same-rows) ∙ s .fine;
+    flux-room = r .flux-room;
+    threshold-room = r .threshold-room;
+  },
+)
+
+pub used-keeps : (rows bins : ℕ) {was now : Track} → Used rows bins was now → Fresh rows bins was → Sound rows bins was
+    → Fresh rows bins now × Sound rows bins now
+used-keeps rows bins ends f s = (f, s)
+used-keeps rows bins (runs ran more) f s = used-keeps rows bins more (calls-end-fresh rows bins f ran) (calls-keep-sound rows bins s ran)
+used-keeps rows bins (relends r more) f s = let k = relent-keeps rows bins r f s in used-keeps rows bins more (k .0) (k .1)
+used-keeps rows bins (analyses {was} t more) f s =
+    let k = thresholded-is rows bins (was .magnitudes) (was .flux) (f .flux) t in
+    used-keeps rows bins more
+    (record { flux = f .flux; threshold = k .0 })
+    (record {
+      rows-fit = s .rows-fit;
+      some-bins = s .some-bins;
+      bins-fit = s .bins-fit;
+      whole = s .whole;
+      fine = s .fine;
+      flux-room = s .flux-room;
+      threshold-room = k .1;
+    })
+
 -- ---- after any run of patches
 
 -- a sound track, patches on it, a rate and bounds that are fine, and slices with room
@@ -111,4 +237,82 @@ module _
         same-threshold = now .threshold ∙ sym (full .threshold);
         same-answer = one .0;
         same-results = one .1;
+      }
+
+-- ---- lent different slices
+
+-- what is written first into a lent list doesn't depend on the list: entries,
+same-entries : {A : Type 0} (xs d e : List A) {n : ℕ} → length xs ≡ n → take n (listed xs d) ≡ take n (listed xs e)
+unfolding listed
+same-entries xs d e l = rw (← l) (take-append-seam xs (drop (length xs) d) ∙ sym (take-append-seam xs (drop (length xs) e)))
+
+-- a curve,
+same-slots : (rule : ℕ → Float) (d e : List Float) {n k : ℕ} → k ≡ n → take n (filled rule d 0 k) ≡ take n (filled rule e 0 k)
+same-slots rule d e {n} l = rw l (filled-first rule d n ∙ sym (filled-first rule e n))
+
+-- both lag curves, where they are written
+same-lags : (env : List Float) (rate : ℕ) (o : TempoOpts) (a b : Results) → unwritten env (length (onsetsIn env rate)) (maxLag rate o) ≡ false
+    → (take (lagsOf rate o) (writtenIn env rate o a .clarity) ≡ take (lagsOf rate o) (writtenIn env rate o b .clarity))
+    × (take (lagsOf rate o) (writtenIn env rate o a .weight) ≡ take (lagsOf rate o) (writtenIn env rate o b .weight))
+unfolding writtenIn curveOf
+same-lags env rate o a b written = (rw written (simp filled-first), rw written (simp filled-first))
+
+-- an envelope with beats isn't beatless, so that each frame has a score and a link
+scored : (env : List Float) (period : ℕ) → 1 ≤ length (gridOf env period)
+    → (length (scoresOf env period) ≡ length env) × (length (linksOf env period) ≡ length env)
+unfolding gridOf scoresOf linksOf
+scored env period = go (beatless env period)
+  where
+    go : (none : Bool) → 1 ≤ length (pick none [] (grid period (scaled env) (length env)))
+        → (length (pick none [] (scores period (scaled env) (length env))) ≡ length env)
+        × (length (pick none [] (links period (scaled env) (length env))) ≡ length env)
+    go true some = absurd (omega arith)
+    go false some = (length-scores period (scaled env) (length env), length-links period (scaled env) (length env))
+
+-- a sound track with the curves of its rows, a rate and bounds that are fine, and two sets of slices with room
+module _
+    (rows bins : ℕ) {last : Track} (fresh : Fresh rows bins last) (sound : Sound rows bins last)
+    (rate : ℕ) (o : TempoOpts) (fine : numbersFine rows rate o ≡ true)
+    (results₀ : Results) (lent : Spare) (room : Enough (roomOf rows rate o) results₀ lent)
+    (flux : List Float) (flux-room : rows ≤ length flux)
+    (fullResults₀ : Results) (fullLent : Spare) (full-room : Enough (roomOf rows rate o) fullResults₀ fullLent) where
+  -- an analysis of the flux into the one writes what a full run into the other does
+  pub same-elsewhere : {a b : Analysis} {f : List Float} {x y : Results} {s t : Spare}
+      → AnalysedEnvelope (take rows (last .flux)) rate o results₀ lent a x s
+      → AnalysedMagnitudes (last .magnitudes) rows bins rate o flux fullResults₀ fullLent b f y t
+      → SameElsewhere rows rate o last a x b f y
+  unfolding fluxCurve analysisOf writtenIn beatsIn
+  same-elsewhere {a} {b} {f} {x} {y} {s} {t} p q =
+      let m = last .magnitudes in
+      let env = take rows (last .flux) in
+      let l : length env ≡ rows = flux-long rows bins m (last .flux) (fresh .flux) in
+      let here = full-run-is-accepted rows bins sound stays rate o flux results₀ lent fine flux-room room in
+      let there = full-run-is-accepted rows bins sound stays rate o flux fullResults₀ fullLent fine flux-room full-room in
+      let p0 : envelopeNumber env rate o results₀ lent ≡ 0 = rw (fresh .flux) (flux-taken m rows bins rate o flux results₀ lent here) in
+      let q0 : envelopeNumber env rate o fullResults₀ fullLent ≡ 0 = rw (fresh .flux) (flux-taken m rows bins rate o flux fullResults₀ fullLent there) in
+      let full : AnalysedEnvelope env rate o fullResults₀ fullLent b y t =
+      rw (fresh .flux) (flux-is-the-envelope m rows bins rate o flux fullResults₀ fullLent there q) in
+      let curves = full-run-is-fresh m rows bins rate o flux fullResults₀ fullLent there q in
+      let ea : a ≡ analysisOf env rate o = p .answered ∙ passed-does _ (analysisOf env rate o) _ p0 in
+      let eb : b ≡ analysisOf env rate o = full .answered ∙ passed-does _ (analysisOf env rate o) _ q0 in
+      let ex : x ≡ writtenIn env rate o results₀ = p .written ∙ passed-does _ (writtenIn env rate o results₀) _ p0 in
+      let ey : y ≡ writtenIn env rate o fullResults₀ = full .written ∙ passed-does _ (writtenIn env rate o fullResults₀) _ q0 in
+      let n = periodIn env rate o in
+      let onsets : a .onsets ≡ length (onsetsIn env rate) = ap (λ (r : Analysis). r .onsets) ea in
+      let beats : a .beats ≡ length (beatsIn env rate o) = ap (λ (r : Analysis). r .beats) ea in
+      record {
+        accepted = full-run-number m rows bins rate o flux fullResults₀ fullLent q ∙ there;
+        same-flux = fresh .flux ∙ sym (curves .flux);
+        same-threshold = fresh .threshold ∙ sym (curves .threshold);
+        same-answer = ea ∙ sym eb;
+        threshold-again = rw (ex, ey) (same-slots (thresholdAt env) (results₀ .threshold) (fullResults₀ .threshold) l);
+        same-onsets = rw (onsets, ex, ey) (same-entries (onsetsIn env rate) (results₀ .onsets) (fullResults₀ .onsets) refl);
+        same-beats = rw (beats, ex, ey) (same-entries (beatsIn env rate o) (results₀ .beats) (fullResults₀ .beats) refl);
+        same-downbeats =
+            rw (ap (λ (r : Analysis). r .downbeats) ea, ex, ey)
+            (same-entries (downbeatsIn env rate o) (results₀ .downbeats) (fullResults₀ .downbeats) refl);
+        same-scores = λ some. rw (ex, ey) (same-entries (scoresOf env n) (results₀ .score) (fullResults₀ .score) (scored env n (rw beats at some) .0 ∙ l));
+        same-links = λ some. rw (ex, ey) (same-entries (linksOf env n) (results₀ .back) (fullResults₀ .back) (scored env n (rw beats at some) .1 ∙ l));
+        same-clarity = λ written. rw (ex, ey) (same-lags env rate o results₀ fullResults₀ (rw onsets at written) .0);
+        same-weight = λ written. rw (ex, ey) (same-lags env rate o results₀ fullResults₀ (rw onsets at written) .1);
       }

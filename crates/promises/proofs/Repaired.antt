@@ -1,12 +1,13 @@
 -- The auditor's second question: "when you repair twenty seconds of a track, how do you know the new beat grid is the one a full run would give?"
--- Demand 3, "Patching equals starting over", for magnitude rows with their flux and threshold curves. The first theorem is the answer. Those below it
--- say what one patch does, what any run of patches does, and what follows for each call that reads a patched curve; FullRuns has the first one's parts.
--- `Ran` is any run of calls, told by what each promises: patches, refused and empty ones among them, and refused and empty calls of any rows and
--- bins. `Fresh` says that the curves are those that demand 2 gives the rows, `analysed` is one analysis from nothing. What a theorem asks is written in
--- it, or at the head of its section; no axiom stands behind one.
+-- Demand 3, "Patching equals starting over", for magnitude rows with their flux and threshold curves. The first theorem is the answer, and the second
+-- is it for two sets of slices. Those below say what one patch does, what any run of patches does, and what follows for each call that reads a patched
+-- curve; FullRuns has the parts of the first two. `Begun` and `Used` (specs/Repaired) tell what came before the last analysis. `Ran` is any run of
+-- calls, told by what each promises: patches, refused and empty ones among them, and refused and empty calls of any rows and bins. `Fresh` says that
+-- the curves are those that demand 2 gives the rows, `analysed` is one analysis from nothing. What a theorem asks is written in it, or at the head of
+-- its section; no axiom stands behind one.
 use mathlib.Core.List.{List, [], _∷_}
 use mathlib.Core.Bool.{true}
-use mathlib.Core.Path.{_≡_, sym, _∙_}
+use mathlib.Core.Path.{_≡_, _∙_}
 use Prim.Native.Nat.{ℕ, zero, suc, _+_, _-_, _≤_, min}
 use native.Mathlib.Omega.{arith}
 use lib.Ieee.{Float}
@@ -27,7 +28,7 @@ use Rattle.patch_magnitudes.specs.declared.Patched.{Patched}
 use Rattle.patch_magnitudes.specs.declared.Patched.the-variants.{Refused, Wrote}
 use Rattle.patch_refusal.specs.Tracks.{Track, track, numberOf}
 use Rattle.patch_magnitudes.specs.Magnitudes.{fluxFirst, fluxPast, thresholdFirst, thresholdPast, answered, Patches}
-use Rattle.patch_magnitudes.specs.Runs.{fluxCurve, thresholdCurve, Fresh, Kept, Sound, Good, analysed, Ran}
+use Rattle.patch_magnitudes.specs.Runs.{fluxCurve, thresholdCurve, Fresh, Kept, Sound, Good, analysed, Ran, stays}
 use Rattle.patch_magnitudes.proofs.Outcomes.{is-answered}
 use Rattle.patch_magnitudes.proofs.Repairs as repairs
 use Rattle.rooms.specs.Rooms.{Results, Spare, roomOf}
@@ -35,21 +36,17 @@ use Rattle.rooms.proofs.Numbers.{by-bounds}
 use Rattle.rooms.specs.Enough.{Enough}
 use Rattle.analysis.specs.Analyses.{AnalysedEnvelope, AnalysedMagnitudes}
 use Rattle.track.specs.declared.Analysis.{Analysis}
-use Rattle.promises.specs.Repaired.{SameRun}
+use Rattle.promises.specs.Repaired.{Begun, Used, SameRun, SameElsewhere}
 use Rattle.promises.proofs.Determined.{listing, estimate, stability-of, beat-grid, downbeats, analysis}
-use Rattle.promises.proofs.FullRuns.{full-run-number, full-run-is-fresh, full-run-is-sound, same-as-full-run}
+use Rattle.promises.proofs.FullRuns.{begun-is-fresh, begun-is-sound, used-keeps, same-as-full-run, same-elsewhere}
 
--- After a full run that isn't refused and any run of patches, an analysis of the patched flux is a full run on the patched rows.
+-- However a track began and whatever was done with it, an analysis of its flux is a full run on its rows.
 pub repaired-is-a-full-run :
-    (rows bins : ℕ) {magnitudes : List Float}
-    -- First a full run, `analyse_magnitudes`, on these rows: any rate and options, any slices.
-    {firstRate : ℕ} {firstOpts : TempoOpts} {flux₀ : List Float} {results₀ : Results} {spare₀ : Spare}
-    {firstAnswer : Analysis} {flux₁ : List Float} {results₁ : Results} {spare₁ : Spare}
-    → AnalysedMagnitudes magnitudes rows bins firstRate firstOpts flux₀ results₀ spare₀ firstAnswer flux₁ results₁ spare₁
-    -- It isn't refused.
-    → firstAnswer .number ≡ 0
-    -- Then any run of patches on those rows, with the flux and the threshold that it left.
-    → {patched : Track} → Ran rows bins (track magnitudes flux₁ (results₁ .threshold)) patched
+    (rows bins : ℕ) {first patched : Track}
+    -- First the curves of some rows, by `analyse_magnitudes`, the full run, or call by call; none of the calls refused.
+    → Begun rows bins first
+    -- Then any run of patches, other slices lent, values written behind the curves, and analyses in between, in any order.
+    → Used rows bins first patched
     -- A rate and bounds of the options that are fine,
     → (rate : ℕ) (opts : TempoOpts) → boundsFine rate opts ≡ true
     -- and slices with room: a slot of flux for each row, and for the others what `room_of` names.
@@ -63,11 +60,30 @@ pub repaired-is-a-full-run :
     → AnalysedMagnitudes (patched .magnitudes) rows bins rate opts flux lent spare fullAnswer fullFlux fullResults fullLeft
     -- The full run isn't refused, and flux, threshold, answer and all eight results are the same.
     → SameRun rows patched answer results fullAnswer fullFlux fullResults
-repaired-is-a-full-run rows bins first passed ran rate opts fine flux flux-room lent spare room again full =
-    let z = sym (full-run-number _ rows bins _ _ _ _ _ first) ∙ passed in
-    let sound = full-run-is-sound _ rows bins _ _ _ _ _ z first in
-    same-as-full-run rows bins sound ran rate opts flux lent spare (by-bounds rows rate opts (sound .rows-fit) ∙ fine) flux-room room
-    (full-run-is-fresh _ rows bins _ _ _ _ _ z first) again full
+repaired-is-a-full-run rows bins begun used rate opts fine flux flux-room lent spare room again full =
+    let now = used-keeps rows bins used (begun-is-fresh rows bins begun) (begun-is-sound rows bins begun) in
+    same-as-full-run rows bins (now .1) stays rate opts flux lent spare (by-bounds rows rate opts (now .1 .rows-fit) ∙ fine) flux-room room
+    (now .0) again full
+
+-- The same where the two are lent different slices, as a grid that is kept and one that is made to compare it with.
+pub repaired-is-a-full-run-elsewhere :
+    (rows bins : ℕ) {first patched : Track} → Begun rows bins first → Used rows bins first patched
+    → (rate : ℕ) (opts : TempoOpts) → boundsFine rate opts ≡ true
+    -- On the one hand `analyse_envelope` of the patched flux, lent slices with room.
+    → (lent : Results) (spare : Spare) → Enough (roomOf rows rate opts) lent spare
+    → {answer : Analysis} {results : Results} {left : Spare}
+    → AnalysedEnvelope (take rows (patched .flux)) rate opts lent spare answer results left
+    -- On the other a full run on the patched rows, lent others with room.
+    → (flux : List Float) → rows ≤ length flux
+    → (fullLent : Results) (fullSpare : Spare) → Enough (roomOf rows rate opts) fullLent fullSpare
+    → {fullAnswer : Analysis} {fullFlux : List Float} {fullResults : Results} {fullLeft : Spare}
+    → AnalysedMagnitudes (patched .magnitudes) rows bins rate opts flux fullLent fullSpare fullAnswer fullFlux fullResults fullLeft
+    -- The full run isn't refused, flux, threshold and answer are the same, and so are the listed frames and each curve where it is written.
+    → SameElsewhere rows rate opts patched answer results fullAnswer fullFlux fullResults
+repaired-is-a-full-run-elsewhere rows bins begun used rate opts fine lent spare room again flux flux-room fullLent fullSpare full-room full =
+    let now = used-keeps rows bins used (begun-is-fresh rows bins begun) (begun-is-sound rows bins begun) in
+    same-elsewhere rows bins (now .0) (now .1) rate opts (by-bounds rows rate opts (now .1 .rows-fit) ∙ fine)
+    lent spare room flux flux-room fullLent fullSpare full-room again full
 
 -- ---- one patch
 

@@ -21,7 +21,7 @@ use Rattle.patch_features.specs.Features.{Track, track, pairs, similarityFirst,
 use Rattle.patch_features.specs.Runs.{noveltyCurve, Fresh, Kept, Sound, Good, analysed, Ran}
 use Rattle.patch_features.proofs.Outcomes.{is-answered}
 use Rattle.patch_features.proofs.Repairs as repairs
-use Rattle.promises.specs.Repaired.{SameSections}
+use Rattle.promises.specs.RepairedSections.{SameSections}
 use Rattle.promises.proofs.Determined.{boundaries}
 use Rattle.promises.proofs.SectionRuns.{full-run-is-fresh, full-run-is-sound, same-as-full-run}
 

@@ -25,7 +25,7 @@ use Rattle.patch_features.specs.Features.{Track, track, pairs}
 use Rattle.patch_features.specs.Runs.{similarityCurve, noveltyCurve, Fresh, Sound, analysed, Ran}
 use Rattle.patch_features.proofs.Fine.{novelties-are-fine}
 use Rattle.patch_features.proofs.Repairs.{calls-analyse, sound-is-analysed, analysed-is-fresh, analysed-is-sound, calls-end-fresh, calls-keep-sound}
-use Rattle.promises.specs.Repaired.{SameSections}
+use Rattle.promises.specs.RepairedSections.{SameSections}
 
 -- ---- what a full run leaves
 

@@ -1,15 +1,70 @@
--- Demand 3, "Patching equals starting over": what is the same of a repaired track and of a full run on its last rows. That it is, is the first
--- theorem of proofs/Repaired and of proofs/RepairedSections.
-use Prim.Native.Nat.{ℕ}
+-- Demand 3, "Patching equals starting over", for magnitude rows with their flux and threshold curves: how such a track begins, what its user may do with
+-- it, and what is then the same of it and of a full run on its last rows. That it is, say the first two theorems of proofs/Repaired.
+use Prim.Native.Nat.{ℕ, _≤_}
 use mathlib.Core.Path.{_≡_}
+use mathlib.Core.Bool.{false}
 use mathlib.Core.List.{List}
-use lib.ListN.{take}
+use lib.ListN.{length, take}
 use lib.Ieee.{Float}
-use Rattle.rooms.specs.Rooms.{Results}
+use Rattle.numbers.specs.Lists.{filled}
+use Rattle.numbers.specs.Outcomes.{Written}
+use Rattle.flux.specs.Flux.{fluxAt, fluxRefusal}
+use Rattle.threshold.specs.Threshold.{Thresholds}
+use Rattle.lags.specs.declared.TempoOpts.{TempoOpts}
+use Rattle.lags.specs.Lags.{maxLag}
+use Rattle.tempo.specs.Answers.{unwritten}
+use Rattle.rooms.specs.Rooms.{Results, Spare, lagsOf}
 use Rattle.track.specs.declared.Analysis.{Analysis}
-use Rattle.sections.specs.declared.Sections.{Sections}
-use Rattle.patch_refusal.specs.Tracks.{Track}
-use Rattle.patch_features.specs.Features as features
+use Rattle.analysis.specs.Analyses.{AnalysedEnvelope, AnalysedMagnitudes}
+use Rattle.patch_refusal.specs.Tracks.{Track, track}
+use Rattle.patch_magnitudes.specs.Runs.{Ran}
+
+-- ---- how it begins
+
+-- The threshold of a flux, by a call that writes it and isn't refused, into any slice:
+pub data Thresholded (flux : List Float) : (threshold : List Float) → Type 0 where
+  -- `adaptive_threshold`,
+  alone : {lent threshold work work′ : List Float} → Thresholds flux lent work 0 threshold work′ → Thresholded flux threshold
+  -- or `analyse_envelope`, at any rate and with any options.
+  analysing : {rate : ℕ} {opts : TempoOpts} {lent results : Results} {spare left : Spare} {answer : Analysis}
+      → AnalysedEnvelope flux rate opts lent spare answer results left → answer .number ≡ 0 → Thresholded flux (results .threshold)
+
+-- "Lend magnitude rows with the flux and threshold curves demand 2 gives them": rows, with the slices into which their curves were written,
+pub data Begun (rows bins : ℕ) : Track → Type 0 where
+  -- at once by `analyse_magnitudes`, the full run, at any rate and with any options, which isn't refused,
+  at-once : {magnitudes flux₀ flux : List Float} {rate : ℕ} {opts : TempoOpts} {lent results : Results} {spare left : Spare} {answer : Analysis}
+      → AnalysedMagnitudes magnitudes rows bins rate opts flux₀ lent spare answer flux results left → answer .number ≡ 0
+      → Begun rows bins (track magnitudes flux (results .threshold))
+  -- or in turn: `spectral_flux`, which isn't refused, and then the threshold of the first N slots of what it wrote.
+  in-turn : {magnitudes flux₀ flux threshold : List Float}
+      → Written (fluxRefusal magnitudes rows bins (length flux₀)) (filled (fluxAt magnitudes bins) flux₀ 0 rows) flux₀ 0 flux
+      → Thresholded (take rows flux) threshold
+      → Begun rows bins (track magnitudes flux threshold)
+
+-- ---- what is done with it
+
+-- The same track, in other slices or with other values behind it: the rows, and the first N slots of each curve. (Rows have nothing behind them: a
+-- slab of another length than N rows is refused.)
+pub record Relent (rows : ℕ) (was now : Track) : Type 0 where
+  pub same-rows : now .magnitudes ≡ was .magnitudes
+  pub same-flux : take rows (now .flux) ≡ take rows (was .flux)
+  pub same-threshold : take rows (now .threshold) ≡ take rows (was .threshold)
+  pub flux-room : rows ≤ length (now .flux)
+  pub threshold-room : rows ≤ length (now .threshold)
+
+-- Step after step, in any order and as often as wanted. A refused call leaves the track as it is, and is no step; a full run begins anew.
+pub data Used (rows bins : ℕ) : (was now : Track) → Type 0 where
+  -- nothing more;
+  ends : {was : Track} → Used rows bins was was
+  -- "Any run of patches, refused ones among them";
+  runs : {was mid now : Track} → Ran rows bins was mid → Used rows bins mid now → Used rows bins was now
+  -- lending it in other slices, or writing behind it;
+  relends : {was mid now : Track} → Relent rows was mid → Used rows bins mid now → Used rows bins was now
+  -- an analysis of its flux as it then is, whose threshold is the track's from then on, written over the old one or elsewhere.
+  analyses : {was now : Track} {threshold : List Float} → Thresholded (take rows (was .flux)) threshold
+      → Used rows bins (track (was .magnitudes) (was .flux) threshold) now → Used rows bins was now
+
+-- ---- what is the same
 
 -- Of a track of magnitudes with its curves as patches left them: what `analyse_envelope` answers and leaves of the patched flux, and what
 -- `analyse_magnitudes`, the full run, answers and leaves of the patched rows.
@@ -26,20 +81,27 @@ pub record SameRun
   -- each slot of the eight slices: threshold, onsets, both lag curves, scores, links, beats and downbeats
   pub same-results : results ≡ fullResults
 
--- Of a track of features with its curves as patches left them: what `boundaries` answers and lists of the patched novelty, and the full run
--- on the patched rows, `similarity`, `novelty` and `boundaries`: its two numbers and curves, its answer and its list.
-pub record SameSections
-    (rows : ℕ) (patched : features.Track) (answer : Sections) (begins : List ℕ)
-    (firstNumber : ℕ) (fullSimilarity : List Float) (secondNumber : ℕ) (fullNovelty : List Float)
-    (fullAnswer : Sections) (fullBegins : List ℕ) : Type 0 where
-  -- none of the full run's calls is refused
-  pub similarity-accepted : firstNumber ≡ 0
-  pub novelty-accepted : secondNumber ≡ 0
+-- The same where the two are lent different slices: each slot that is written, and not those behind, which stay as each was lent them.
+pub record SameElsewhere
+    (rows rate : ℕ) (opts : TempoOpts) (patched : Track) (answer : Analysis) (results : Results)
+    (fullAnswer : Analysis) (fullFlux : List Float) (fullResults : Results) : Type 0 where
   pub accepted : fullAnswer .number ≡ 0
-  -- both patched curves are the full run's, on their 17 F and F slots
-  pub same-similarity : take (features.pairs rows) (patched .similarity) ≡ take (features.pairs rows) fullSimilarity
-  pub same-novelty : take rows (patched .novelty) ≡ take rows fullNovelty
-  -- how many sections and boundaries there are, and the confidence
+  pub same-flux : take rows (patched .flux) ≡ take rows fullFlux
+  pub same-threshold : take rows (patched .threshold) ≡ take rows (fullResults .threshold)
   pub same-answer : answer ≡ fullAnswer
-  -- each slot of the lent list: the rows at which a section begins come first
-  pub same-begins : begins ≡ fullBegins
+  -- the threshold that the analysis of the patched flux wrote
+  pub threshold-again : take rows (results .threshold) ≡ take rows (fullResults .threshold)
+  -- the onsets, the beats and the downbeats, as many as the answer says
+  pub same-onsets : take (answer .onsets) (results .onsets) ≡ take (answer .onsets) (fullResults .onsets)
+  pub same-beats : take (answer .beats) (results .beats) ≡ take (answer .beats) (fullResults .beats)
+  pub same-downbeats : take (answer .downbeats) (results .downbeats) ≡ take (answer .downbeats) (fullResults .downbeats)
+  -- where there are beats, the N scores and links
+  pub same-scores : 1 ≤ answer .beats → take rows (results .score) ≡ take rows (fullResults .score)
+  pub same-links : 1 ≤ answer .beats → take rows (results .back) ≡ take rows (fullResults .back)
+  -- where they are written, the L slots of both lag curves
+  pub same-clarity :
+      unwritten (take rows (patched .flux)) (answer .onsets) (maxLag rate opts) ≡ false
+      → take (lagsOf rate opts) (results .clarity) ≡ take (lagsOf rate opts) (fullResults .clarity)
+  pub same-weight :
+      unwritten (take rows (patched .flux)) (answer .onsets) (maxLag rate opts) ≡ false
+      → take (lagsOf rate opts) (results .weight) ≡ take (lagsOf rate opts) (fullResults .weight)
