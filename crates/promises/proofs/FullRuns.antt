@@ -242,7 +242,7 @@ module _
 -- ---- lent different slices
 
 -- what is written first into a lent list doesn't depend on the list: entries,
-same-entries : {A : Type 0} (xs d e : List A) {n : ℕ} → length xs ≡ n → take n (listed xs d) ≡ take n (listed xs e)
+pub same-entries : {A : Type 0} (xs d e : List A) {n : ℕ} → length xs ≡ n → take n (listed xs d) ≡ take n (listed xs e)
 unfolding listed
 same-entries xs d e l = rw (← l) (take-append-seam xs (drop (length xs) d) ∙ sym (take-append-seam xs (drop (length xs) e)))
 

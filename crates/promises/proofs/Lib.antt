@@ -1,5 +1,5 @@
 -- What an auditor reads first, one question a file: the marked numbers; that each promise determines its outcome; that patching equals
--- starting over, for the beats (Repaired) and for the sections (RepairedSections), with the parts of their first theorems (FullRuns, SectionRuns).
+-- starting over, for the beats (Repaired) and for the sections (RepairedSections), with the parts of their first two theorems (FullRuns, SectionRuns).
 pub mod Marked
 pub mod Determined
 pub mod FullRuns

@@ -1,6 +1,7 @@
 -- Demand 3, "Likewise for feature rows with their similarity and novelty curves": a repaired track has the sections that a full run would give. The
--- first theorem says so. Those below it say what one patch does, what any run of patches does, and what follows for `boundaries`; SectionRuns has the
--- first one's parts. The words are those of Repaired. What a theorem asks is written in it; no axiom stands behind one.
+-- first theorem says so, and the second says it for two sets of slices. Those below say what one patch does, what any run of patches does, and what
+-- follows for `boundaries`; SectionRuns has the parts of the first two. The words are those of Repaired. What a theorem asks is written in it; no axiom
+-- stands behind one.
 use mathlib.Core.List.{List, [], _∷_}
 use mathlib.Core.Bool.{true}
 use mathlib.Core.Path.{_≡_}
@@ -18,22 +19,23 @@ use Rattle.patching.specs.Patches.{Patch, patchOf, pastRow, edited}
 use Rattle.patch_features.specs.declared.PatchedFeatures.{PatchedFeatures}
 use Rattle.patch_features.specs.declared.PatchedFeatures.the-variants.{Refused, Wrote}
 use Rattle.patch_features.specs.Features.{Track, track, pairs, similarityFirst, similarityPast, noveltyFirst, noveltyPast, numberOf, answered, Patches}
-use Rattle.patch_features.specs.Runs.{noveltyCurve, Fresh, Kept, Sound, Good, analysed, Ran}
+use Rattle.patch_features.specs.Runs.{noveltyCurve, Fresh, Kept, Sound, Good, analysed, Ran, stays}
 use Rattle.patch_features.proofs.Outcomes.{is-answered}
 use Rattle.patch_features.proofs.Repairs as repairs
-use Rattle.promises.specs.RepairedSections.{SameSections}
+use Rattle.promises.specs.RepairedSections.{Used, SameSections, SameElsewhere}
 use Rattle.promises.proofs.Determined.{boundaries}
-use Rattle.promises.proofs.SectionRuns.{full-run-is-fresh, full-run-is-sound, same-as-full-run}
+use Rattle.promises.proofs.SectionRuns.{full-run-is-fresh, full-run-is-sound, used-keeps, same-as-full-run, same-elsewhere}
 
--- After a full run that isn't refused and any run of patches, the sections of the patched novelty are those of a full run on the patched rows.
+-- Whatever was done with a track after a full run, the sections of its novelty are those of a full run on its rows.
 pub repaired-is-a-full-run :
     (rows : ℕ) {features : List Float}
     -- First `similarity` and `novelty`, the calls of a full run that leave a curve, on these rows, into any slices. Neither is refused.
     {similarity₀ similarity₁ novelty₀ novelty₁ : List Float}
     → SimilarityDone features rows similarity₀ 0 similarity₁
     → NoveltyDone (take (pairs rows) similarity₁) rows novelty₀ 0 novelty₁
-    -- Then any run of patches on those rows, with the similarity and the novelty that they left.
-    → {patched : Track} → Ran rows (track features similarity₁ novelty₁) patched
+    -- Then, on those rows with the similarity and the novelty that they left, any run of patches, other slices lent, values written behind the curves,
+    -- and novelties in between, in any order.
+    → {patched : Track} → Used rows (track features similarity₁ novelty₁) patched
     -- A row's length in samples and a rate that are fine, any cap on sections,
     → (samples rate maxSections : ℕ) → gridFine samples rate ≡ true
     -- and slices with room: seventeen slots a row for similarity, one a row for the others.
@@ -49,9 +51,33 @@ pub repaired-is-a-full-run :
     → BoundariesPromise (take rows fullNovelty) samples rate maxSections begins work fullAnswer fullBegins fullWork
     -- No call of the full run is refused, and similarity, novelty, answer and listed rows are the same.
     → SameSections rows patched answer begins′ m fullSimilarity n fullNovelty fullAnswer fullBegins
-repaired-is-a-full-run rows first second ran samples rate maxSections grid similarity novelty r t begins work u v again one two three =
-    same-as-full-run rows (full-run-is-sound _ rows _ _ first second) ran samples rate maxSections grid similarity novelty r t begins work u v one two three
-    (full-run-is-fresh _ rows _ _ first second) again
+repaired-is-a-full-run rows first second used samples rate maxSections grid similarity novelty r t begins work u v again one two three =
+    let now = used-keeps rows used (full-run-is-fresh _ rows _ _ first second) (full-run-is-sound _ rows _ _ first second) in
+    same-as-full-run rows (now .1) stays samples rate maxSections grid similarity novelty r t begins work u v one two three (now .0) again
+
+-- The same where the two are lent different slices, as sections that are kept and those that are made to compare them with.
+pub repaired-is-a-full-run-elsewhere :
+    (rows : ℕ) {features similarity₀ similarity₁ novelty₀ novelty₁ : List Float}
+    → SimilarityDone features rows similarity₀ 0 similarity₁
+    → NoveltyDone (take (pairs rows) similarity₁) rows novelty₀ 0 novelty₁
+    → {patched : Track} → Used rows (track features similarity₁ novelty₁) patched
+    → (samples rate maxSections : ℕ) → gridFine samples rate ≡ true
+    -- On the one hand `boundaries` of the patched novelty, lent slices with room.
+    → (begins : List ℕ) (work : List Float) → rows ≤ length begins → rows ≤ length work
+    → {answer : Sections} {begins′ : List ℕ} {work′ : List Float}
+    → BoundariesPromise (take rows (patched .novelty)) samples rate maxSections begins work answer begins′ work′
+    -- On the other a full run on the patched rows, lent others with room.
+    → (similarity novelty : List Float) → pairs rows ≤ length similarity → rows ≤ length novelty
+    → (fullLent : List ℕ) (fullSpare : List Float) → rows ≤ length fullLent → rows ≤ length fullSpare
+    → {m n : ℕ} {fullSimilarity fullNovelty : List Float} {fullAnswer : Sections} {fullBegins : List ℕ} {fullWork : List Float}
+    → SimilarityDone (patched .features) rows similarity m fullSimilarity
+    → NoveltyDone (take (pairs rows) fullSimilarity) rows novelty n fullNovelty
+    → BoundariesPromise (take rows fullNovelty) samples rate maxSections fullLent fullSpare fullAnswer fullBegins fullWork
+    -- No call of the full run is refused, and similarity, novelty, answer and listed rows are the same, as many as there are.
+    → SameElsewhere rows patched answer begins′ m fullSimilarity n fullNovelty fullAnswer fullBegins
+repaired-is-a-full-run-elsewhere rows first second used samples rate most grid begins work u v again similarity novelty r t lent spare x y one two three =
+    let now = used-keeps rows used (full-run-is-fresh _ rows _ _ first second) (full-run-is-sound _ rows _ _ first second) in
+    same-elsewhere rows (now .0) (now .1) samples rate most grid begins work u v similarity novelty r t lent spare x y one two three again
 
 -- ---- one patch
 

@@ -1,7 +1,9 @@
--- The parts of the first theorem of RepairedSections, for feature rows. A full run is `similarity`, then `novelty` of the similarity that it wrote, then
--- `boundaries` of that novelty. The first two leave what one analysis from nothing does (`analysed`), so the curves are those of the rows (`Fresh`)
--- and the rows are rows that a full run accepts (`Sound`). Patches keep both; a novelty of accepted rows is at most 256 in size, so that
--- `boundaries` accepts it. What a theorem asks is written in it or at the head of its section; no axiom stands behind one.
+-- The parts of the first two theorems of RepairedSections, for feature rows. A full run is `similarity`, then `novelty` of the similarity that it wrote,
+-- then `boundaries` of that novelty. The first two leave what one analysis from nothing does (`analysed`), so the curves are those of the rows (`Fresh`)
+-- and the rows are rows that a full run accepts (`Sound`). Each step of `Used` keeps both: patches do, other slices hold the same first slots, and a
+-- novelty written anew is again that of the rows, since the similarity is theirs. A novelty of accepted rows is at most 256 in size, so that `boundaries`
+-- accepts it, and what it lists doesn't depend on the slices. What a theorem asks is written in it or at the head of its section; no axiom stands
+-- behind one.
 use mathlib.Core.Bool.{true, _&&_}
 use mathlib.Core.List.{List}
 use mathlib.Core.Path.{_≡_, refl, sym, ap, _∙_}
@@ -9,23 +11,26 @@ use Prim.Native.Nat.{ℕ, _≤_}
 use borrow.Author.Tests.{le-leb}
 use lib.Dec.{leb}
 use lib.Ieee.{Float}
+use native.Mathlib.Omega.{arith}
 use lib.ListN.{length, take}
 use Rattle.numbers.specs.Limits.{mostFeatures, valueFine}
-use Rattle.numbers.specs.Lists.{every}
-use Rattle.numbers.proofs.Tabs.{length-tab}
-use Rattle.numbers.proofs.Tests.{and-both, lowest-0}
+use Rattle.numbers.specs.Lists.{filled, listed, every}
+use Rattle.numbers.proofs.Tabs.{length-tab, length-filled}
+use Rattle.numbers.proofs.Tests.{and-both, lowest-0, passed-does}
 use Rattle.similarities.specs.Similarity.{SimilarityDone}
 use Rattle.similarities.proofs.Calls.{similarity-passed}
 use Rattle.novelties.specs.Novelty.{noveltyAt, NoveltyDone}
 use Rattle.novelties.proofs.Calls.{novelty-passed}
-use Rattle.sections.specs.Boundaries.{gridFine, boundariesRefusal}
+use Rattle.sections.specs.Boundaries.{gridFine, boundariesOf, boundariesRefusal}
 use Rattle.sections.specs.Outcomes.{BoundariesPromise}
 use Rattle.sections.specs.declared.Sections.{Sections}
+use Rattle.patching.proofs.Parts.{filled-first}
 use Rattle.patch_features.specs.Features.{Track, track, pairs}
-use Rattle.patch_features.specs.Runs.{similarityCurve, noveltyCurve, Fresh, Sound, analysed, Ran}
+use Rattle.patch_features.specs.Runs.{similarityCurve, noveltyCurve, Fresh, Sound, analysed, Ran, stays}
 use Rattle.patch_features.proofs.Fine.{novelties-are-fine}
 use Rattle.patch_features.proofs.Repairs.{calls-analyse, sound-is-analysed, analysed-is-fresh, analysed-is-sound, calls-end-fresh, calls-keep-sound}
-use Rattle.promises.specs.RepairedSections.{SameSections}
+use Rattle.promises.specs.RepairedSections.{Relent, Used, ends, runs, relends, analyses, SameSections, SameElsewhere}
+use Rattle.promises.proofs.FullRuns.{same-entries}
 
 -- ---- what a full run leaves
 
@@ -47,6 +52,46 @@ module _
       rw (calls-analyse rows (track features similarity₀ novelty₀) similarity novelty first second)
       (analysed-is-sound rows (track features similarity₀ novelty₀)
       (record { rows-fit = p .few; whole = p .whole; fine = p .fine; similarity-room = p .space; novelty-room = q .space }))
+
+-- ---- what is done with a track
+
+-- each step keeps both
+relent-keeps : (rows : ℕ) {was now : Track} → Relent rows was now → Fresh rows was → Sound rows was → Fresh rows now × Sound rows now
+relent-keeps rows r f s = (
+  record {
+    similarity = r .same-similarity ∙ f .similarity ∙ ap (similarityCurve rows) (sym (r .same-rows));
+    novelty = r .same-novelty ∙ f .novelty ∙ ap (noveltyCurve rows) (sym (r .same-rows));
+  },
+  record {
+    rows-fit = s .rows-fit;
+    whole = ap length (r .same-rows) ∙ s .whole;
+    fine = ap (every valueFine) (r .same-rows) ∙ s .fine;
+    similarity-room = r .similarity-room;
+    novelty-room = r .novelty-room;
+  },
+)
+
+-- a novelty of the similarity of some rows is theirs, and was lent room
+novelty-is : (rows : ℕ) (features similarity lent : List Float) {novelty : List Float} → take (pairs rows) similarity ≡ similarityCurve rows features
+    → NoveltyDone (take (pairs rows) similarity) rows lent 0 novelty → (take rows novelty ≡ noveltyCurve rows features) × (rows ≤ length novelty)
+unfolding noveltyCurve
+novelty-is rows features similarity lent {novelty} is done =
+    let rule = noveltyAt (similarityCurve rows features) rows in
+    let room = novelty-passed (take (pairs rows) similarity) rows (length lent) (sym (done .answer)) .space in
+    let f : novelty ≡ filled rule lent 0 rows =
+    done .slots ∙ passed-does _ _ _ (sym (done .answer)) ∙ ap (λ (x : List Float). filled (noveltyAt x rows) lent 0 rows) is in
+    let l : length novelty ≡ length lent = ap length f ∙ length-filled rule lent 0 rows (omega arith) room in
+    (ap (take rows) f ∙ filled-first rule lent rows, omega arith)
+
+pub used-keeps : (rows : ℕ) {was now : Track} → Used rows was now → Fresh rows was → Sound rows was → Fresh rows now × Sound rows now
+used-keeps rows ends f s = (f, s)
+used-keeps rows (runs ran more) f s = used-keeps rows more (calls-end-fresh rows f ran) (calls-keep-sound rows s ran)
+used-keeps rows (relends r more) f s = let k = relent-keeps rows r f s in used-keeps rows more (k .0) (k .1)
+used-keeps rows (analyses {was} {lent = lent} done more) f s =
+    let k = novelty-is rows (was .features) (was .similarity) lent (f .similarity) done in
+    used-keeps rows more
+    (record { similarity = f .similarity; novelty = k .0 })
+    (record { rows-fit = s .rows-fit; whole = s .whole; fine = s .fine; similarity-room = s .similarity-room; novelty-room = k .1 })
 
 -- ---- after any run of patches
 
@@ -113,4 +158,52 @@ module _
         same-novelty = e;
         same-answer = λ i. record { number = one i; sections = two i; count = three i; confidence = four i };
         same-begins = q .rows-are ∙ sym (third .rows-are);
+      }
+
+-- ---- lent different slices
+
+-- a sound track with the curves of its rows, a length and a rate that are fine, slices with room, and the three calls of a full run lent others with room
+module _
+    (rows : ℕ) {last : Track} (fresh : Fresh rows last) (sound : Sound rows last)
+    (samples rate maxSections : ℕ) (grid : gridFine samples rate ≡ true)
+    (begins₀ : List ℕ) (work₀ : List Float) (begins-room : rows ≤ length begins₀) (work-room : rows ≤ length work₀)
+    (similarity₀ novelty₀ : List Float) (similarity-room : pairs rows ≤ length similarity₀) (novelty-room : rows ≤ length novelty₀)
+    (fullBegins₀ : List ℕ) (fullWork₀ : List Float) (full-begins-room : rows ≤ length fullBegins₀) (full-work-room : rows ≤ length fullWork₀)
+    {m n : ℕ} {similarity novelty : List Float} {answer : Sections} {begins : List ℕ} {work : List Float}
+    (first : SimilarityDone (last .features) rows similarity₀ m similarity)
+    (second : NoveltyDone (take (pairs rows) similarity) rows novelty₀ n novelty)
+    (third : BoundariesPromise (take rows novelty) samples rate maxSections fullBegins₀ fullWork₀ answer begins work) where
+  -- `boundaries` of the novelty answers and lists what they do
+  pub same-elsewhere : {a : Sections} {x : List ℕ} {w : List Float}
+      → BoundariesPromise (take rows (last .novelty)) samples rate maxSections begins₀ work₀ a x w
+      → SameElsewhere rows last a x m similarity n novelty answer begins
+  same-elsewhere {a} {x} p =
+      let accepted =
+      full-run-is-accepted rows sound stays samples rate maxSections grid similarity₀ novelty₀ similarity-room novelty-room fullBegins₀ fullWork₀
+      full-begins-room full-work-room first second third in
+      let curves =
+      curves-fresh rows sound stays samples rate maxSections grid similarity₀ novelty₀ similarity-room novelty-room fullBegins₀ fullWork₀
+      full-begins-room full-work-room first second third in
+      let e : take rows (last .novelty) ≡ take rows novelty = fresh .novelty ∙ sym (curves .novelty) in
+      let q = rw e at p in
+      let bounds = boundariesOf (take rows novelty) samples rate maxSections in
+      let z : boundariesRefusal (take rows novelty) samples rate (length begins₀) (length work₀) ≡ 0 =
+      ap (λ (c : List Float). boundariesRefusal c samples rate (length begins₀) (length work₀)) (curves .novelty)
+      ∙ novelty-accepted rows last sound samples rate (length begins₀) (length work₀) grid begins-room work-room in
+      let z′ : boundariesRefusal (take rows novelty) samples rate (length fullBegins₀) (length fullWork₀) ≡ 0 = sym (third .number-is) ∙ accepted .2 in
+      let one : a .number ≡ answer .number = q .number-is ∙ z ∙ sym (accepted .2) in
+      let two : a .sections ≡ answer .sections = q .sections-are ∙ passed-does _ _ _ z ∙ sym (third .sections-are ∙ passed-does _ _ _ z′) in
+      let count : a .count ≡ length bounds = q .count-is ∙ passed-does _ _ _ z in
+      let three : a .count ≡ answer .count = count ∙ sym (third .count-is ∙ passed-does _ _ _ z′) in
+      let four : a .confidence ≡ answer .confidence = q .confidence-is ∙ passed-does _ _ _ z ∙ sym (third .confidence-is ∙ passed-does _ _ _ z′) in
+      let here : x ≡ listed bounds begins₀ = q .rows-are ∙ passed-does _ _ _ z in
+      let there : begins ≡ listed bounds fullBegins₀ = third .rows-are ∙ passed-does _ _ _ z′ in
+      record {
+        similarity-accepted = accepted .0;
+        novelty-accepted = accepted .1;
+        accepted = accepted .2;
+        same-similarity = fresh .similarity ∙ sym (curves .similarity);
+        same-novelty = e;
+        same-answer = λ i. record { number = one i; sections = two i; count = three i; confidence = four i };
+        same-begins = rw (count, here, there) (same-entries bounds begins₀ fullBegins₀ refl);
       }

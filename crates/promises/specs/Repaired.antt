@@ -58,7 +58,7 @@ pub data Used (rows bins : ℕ) : (was now : Track) → Type 0 where
   ends : {was : Track} → Used rows bins was was
   -- "Any run of patches, refused ones among them";
   runs : {was mid now : Track} → Ran rows bins was mid → Used rows bins mid now → Used rows bins was now
-  -- lending it in other slices, or writing behind it;
+  -- lending it in other slices, writing behind it, or writing over it what it holds;
   relends : {was mid now : Track} → Relent rows was mid → Used rows bins mid now → Used rows bins was now
   -- an analysis of its flux as it then is, whose threshold is the track's from then on, written over the old one or elsewhere.
   analyses : {was now : Track} {threshold : List Float} → Thresholded (take rows (was .flux)) threshold
