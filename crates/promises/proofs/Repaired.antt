@@ -67,6 +67,7 @@ repaired-is-a-full-run rows bins begun used rate opts fine flux flux-room lent s
 
 -- The same where the two are lent different slices, as a grid that is kept and one that is made to compare it with.
 pub repaired-is-a-full-run-elsewhere :
+    -- A track that began and was used as above, and a rate and bounds that are fine.
     (rows bins : ℕ) {first patched : Track} → Begun rows bins first → Used rows bins first patched
     → (rate : ℕ) (opts : TempoOpts) → boundsFine rate opts ≡ true
     -- On the one hand `analyse_envelope` of the patched flux, lent slices with room.

@@ -57,6 +57,7 @@ repaired-is-a-full-run rows first second used samples rate maxSections grid simi
 
 -- The same where the two are lent different slices, as sections that are kept and those that are made to compare them with.
 pub repaired-is-a-full-run-elsewhere :
+    -- A track that began and was used as above, a row's length and a rate that are fine, and any cap on sections.
     (rows : ℕ) {features similarity₀ similarity₁ novelty₀ novelty₁ : List Float}
     → SimilarityDone features rows similarity₀ 0 similarity₁
     → NoveltyDone (take (pairs rows) similarity₁) rows novelty₀ 0 novelty₁

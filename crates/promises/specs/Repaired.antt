@@ -52,7 +52,7 @@ pub record Relent (rows : ℕ) (was now : Track) : Type 0 where
   pub flux-room : rows ≤ length (now .flux)
   pub threshold-room : rows ≤ length (now .threshold)
 
--- Step after step, in any order and as often as wanted. A refused call leaves the track as it is, and is no step; a full run begins anew.
+-- Step after step, in any order and as often as wanted. A refused analysis leaves the track as it is, and is no step; a full run begins anew.
 pub data Used (rows bins : ℕ) : (was now : Track) → Type 0 where
   -- nothing more;
   ends : {was : Track} → Used rows bins was was

@@ -21,8 +21,8 @@ pub record Relent (rows : ℕ) (was now : Track) : Type 0 where
   pub similarity-room : pairs rows ≤ length (now .similarity)
   pub novelty-room : rows ≤ length (now .novelty)
 
--- Step after step, in any order and as often as wanted. A refused call leaves the track as it is, and is no step; a full run begins anew, and
--- `boundaries` writes no curve.
+-- Step after step, in any order and as often as wanted. A refused `novelty` leaves the track as it is, and is no step; a full run begins anew,
+-- and `boundaries` writes no curve.
 pub data Used (rows : ℕ) : (was now : Track) → Type 0 where
   -- nothing more;
   ends : {was : Track} → Used rows was was
