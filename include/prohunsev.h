@@ -188,7 +188,7 @@ uint32_t ph_patch_features(double *features, size_t features_len, size_t rows, s
 uint32_t ph_room_of(size_t rows, uint32_t rate, double min_bpm, double max_bpm, size_t *row_slots, size_t *lag_slots, size_t *work_slots);
 
 /* Onsets, tempo, candidates, stability, beats and downbeats of an envelope, as the calls above give them one after the other; *steady is ph_stability_of's *found.
- * Without a tempo there is no stability and no beat. Room: by ph_room_of; window_clarity, window_weight and work then hold anything, in those slots.
+ * No tempo: no stability, no beat. Room: by ph_room_of. With a stability both window slices and work then hold anything; else only min(21, N) slots of work do.
  * Refuses 1 for the length, the rate or a bound, 3, and 4 for a value; a threshold above 2^150, made from a lent envelope that large, refuses nothing here. */
 uint32_t ph_analyse_envelope(const double *envelope, size_t envelope_len, uint32_t rate, double min_bpm, double max_bpm,
                              double *threshold, size_t threshold_len, uint32_t *onsets, size_t onsets_len,

@@ -27,7 +27,7 @@ pub struct Sections {
 // fewer rows are one section
 const LEAST_ROWS: usize = 16;
 
-// Lists the rows of a novelty curve at which a section begins, at most max_sections - 1, given a feature row's length in samples and the
+// Lists the rows of a novelty curve at which a section begins, at most max(1, max_sections) - 1, given a feature row's length in samples and the
 // sample rate. Room: a slot of rows and of work for each slot of novelty. Refuses: 1 a novelty longer than 50,000, a length outside
 // 1 to 2^31 or a rate outside 1 to 192,000; 3 rows or work shorter than novelty; 4 a value that isn't finite or is larger than 2^150.
 // Slots of rows past the count stay, all of them at a refusal. Work's first slots, one for each slot of novelty, then hold anything where

@@ -1,29 +1,26 @@
 -- What the whole analysis leaves, from what its parts leave. Assumes nothing.
 use mathlib.Core.Path.{_≡_, refl, sym, ap, _∙_, subst}
-use mathlib.Core.Bool.{Bool, true, false, _||_}
 use mathlib.Core.List.{List, [], _∷_}
-use Prim.Native.Nat.{ℕ, _≤_}
+use Prim.Native.Nat.{ℕ, _≤_, max}
 use native.Mathlib.Omega.{arith}
-use lib.Dec.{ltb, eqb}
 use lib.ListN.{length, drop, getD}
 use lib.Ieee.{Float}
-use Rattle.numbers.specs.Rounded.{pick}
 use Rattle.numbers.specs.Limits.{mostPeriod}
 use Rattle.numbers.proofs.Tests.{refused-keeps, passed-does}
 use Rattle.numbers.proofs.Outcomes.{drop-later}
 use Rattle.threshold.specs.Threshold.{sortingRoom}
 use Rattle.lags.specs.declared.TempoOpts.{TempoOpts}
-use Rattle.lags.specs.Lags.{minLag, maxLag, lagRoom}
+use Rattle.lags.specs.Lags.{minLag, maxLag}
 use Rattle.tempo.specs.declared.Candidate.{Candidate}
 use Rattle.tempo.specs.declared.TempoEstimate.{TempoEstimate}
 use Rattle.tempo.specs.Answers.{unused, searchRefusal, tempoOf, unwritten, estimateOf, Estimated}
 use Rattle.tempo.proofs.Promises.{winner-most}
 use Rattle.stability.specs.declared.Stability.{Stability}
-use Rattle.stability.specs.Windows.{windowsOf, Open}
+use Rattle.stability.specs.Windows.{Open}
 use Rattle.stability.specs.Answers.{shareOf, leftOpen}
 use Rattle.beats.specs.Grids.{gridOf}
 use Rattle.bars.specs.Downbeats.{commonMeter, downbeatsOf}
-use Rattle.rooms.specs.Rooms.{Results, Spare, results, spare, lagsOf, sortingOf}
+use Rattle.rooms.specs.Rooms.{Results, Spare, results, spare}
 use Rattle.rooms.specs.Inner.{Ready}
 use Rattle.track_parts.specs.declared.Following.{Following}
 use Rattle.track_parts.specs.Parts.{onsetsIn, Listed, Followed}
@@ -39,14 +36,6 @@ first-lag [] y z e = e
 first-lag (x ∷ cs) y z e = refl
 
 -- ---- the whole
-
-left-most : (n least most lag : ℕ) → leftOpen n least most lag ≤ lagRoom least most
-unfolding leftOpen
-left-most n least most lag = go (eqb lag 0 || ltb (windowsOf n most) 2)
-  where
-    go : (b : Bool) → pick b 0 (lagRoom least most) ≤ lagRoom least most
-    go true = omega arith
-    go false = omega arith
 
 abbrev analysisBy : (onsets : ℕ) → TempoEstimate → Stability → (beats downbeats : ℕ) → Analysis
 analysisBy onsets e s beats downbeats =
@@ -106,18 +95,19 @@ module _
     unfolding openLags
     open-lags xs ys p = rw lag-is at p
 
-    work-kept : drop (sortingOf (length env) (lagsOf rate o)) work′ ≡ drop (sortingOf (length env) (lagsOf rate o)) work
+    -- thresholds are sorted in the first slots, the tempo writes none, and stability's windows write the priors in theirs: past both, work is as it was
+    work-kept : drop (openWork 0 env rate o) work′ ≡ drop (openWork 0 env rate o) work
+    unfolding openWork
     work-kept =
-        let m = sortingOf (length env) (lagsOf rate o) in
-        let n = leftOpen (length env) (minLag rate o) (maxLag rate o) lag in
-        let a : n ≤ m = omega (arith, left-most (length env) (minLag rate o) (maxLag rate o) lag) in
-        let b : sortingRoom env ≤ m = omega arith in
-        drop-later n m work′ work₂ a (after .works .kept) ∙ ap (drop m) (tempo .unsorted) ∙ drop-later (sortingRoom env) m work₁ work b (list .works .kept)
+        let n = leftOpen (length env) (minLag rate o) (maxLag rate o) (periodIn env rate o) in
+        let m = max (sortingRoom env) n in
+        let searched-in : drop n work′ ≡ drop n work₂ = rw lag-is at (after .works .kept) in
+        drop-later n m work′ work₂ (omega arith) searched-in ∙ ap (drop m) (tempo .unsorted)
+        ∙ drop-later (sortingRoom env) m work₁ work (omega arith) (list .works .kept)
 
     pub analysed-by : Analysed 0 env rate o (results threshold onsets clarity weight score back beats downbeats) (spare windowClarity windowWeight work)
         (analysisBy heard found (r .stability) (r .beats) (r .downbeats))
         (results threshold′ onsets′ clarity′ weight′ score′ back′ beats′ downbeats′) (spare windowClarity′ windowWeight′ work′)
-    unfolding openWork
     analysed-by =
         record {
           answered = answer-is;

@@ -1,13 +1,13 @@
 -- Document 01, Onsets, Tempo and candidates, Beats and bars: one whole analysis, as its parts called in turn. What the calls answer,
 -- and what they leave in the slices that they are lent.
-use Prim.Native.Nat.{ℕ}
+use Prim.Native.Nat.{ℕ, max}
 use mathlib.Core.List.{List}
 use mathlib.Core.Path.{_≡_}
 use lib.ListN.{length, getD}
 use lib.Ieee.{Float}
 use Rattle.numbers.specs.Refusals.{unlessRefused}
 use Rattle.numbers.specs.Lists.{filled, listed}
-use Rattle.threshold.specs.Threshold.{thresholdAt}
+use Rattle.threshold.specs.Threshold.{thresholdAt, sortingRoom}
 use Rattle.lags.specs.declared.TempoOpts.{TempoOpts}
 use Rattle.lags.specs.Lags.{minLag, maxLag}
 use Rattle.tempo.specs.declared.TempoEstimate.{TempoEstimate}
@@ -17,7 +17,7 @@ use Rattle.stability.specs.Windows.{Open}
 use Rattle.stability.specs.Answers.{shareOf, withoutStability, leftOpen}
 use Rattle.beats.specs.Grids.{scoresOf, linksOf, gridOf}
 use Rattle.bars.specs.Downbeats.{commonMeter, downbeatsOf}
-use Rattle.rooms.specs.Rooms.{Results, Spare, lagsOf, sortingOf}
+use Rattle.rooms.specs.Rooms.{Results, Spare, lagsOf}
 use Rattle.track_parts.specs.Parts.{onsetsIn}
 use Rattle.track.specs.declared.Analysis.{Analysis}
 
@@ -94,14 +94,17 @@ writtenIn env rate o was =
       downbeats = listed (downbeatsIn env rate o) (was .downbeats);
     }
 
--- how many of the first slots of stability's lag curves, and of the sorting room, are left open
+-- how many of the first slots of stability's lag curves are left open
 unfoldable pub openLags : (number : ℕ) → List Float → (rate : ℕ) → TempoOpts → ℕ
 unfolding periodIn minLag maxLag leftOpen
 openLags number env rate o = unlessRefused number (leftOpen (length env) (minLag rate o) (maxLag rate o) (periodIn env rate o)) 0
 
+-- and of the sorting room: "min(21, N) for thresholds", and one a lag where stability searches windows, whichever are more. The tempo asks for
+-- room and leaves it as it was.
 unfoldable pub openWork : (number : ℕ) → List Float → (rate : ℕ) → TempoOpts → ℕ
-unfolding minLag maxLag
-openWork number env rate o = unlessRefused number (sortingOf (length env) (lagsOf rate o)) 0
+unfolding periodIn minLag maxLag leftOpen
+openWork number env rate o =
+    unlessRefused number (max (sortingRoom env) (leftOpen (length env) (minLag rate o) (maxLag rate o) (periodIn env rate o))) 0
 
 -- The promise of an analysis of `env` with this number: its answer and each result, for every input. What is worked in keeps its length and
 -- every slot past those that are left open, which are none where the number refuses, and for stability none where it searches nothing.
