@@ -403,6 +403,17 @@ fn real(arg: &Arg) -> f64 {
         _ => unreachable!("no float"),
     }
 }
+// the floats of these bytes
+fn floats(bytes: &[u8]) -> Vec<f64> {
+    bytes.chunks(8).map(|b| f64::from_ne_bytes(b.try_into().unwrap())).collect()
+}
+// those of an input
+fn reals(arg: &Arg) -> Vec<f64> {
+    match arg {
+        Arg::Lent { values, .. } => floats(values),
+        _ => unreachable!("a number has no slots"),
+    }
+}
 // a lent number, or the three in a row that candidates are
 fn all(k: usize) -> (usize, Range<usize>) {
     (k, 0..3)
@@ -635,9 +646,14 @@ fn tempo_fits(after: &After, found: usize, range: LagRange) -> Result<(), String
         _ => Err("found is neither 0 nor 1".into()),
     }
 }
-// the slots of the lag curves: none where the envelope is too short or has fewer than two onsets
-fn heard_at(n: usize, onsets: usize, range: LagRange) -> Range<usize> {
-    if n > range.max_lag + 1 && onsets >= 2 {
+// whether the sum of squares about the mean is at most 2^-52
+fn flat(envelope: &[f64]) -> bool {
+    let mean = envelope.iter().sum::<f64>() / envelope.len() as f64;
+    envelope.iter().map(|x| (x - mean) * (x - mean)).sum::<f64>() <= f64::EPSILON
+}
+// the slots of the lag curves: none where the envelope is too short, has fewer than two onsets or is flat
+fn heard_at(envelope: &[f64], onsets: usize, range: LagRange) -> Range<usize> {
+    if envelope.len() > range.max_lag + 1 && onsets >= 2 && !flat(envelope) {
         0..range.lags()
     } else {
         0..0
@@ -677,7 +693,7 @@ mod tempo {
         let range = lag_range(number(&a[2]) as u32, opts).map_err(|e| e.to_string())?;
         tempo_fits(after, 8, range)?;
         // the work slice is asked for and left alone
-        let curves = heard_at(slots(&a[0]), number(&a[1]), range);
+        let curves = heard_at(&reals(&a[0]), number(&a[1]), range);
         let mut reach = vec![(5, curves.clone()), (6, curves)];
         reach.extend((8..=13).map(all));
         Ok(reach)
@@ -881,7 +897,9 @@ mod sections {
         let count = counted(after, 7, n.min(number(&a[3]).max(1) - 1))?;
         must(after.whole(6) == if n == 0 { 0 } else { count + 1 }, "sections aren't boundaries and one")?;
         ascend(&after.frames(4, count), n)?;
-        Ok(vec![(4, 0..count), (5, 0..n), all(6), all(7), all(8)])
+        // fewer than 16 rows are one section: nothing is sorted
+        let sorted = if n < 16 { 0 } else { n };
+        Ok(vec![(4, 0..count), (5, 0..sorted), all(6), all(7), all(8)])
     }
 }
 
@@ -1080,9 +1098,9 @@ fn lend_track(args: &mut Vec<Arg>, rooms: [usize; TRACK_SLICES]) {
     args.extend(tempo_cells().into_iter().chain(stability_cells()));
     args.extend([cell::<usize>(), cell::<usize>()]);
 }
-// what a track of n frames may have changed, its thresholds being argument k
-fn track_reach(after: &After, k: usize, n: usize, range: LagRange) -> Reach {
-    let first = k + TRACK_SLICES;
+// what a track with this envelope may have changed, its thresholds being argument k
+fn track_reach(after: &After, k: usize, envelope: &[f64], range: LagRange) -> Reach {
+    let (n, first) = (envelope.len(), k + TRACK_SLICES);
     let [onsets, found, steady, beats, bars] = [0, 1, 7, 11, 12].map(|i| first + i);
     let heard = counted(after, onsets, n)?;
     let heard_frames = after.frames(k + 1, heard);
@@ -1097,22 +1115,22 @@ fn track_reach(after: &After, k: usize, n: usize, range: LagRange) -> Reach {
     must(among, "a downbeat that is no beat")?;
     must(after.whole(found) == 1 || after.whole(steady) == 0 && laid == 0, "no tempo, but a stability or beats")?;
 
-    let lags = range.lags();
-    let curves = heard_at(n, heard, range);
-    let searched = if after.whole(steady) == 1 { 0..lags } else { 0..0 };
+    let curves = heard_at(envelope, heard, range);
+    // without a stability no window was searched; the tempo leaves the work slice alone
+    let searched = if after.whole(steady) == 1 { range.lags() } else { 0 };
     let links = if laid == 0 { 0..0 } else { 0..n };
     let slices = [
         0..n,
         0..heard,
         curves.clone(),
         curves,
-        searched.clone(),
-        searched,
+        0..searched,
+        0..searched,
         links.clone(),
         links,
         0..laid,
         0..begun,
-        0..lags.max(n.min(21)),
+        0..searched.max(n.min(21)),
     ];
     Ok((k..).zip(slices).chain((first..first + 13).map(all)).collect())
 }
@@ -1142,7 +1160,7 @@ mod tracks {
     pub fn reach(a: &[Arg], after: &After) -> Reach {
         let opts = TempoOpts::between(real(&a[2]), real(&a[3]));
         let range = lag_range(number(&a[1]) as u32, opts).map_err(|e| e.to_string())?;
-        track_reach(after, 4, slots(&a[0]), range)
+        track_reach(after, 4, &reals(&a[0]), range)
     }
 }
 
@@ -1185,7 +1203,8 @@ mod slabs {
         let opts = TempoOpts::between(real(&a[4]), real(&a[5]));
         let range = lag_range(number(&a[3]) as u32, opts).map_err(|e| e.to_string())?;
         let rows = number(&a[1]);
-        let mut reach = track_reach(after, 7, rows, range)?;
+        let flux = floats(&after.held[6][..8 * rows]);
+        let mut reach = track_reach(after, 7, &flux, range)?;
         reach.push((6, 0..rows));
         Ok(reach)
     }

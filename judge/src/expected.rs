@@ -233,7 +233,8 @@ fn track(number: u32, envelope: &[f64], rate: u32, bpm: (f64, f64), f: &[Field])
         return Expected { number, answers, slots };
     }
     let lags = lag_count(rate, bpm);
-    slots[10].open = table::track_sorting(envelope.len(), lags);
+    // thresholds are sorted there; the tempo leaves it alone, and stability writes it only where windows are searched
+    slots[10].open = table::window(envelope.len());
     let threshold = onsets::open::adaptive_threshold(envelope);
     let heard = onsets::open::pick_onsets(envelope, &threshold, rate);
     slots[0] = listed(room_at(0), &threshold);
@@ -250,8 +251,10 @@ fn track(number: u32, envelope: &[f64], rate: u32, bpm: (f64, f64), f: &[Field])
         let enough = [field(lags), field(lags), field(lags)];
         let steady = stability_of(&[&[lent(), hertz, low, high, lag.clone()][..], &enough].concat());
         answers[5..9].copy_from_slice(&steady.answers);
-        let open = if answers[5] == 1 { lags } else { 0 };
-        (slots[4].open, slots[5].open) = (open, open);
+        if answers[5] == 1 {
+            (slots[4].open, slots[5].open) = (lags, lags);
+            slots[10].open = table::track_sorting(envelope.len(), lags);
+        }
         let grid = beat_grid(&[lent(), lag, field(room_at(6)), field(room_at(7)), field(room_at(8))]);
         answers[9] = grid.answers[0];
         let beats: Vec<u32> = grid.slots[2].bits.iter().take(answers[9] as usize).map(|&t| t as u32).collect();
@@ -351,7 +354,9 @@ pub fn boundaries(f: &[Field]) -> Expected {
         let report = structure::open::sections(f[0].reals(), f[1].size(), f[2].small(), &opts, &mut rows);
         answers = vec![report.section_count.bits(), rows.len().bits(), report.confidence.bits()];
     }
-    let sorting = room(f[5].size(), f[0].reals().len(), number);
+    // fewer than 16 rows are one section: nothing is sorted
+    let sorted = if f[0].reals().len() < 16 { 0 } else { f[0].reals().len() };
+    let sorting = room(f[5].size(), sorted, number);
     Expected { number, answers, slots: vec![listed(f[4].size(), &frames(&rows)), sorting] }
 }
 
