@@ -152,8 +152,7 @@ uint32_t ph_similarity(const double *features, size_t features_len, size_t rows,
 uint32_t ph_novelty(const double *similarity, size_t similarity_len, size_t rows, double *novelty, size_t novelty_len);
 
 /* Lists the rows at which a section begins, ascending, at most max_sections - 1: *sections, *count of boundaries, and how far they stand out, 0 to 1.
- * Room: novelty_len slots of rows, and of work, which then hold anything; where novelty_len is below 16 work stays as it was.
- * A row of features is `length` samples long.
+ * A row of features is `length` samples long. Room: novelty_len slots of rows, and of work, which then hold anything; where novelty_len is below 16 work stays.
  * Refuses 1 for the length of novelty, a row's length or the rate, 3, and 4 for a value. */
 uint32_t ph_boundaries(const double *novelty, size_t novelty_len, uint64_t length, uint32_t rate, size_t max_sections,
                        uint32_t *rows, size_t rows_len, double *work, size_t work_len, size_t *sections, size_t *count, double *confidence);
