@@ -13,7 +13,7 @@ use Rattle.report.specs.Input.{mostReported, reportNumber, reportFlux}
 use Rattle.report.specs.Stream.{joined}
 use Rattle.report_head.specs.declared.Feed.{Feed}
 use Rattle.report_feed.specs.declared.Reading.{Reading}
-use Rattle.report_feed.specs.Feeds.{heldRoom, state, bytesTaken, Fed, Begins, Closes, Told, Run, none, more}
+use Rattle.report_feed.specs.Feeds.{heldRoom, state, bytesTaken, Fed, Begins, Decides, Closes, Told, Run, none, more}
 use Rattle.report_feed.proofs.Inputs.{accepted}
 use Rattle.report_feed.proofs.Feeds.{taken-append}
 
@@ -62,18 +62,21 @@ pub record Whole (input : List ℕ) (answer : Reading) (flux : List Float) : Typ
   pub rows-is : answer .number ≡ 0 → answer .rows ≡ length (reportFlux input)
   pub flux-is : answer .number ≡ 0 → take (answer .rows) flux ≡ reportFlux input
 
-pub however-cut : {parts : List (List ℕ)} {answer : Reading} {flux : List Float} → Cut parts answer flux → Whole (joined parts) answer flux
-however-cut {parts} {answer} {flux} r =
-    let come : Fed (joined parts) (r .ended) (r .held′) (r .kept′) (r .was) flux
-    = run-fed [] (r .run) (r .begins .fed (r .held) (r .kept) (r .was) (r .held-room) (r .kept-room) (r .flux-room) (r .kept-fine)) in
-    let told : Told (joined parts) answer (r .was) flux = r .closes .tells (joined parts) (r .held′) (r .kept′) (r .was) flux come in
+whole-of : {input : List ℕ} {answer : Reading} {was flux : List Float} → mostReported ≤ length flux → Told input answer was flux → Whole input answer flux
+whole-of {input} {answer} {was} {flux} room told =
     record {
       number-is = told .number-is;
-      rows-is = λ z.
-          let a = accepted told z in
-          sym (length-take-le (answer .rows) flux (omega (arith, a .rows-fit, come .ready .flux-room))) ∙ ap length (a .flux-is);
+      rows-is = λ z. let a = accepted told z in sym (length-take-le (answer .rows) flux (omega (arith, a .rows-fit, room))) ∙ ap length (a .flux-is);
       flux-is = λ z. accepted told z .flux-is;
     }
+
+cut-fed : {parts : List (List ℕ)} {answer : Reading} {flux : List Float} (r : Cut parts answer flux) → Fed (joined parts) (r .ended) (r .held′) (r .kept′) (r .was) flux
+cut-fed r = run-fed [] (r .run) (r .begins .fed (r .held) (r .kept) (r .was) (r .held-room) (r .kept-room) (r .flux-room) (r .kept-fine))
+
+pub however-cut : {parts : List (List ℕ)} {answer : Reading} {flux : List Float} → Cut parts answer flux → Whole (joined parts) answer flux
+however-cut {parts} {answer} {flux} r =
+    let come = cut-fed r in
+    whole-of (come .ready .flux-room) (r .closes .tells (joined parts) (r .held′) (r .kept′) (r .was) flux come)
 
 -- two ways to cut one input give one answer
 pub record Agree (a b : Reading) (f g : List Float) : Type 0 where
@@ -81,13 +84,28 @@ pub record Agree (a b : Reading) (f g : List Float) : Type 0 where
   pub rows-is : a .number ≡ 0 → a .rows ≡ b .rows
   pub flux-is : a .number ≡ 0 → take (a .rows) f ≡ take (b .rows) g
 
-pub cuts-agree : {parts others : List (List ℕ)} {a b : Reading} {f g : List Float} → joined parts ≡ joined others → Cut parts a f → Cut others b g → Agree a b f g
-cuts-agree {parts} {others} {a} {b} {f} {g} e p q =
-    let x = however-cut p in
-    let y = however-cut q in
+agree-of : {input other : List ℕ} {a b : Reading} {f g : List Float} → input ≡ other → Whole input a f → Whole other b g → Agree a b f g
+agree-of {input} {other} {a} {b} {f} {g} e x y =
     let n : a .number ≡ b .number = x .number-is ∙ ap reportNumber e ∙ sym (y .number-is) in
     record {
       number-is = n;
       rows-is = λ z. x .rows-is z ∙ ap (λ (s : List ℕ). length (reportFlux s)) e ∙ sym (y .rows-is (sym n ∙ z));
       flux-is = λ z. x .flux-is z ∙ ap reportFlux e ∙ sym (y .flux-is (sym n ∙ z));
     }
+
+pub cuts-agree : {parts others : List (List ℕ)} {a b : Reading} {f g : List Float} → joined parts ≡ joined others → Cut parts a f → Cut others b g → Agree a b f g
+cuts-agree e p q = agree-of e (however-cut p) (however-cut q)
+
+-- ---- a run that stops where the input is decided
+
+-- What is told there is true of the whole input, whatever stands behind the parts that were taken.
+pub stopped-early : {parts : List (List ℕ)} {answer : Reading} {flux : List Float} (r : Cut parts answer flux) → Decides (r .ended) true
+    → (rest : List ℕ) → Whole (joined parts ++ rest) answer flux
+stopped-early {parts} {answer} {flux} r d rest =
+    let come = cut-fed r in
+    whole-of {was = r .was} (come .ready .flux-room) (rw (r .closes .answer-is) (d .whatever refl (joined parts) (r .held′) (r .kept′) (r .was) flux come rest))
+
+-- A run that takes the whole input, cut in any way, gives the same answer.
+pub stopped-agrees : {parts others : List (List ℕ)} {a b : Reading} {f g : List Float} (p : Cut parts a f) → Decides (p .ended) true → Cut others b g
+    → (rest : List ℕ) → joined parts ++ rest ≡ joined others → Agree a b f g
+stopped-agrees p d q rest e = agree-of e (stopped-early p d rest) (however-cut q)

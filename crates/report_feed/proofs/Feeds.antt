@@ -12,7 +12,7 @@ use lib.ListN.{length, getD, take, drop, set, length-append, length-set}
 use lib.Seq.{take-at, take-suc, take-suc-set, length-take-le}
 use borrow.Author.Tests.{ltb-true, ltb-false, eqb-true, eqb-false, eq-eqb, ne-eqb, lt-ltb, le-ltb}
 use Rattle.numbers.proofs.Everys.{every-take, every-drop, every-append}
-use Rattle.numbers.proofs.Tests.{and-left, and-right, pick-true, pick-false, lowest-zero, lowest-2}
+use Rattle.numbers.proofs.Tests.{true-not-false, and-left, and-right, pick-true, pick-false, lowest-zero, lowest-2}
 use Rattle.numbers.specs.Limits.{magnitudeFine}
 use Rattle.numbers.specs.Lists.{every, filled}
 use Rattle.numbers.specs.Refusals.{lowest}
@@ -29,7 +29,7 @@ use Rattle.report.proofs.Streams.{streamed-none, streamed-more}
 use Rattle.report_head.specs.declared.Feed.{Feed}
 use Rattle.report_head.specs.declared.Feed.the-variants as come
 use Rattle.report_head.specs.Heads.{behindFirst, behindText, FirstTaken, TextTaken}
-use Rattle.report_feed.specs.Feeds.{Fed, State, state, rowTaken, byteTaken, bytesTaken, readingOf, RowsWithin, Within, Ready, InRows, Parts, Begins, Step, Found, Told, Closes}
+use Rattle.report_feed.specs.Feeds.{Fed, State, state, rowTaken, byteTaken, bytesTaken, readingOf, isDecided, RowsWithin, Within, Ready, InRows, Parts, Begins, Step, Found, Told, Decides, Closes}
 use Rattle.report_feed.proofs.Inputs.{rows-fit, bins-some, bins-fit, number-short, number-malformed, number-text-short, number-text-malformed, number-data, number-shape, number-length}
 
 -- ---- nothing has come
@@ -379,6 +379,30 @@ step-next bytes i h s u = rw (add-one i, take-suc bytes i 0 h) (step-on s u)
 
 refused-found : {input : List ℕ} {rows number : ℕ} {was flux : List Float} → (number ≡ 0 → ⊥) → number ≡ 0 → Found input rows was flux
 refused-found n z = absurd (n z)
+
+-- ---- an input that is refused is decided, and no other
+
+pub decides-first : {have : ℕ} → Decides (come.First have) false
+unfolding isDecided
+decides-first = record { answer-is = refl; whatever = λ e. true-not-false false e refl }
+
+pub decides-text : {size have : ℕ} → Decides (come.Text size have) false
+unfolding isDecided
+decides-text = record { answer-is = refl; whatever = λ e. true-not-false false e refl }
+
+pub decides-rows : {rows bins t have : ℕ} {fine : Bool} → Decides (come.Rows rows bins t have fine) false
+unfolding isDecided
+decides-rows = record { answer-is = refl; whatever = λ e. true-not-false false e refl }
+
+pub decides-refused : {number : ℕ} → Decides (come.Refused number) true
+unfolding isDecided Parts readingOf
+decides-refused {number} =
+    record {
+      answer-is = refl;
+      whatever = λ e input held kept was flux x more. record { number-is = sym (x .parts .whatever more); found = refused-found (x .parts .some) };
+    }
+
+-- ---- where the input ends
 
 pub closes-first : {have : ℕ} → Closes (come.First have) (record { number = 5; rows = 0 })
 unfolding Within Parts readingOf

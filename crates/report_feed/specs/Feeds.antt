@@ -3,7 +3,7 @@
 -- its number is that of the whole input, and the flux is demand 2's curve of its rows.
 use Prim.Native.Nat.{ℕ, _+_, _*_, _≤_, _<_, min}
 use mathlib.Core.Path.{_≡_}
-use mathlib.Core.Bool.{Bool, true, _&&_}
+use mathlib.Core.Bool.{Bool, true, false, _&&_}
 use mathlib.Core.List.{List, [], _∷_, _++_}
 use lib.Dec.{ltb, eqb}
 use lib.Ieee.{Float}
@@ -70,6 +70,13 @@ readingOf (come.First have) = record { number = malformed; rows = 0 }
 readingOf (come.Text size have) = record { number = malformed; rows = 0 }
 readingOf (come.Rows rows bins t have fine) = record { number = lowest true (eqb t rows) true fine; rows = rows }
 readingOf (come.Refused number) = record { number = number; rows = 0 }
+
+-- whether what is told is decided before the input ends: it is once the input is refused
+unfoldable pub isDecided : Feed → Bool
+isDecided (come.First have) = false
+isDecided (come.Text size have) = false
+isDecided (come.Rows rows bins t have fine) = false
+isDecided (come.Refused number) = true
 
 -- ---- what has to be there for a byte to be taken
 
@@ -178,6 +185,12 @@ pub record Told (input : List ℕ) (answer : Reading) (was flux : List Float) : 
 pub record Closes (feed : Feed) (answer : Reading) : Type 0 where
   pub answer-is : answer ≡ readingOf feed
   pub tells : (input held : List ℕ) (kept was flux : List Float) → Fed input feed held kept was flux → Told input answer was flux
+
+-- the answer, and where it is true, whatever input came and whatever comes behind it, what is told where it ends here is right of the whole
+pub record Decides (feed : Feed) (answer : Bool) : Type 0 where
+  pub answer-is : answer ≡ isDecided feed
+  pub whatever : answer ≡ true → (input held : List ℕ) (kept was flux : List Float) → Fed input feed held kept was flux
+      → (more : List ℕ) → Told (input ++ more) (readingOf feed) was flux
 
 -- ---- an input that comes in parts
 

@@ -9,7 +9,7 @@ use report_head::Feed;
 use report_head::take_first;
 use report_head::take_text;
 ghost use mathlib.Core.List.{_∷_, []};
-ghost use Rattle.report_feed.specs.Feeds.{Ready, Step, Begins, Closes};
+ghost use Rattle.report_feed.specs.Feeds.{Ready, Step, Begins, Decides, Closes};
 
 // The number of an input, and how many rows it has where that is 0.
 pub struct Reading {
@@ -105,6 +105,24 @@ pub fn take_bytes(
         i += 1;
     }
     come
+}
+
+// Inner: whether the input is refused, so that nothing that still comes can change what is told of it: a reader may stop there.
+pub fn decided(feed: Feed) -> bool
+    ensures { λ r. ⌜ Decides feed r ⌝ }
+{
+    match feed {
+        Feed::First { have: _ } => false,
+        Feed::Text { size: _, have: _ } => false,
+        Feed::Rows {
+            rows: _,
+            bins: _,
+            t: _,
+            have: _,
+            fine: _,
+        } => false,
+        Feed::Refused { number: _ } => true,
+    }
 }
 
 // Inner: the input has ended. Whatever input came, the answer is its number, and where that is 0, the flux is that of its rows.

@@ -2,6 +2,7 @@
 //
 // Document 01, The reporting program. What is put is proved to be the text of an input; that this input is the one on standard input, and that the
 // text is then written, is not proved: runs show it.
+use libc::STDERR_FILENO;
 use libc::STDOUT_FILENO;
 use report::MOST_REPORTED;
 use report_answer::curve_room;
@@ -35,7 +36,7 @@ fn put_answer(reading: Reading, flux: &[f64], bytes: &mut [u8]) -> usize
     report_answer::put_analysis(&flux[0..rows], bytes)
 }
 
-// Reads standard input to its end and puts what is to be written of it.
+// Reads standard input, to its end or until it is refused, and puts what is to be written of it.
 fn answer(flux: &mut [f64], bytes: &mut [u8]) -> usize
     requires { ⌜ (mostReported ≤ length (now flux)) × (textRoom ≤ length (now bytes)) ⌝ }
     ensures { λ r. ⌜ Answered (now (bytes .entry)) r (now (bytes .exit)) ⌝ }
@@ -44,10 +45,13 @@ fn answer(flux: &mut [f64], bytes: &mut [u8]) -> usize
     put_answer(reading, flux, bytes)
 }
 
-// Reads standard input to its end and writes the report of it, or its refusal.
+// Reads standard input, to its end or until it is refused, and writes the report of it, or its refusal. A program has no status: what was not written
+// whole is told on standard error, and ./report, which writes the text itself, ends with a status.
 pub fn report() {
     let mut flux = curve_room();
     let mut text = text_room();
     let end = answer(&mut flux, &mut text);
-    io::write_all(STDOUT_FILENO, &text[0..end]);
+    if !io::write_all(STDOUT_FILENO, &text[0..end]) {
+        io::write_all(STDERR_FILENO, b"report: the answer was not written whole\n");
+    }
 }

@@ -1,4 +1,4 @@
--- An input that is read to its end, and the zeros that are kept before its first row. Assumes nothing.
+-- An input as it is read, and the zeros that are kept before its first row. Assumes nothing.
 use mathlib.Core.Path.{_≡_, refl}
 use mathlib.Core.Bool.{true}
 use mathlib.Core.List.{List, [], _++_}

@@ -49,6 +49,27 @@ returns c = coming-told (c .closed .ensures) (c .before .before .before .before 
 pass-on-requires : tie.Need-pass-on-requires Inv-loop μ-loop
 pass-on-requires c κs = (c .before .before .before .before .before .count .ensures .0 .0, c .before .before .before .before .before .before .before .before .before .before .before .before .loop .inv .4 .fed .ready)
 
+decided-requires : tie.Need-decided-requires Inv-loop μ-loop
+decided-requires c κs = tt
+
+closed-requires-2 : tie.Need-closed-requires-2 Inv-loop μ-loop
+closed-requires-2 c κs = tt
+
+same-length-5 : tie.Need-same-length-5 Inv-loop μ-loop
+same-length-5 c = c .before .before .before .before .before .before .before .before .before .before .before .before .before .before .before .before .before .before .before .read .kept .1 .0 ∙ c .before .before .before .before .before .before .before .before .before .before .before .before .before .before .before .before .before .before .before .before .before .before .loop .inv .0
+
+same-length-6 : tie.Need-same-length-6 Inv-loop μ-loop
+same-length-6 c = c .before .before .before .before .before .before .before .before .before .pass-on .kept .1 .1 .1 .0 ∙ c .before .before .before .before .before .before .before .before .before .before .before .before .before .before .before .before .before .before .before .before .before .before .loop .inv .1
+
+same-length-7 : tie.Need-same-length-7 Inv-loop μ-loop
+same-length-7 c = c .before .before .before .before .before .before .before .before .before .pass-on .kept .1 .1 .1 .1 .0 ∙ c .before .before .before .before .before .before .before .before .before .before .before .before .before .before .before .before .before .before .before .before .before .before .loop .inv .2
+
+same-length-8 : tie.Need-same-length-8 Inv-loop μ-loop
+same-length-8 c = c .before .before .before .before .before .before .before .before .before .pass-on .kept .1 .1 .1 .1 .1 .0 ∙ c .before .before .before .before .before .before .before .before .before .before .before .before .before .before .before .before .before .before .before .before .before .before .loop .inv .3
+
+returns-2 : tie.Need-returns-2 Inv-loop μ-loop
+returns-2 c = coming-told (c .closed2 .ensures) (coming-more (c .before .before .before .before .before .before .before .before .before .pass-on .ensures) (c .before .before .before .before .before .before .before .before .before .before .before .before .before .before .before .before .before .before .before .before .before .before .loop .inv .4))
+
 sub-turns : tie.Need-sub-turns Inv-loop μ-loop
 sub-turns c = omega arith
 
@@ -57,32 +78,32 @@ loop-less c = omega arith
 
 loop-again : tie.Need-loop-again Inv-loop μ-loop
 loop-again c =
-    let l = c .before .before .before .before .before .before .before .before .before .before .before .before .before .before .before .before .before .before .before .loop in
-    let taken = c .before .before .before .before .before .before .pass-on in (
-      c .before .before .before .before .before .before .before .before .before .before .before .before .before .before .before .before .read .kept .1 .0 ∙ l .inv .0,
+    let l = c .before .before .before .before .before .before .before .before .before .before .before .before .before .before .before .before .before .before .before .before .before .loop in
+    let taken = c .before .before .before .before .before .before .before .before .pass-on in (
+      c .before .before .before .before .before .before .before .before .before .before .before .before .before .before .before .before .before .before .read .kept .1 .0 ∙ l .inv .0,
       taken .kept .1 .1 .1 .0 ∙ l .inv .1,
       taken .kept .1 .1 .1 .1 .0 ∙ l .inv .2,
       taken .kept .1 .1 .1 .1 .1 .0 ∙ l .inv .3,
       coming-more (taken .ensures) (l .inv .4),
     )
 
-closed-requires-2 : tie.Need-closed-requires-2 Inv-loop μ-loop
-closed-requires-2 c κs = tt
+closed-requires-3 : tie.Need-closed-requires-3 Inv-loop μ-loop
+closed-requires-3 c κs = tt
 
-same-length-5 : tie.Need-same-length-5 Inv-loop μ-loop
-same-length-5 c = c .before .before .loop .inv .0
+same-length-9 : tie.Need-same-length-9 Inv-loop μ-loop
+same-length-9 c = c .before .before .loop .inv .0
 
-same-length-6 : tie.Need-same-length-6 Inv-loop μ-loop
-same-length-6 c = c .before .before .loop .inv .1
+same-length-10 : tie.Need-same-length-10 Inv-loop μ-loop
+same-length-10 c = c .before .before .loop .inv .1
 
-same-length-7 : tie.Need-same-length-7 Inv-loop μ-loop
-same-length-7 c = c .before .before .loop .inv .2
+same-length-11 : tie.Need-same-length-11 Inv-loop μ-loop
+same-length-11 c = c .before .before .loop .inv .2
 
-same-length-8 : tie.Need-same-length-8 Inv-loop μ-loop
-same-length-8 c = c .before .before .loop .inv .3
+same-length-12 : tie.Need-same-length-12 Inv-loop μ-loop
+same-length-12 c = c .before .before .loop .inv .3
 
-returns-2 : tie.Need-returns-2 Inv-loop μ-loop
-returns-2 c = coming-told (c .closed2 .ensures) (c .before .before .loop .inv .4)
+returns-3 : tie.Need-returns-3 Inv-loop μ-loop
+returns-3 c = coming-told (c .closed3 .ensures) (c .before .before .loop .inv .4)
 
 pub read-all-spec : {M : Type 1} → statement M
 read-all-spec =
@@ -101,12 +122,19 @@ read-all-spec =
     same-length-4
     returns
     pass-on-requires
-    sub-turns
-    loop-less
-    loop-again
+    decided-requires
     closed-requires-2
     same-length-5
     same-length-6
     same-length-7
     same-length-8
-    returns-2)
+    returns-2
+    sub-turns
+    loop-less
+    loop-again
+    closed-requires-3
+    same-length-9
+    same-length-10
+    same-length-11
+    same-length-12
+    returns-3)
