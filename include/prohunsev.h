@@ -3,7 +3,7 @@
  * Each function is named ph_ and the name of the proved call behind it, and does what that call promises: crates/capi holds the
  * statements, docs/PROMISES.md says what they mean. What follows are the rules that all of them share.
  *
- * Numbers of refusal. Every function returns one of these, the lowest that applies:
+ * Numbers of refusal. Every function but ph_version returns one of these, the lowest that applies; each has a name below:
  *   0  answered ("no tempo" and "no stability" are answers)
  *   1  a number is out of bounds: a rate outside 1 to 192,000, more than 1,048,576 magnitude rows or slots of an input that is an envelope,
  *      a flux or the curve of ph_suppress_close_peaks, bins outside 1 to 4,096, more than 50,000 feature rows or slots of ph_boundaries'
@@ -19,9 +19,14 @@
  *
  * Slices. A slice is a pointer and a length in slots, one behind the other: `const double *flux, size_t flux_len`. An output
  * or work slice may be longer than its formula; slots behind it are neither read nor written. A pointer to a single number, and an array of
- * three, has no length. What a pointer must be: not null, also where the length is 0; aligned for its type; good for its length; and
- * what a function writes must overlap nothing else that is lent to the same call. C cannot check this and neither does the library:
- * the proofs hold of callers that keep it.
+ * three, has no length, and is never null. What a pointer must be: aligned for its type; good for its length; and what a function writes
+ * must overlap nothing else that is lent to the same call. C cannot check this and neither does the library: the proofs hold of callers that
+ * keep it, and that lend no null.
+ *
+ * Empty slices. Null with length 0 is taken as an empty slice, as an empty std::vector's data() may give it. This is tried, for every slice
+ * of every function (tests/c/empty.c), and not proved: the proofs speak of pointers that are not null. The compiler is told of none that it
+ * isn't null, and a slice of length 0 isn't read. Who wants to stand on the proofs alone lends the address of any variable of the slot's
+ * type. Null with another length is a fault, as with any pointer that isn't good for its length.
  *
  * Room, in slots. N is the number of magnitude rows or the length of an envelope, F the number of feature rows, L = max_lag - min_lag
  * + 1 by ph_lag_range (338 at 48,000 samples a second and 30 to 300 bpm):
@@ -45,7 +50,11 @@
  * Times. A magnitude row is a frame: 1,024 samples, 256 after the one before it. Frame t's centre is at (256 t + 512) / rate seconds.
  * A feature row has 16 values and is `length` samples long. Beats and lags are counted in frames.
  *
- * Linking. On x86-64: `rt staticlib capi`, then target/staticlib/libcapi.a. On another processor: `tools/native capi capi.o`.
+ * Linking. `tools/library` makes lib/libprohunsev.a and lib/libprohunsev.so for this processor, `tools/library PREFIX` installs them with
+ * this header and a file for pkg-config. The library needs memcpy and memset of libc, and nothing else. examples/c/tag.c has a command line.
+ *
+ * Versions. PROHUNSEV_VERSION is the version of this header, ph_version() that of the library linked: compare them once, where a program
+ * begins, since a library of another version may have other parameters under the same names.
  */
 #ifndef PROHUNSEV_H
 #define PROHUNSEV_H
@@ -56,6 +65,48 @@
 #ifdef __cplusplus
 extern "C" {
 #endif
+
+/* ---- the version, the numbers of refusal and the limits, each as the library has it (tools/header holds them to the source) */
+
+/* major * 1,000,000 + minor * 1,000 + patch: 0.1.0 */
+#define PROHUNSEV_VERSION 1000u
+
+/* what a function returns */
+#define PROHUNSEV_ANSWERED 0u
+#define PROHUNSEV_OUT_OF_BOUNDS 1u
+#define PROHUNSEV_WRONG_LENGTH 2u
+#define PROHUNSEV_TOO_LITTLE_ROOM 3u
+#define PROHUNSEV_WRONG_VALUE 4u
+
+/* what ph_beat_grid writes in `back` for a frame with no beat before it */
+#define PROHUNSEV_NO_LINK 4294967295u
+
+/* samples of a frame, and from one frame to the next */
+#define PROHUNSEV_FRAME 1024u
+#define PROHUNSEV_HOP 256u
+/* values of a feature row, and similarity slots of one: a row with itself and with the sixteen after it */
+#define PROHUNSEV_FEATURE_WIDTH 16u
+#define PROHUNSEV_SIMILARITY_WIDTH 17u
+/* the most that is taken: samples a second (the least is 1), magnitude rows or slots, bins (the least is 1), a listed frame, a period or
+ * lag in frames, feature rows, samples of a feature row (the least is 1, the most 2^31) */
+#define PROHUNSEV_MOST_RATE 192000u
+#define PROHUNSEV_MOST_ROWS 1048576u
+#define PROHUNSEV_MOST_BINS 4096u
+#define PROHUNSEV_MOST_FRAME 1048575u
+#define PROHUNSEV_MOST_PERIOD 45000u
+#define PROHUNSEV_MOST_FEATURE_ROWS 50000u
+#define PROHUNSEV_MOST_FEATURE_LENGTH 2147483648u
+/* the largest size of a magnitude, 2^126, and of a value of an envelope, curve, median or feature row, 2^150 */
+#define PROHUNSEV_MOST_MAGNITUDE 85070591730234615865843651857942052864.0f
+#define PROHUNSEV_MOST_VALUE 1427247692705959881058285969449495136382746624.0
+/* the usual bounds of a tempo, in beats a minute: min_bpm and max_bpm */
+#define PROHUNSEV_MIN_BPM 30.0
+#define PROHUNSEV_MAX_BPM 300.0
+
+/* The version of the library that is linked, as PROHUNSEV_VERSION is written: where the two differ, this header is not the library's.
+ * Room: none.
+ * Refuses nothing: what it returns is no number of refusal. */
+uint32_t ph_version(void);
 
 /* ---- medians */
 
@@ -105,16 +156,19 @@ uint32_t ph_frame_times(const uint32_t *frames, size_t frames_len, uint32_t rate
  * Refuses 1 for the rate or a bound that isn't finite. */
 uint32_t ph_lag_range(uint32_t rate, double min_bpm, double max_bpm, size_t *min_lag, size_t *max_lag);
 
-/* The tempo of an envelope with this many onsets: *found is 0 without one, and then *bpm and *clarity are 0, or 1; and *count candidates, the
- * winner first, unused ones 0. Room: L slots each of clarity_curve and weight_curve, which then hold the lag curves (unchanged where the envelope
- * is too short, has fewer than two onsets or is flat), and of work, unchanged. Refuses 1 for the length, the rate or a bound, 3, and 4 for a value. */
+/* The tempo of an envelope with this many onsets. With a tempo: *found is 1, *bpm and *clarity are its, and lags and saliences begin with
+ * *count candidates, 1 to 3, the winner first, the slots behind them 0. Without a tempo: *found, *bpm, *clarity, *count and all slots are 0.
+ * Room: L slots each of clarity_curve and weight_curve, which then hold the lag curves (unchanged where the envelope is too short, has fewer
+ * than two onsets or is flat), and of work, unchanged.
+ * Refuses 1 for the length, the rate or a bound, 3, and 4 for a value. */
 uint32_t ph_estimate(const double *envelope, size_t envelope_len, size_t onsets, uint32_t rate, double min_bpm, double max_bpm,
                      double *clarity_curve, size_t clarity_curve_len, double *weight_curve, size_t weight_curve_len, double *work, size_t work_len,
                      uint32_t *found, double *bpm, double *clarity, size_t lags[3], double saliences[3], size_t *count);
 
-/* In how many of up to four windows the tempo is heard again: *found is 0 without a stability, and then the others are 0, or 1, and *fraction is
- * *agreeing / *windows. whole_lag is the winning candidate's lag, 0 for no tempo. Room: L slots each of clarity_curve, weight_curve and work, which hold
- * anything where *found is 1 and else stay as they were. Refuses 1 for the length, the rate, a bound or a lag above 45,000, 3, and 4 for a value. */
+/* In how many of up to four windows the tempo is heard again; whole_lag is the winning candidate's lag, 0 for no tempo.
+ * With a stability: *found is 1, *agreeing of *windows agree, and *fraction is *agreeing / *windows. Without one: all four numbers are 0.
+ * Room: L slots each of clarity_curve, weight_curve and work, which hold anything where *found is 1 and else stay as they were.
+ * Refuses 1 for the length, the rate, a bound or a lag above 45,000, 3, and 4 for a value. */
 uint32_t ph_stability_of(const double *envelope, size_t envelope_len, uint32_t rate, double min_bpm, double max_bpm, size_t whole_lag,
                          double *clarity_curve, size_t clarity_curve_len, double *weight_curve, size_t weight_curve_len, double *work, size_t work_len,
                          uint32_t *found, double *fraction, size_t *agreeing, size_t *windows);
@@ -133,7 +187,7 @@ uint32_t ph_beat_grid(const double *envelope, size_t envelope_len, size_t period
 uint32_t ph_downbeats(const double *envelope, size_t envelope_len, const uint32_t *beats, size_t beats_len,
                       uint32_t *frames, size_t frames_len, size_t *count);
 
-/* Where a time lies: *found is 0 before the first downbeat, and then *bar and *beat are 0, or 1, and both count from 1.
+/* Where a time lies. From the first downbeat on: *found is 1, and *bar and *beat count from 1. Before it: *found, *bar and *beat are 0.
  * The two lists hold times in the unit of `time`; any double will do in each place, in any order, and both tests have a slack of 0.000001.
  * Refuses nothing. */
 uint32_t ph_bar_beat_at(double time, const double *downbeats, size_t downbeats_len, const double *beats, size_t beats_len,
@@ -151,8 +205,9 @@ uint32_t ph_similarity(const double *features, size_t features_len, size_t rows,
  * Refuses 1 for rows above 50,000, 2 where there aren't 17 rows similarities, 3, and 4 for one outside -1 to 1. */
 uint32_t ph_novelty(const double *similarity, size_t similarity_len, size_t rows, double *novelty, size_t novelty_len);
 
-/* Lists the rows at which a section begins, ascending, at most max_sections - 1: *sections, *count of boundaries, and how far they stand out, 0 to 1.
- * A row of features is `length` samples long. Room: novelty_len slots of rows, and of work, which then hold anything; where novelty_len is below 16 work stays.
+/* Lists the rows at which a section begins, ascending, *count of them, at most max(1, max_sections) - 1; *sections is how many sections they
+ * make, and *confidence how far they stand out, 0 to 1. A row of features is `length` samples long.
+ * Room: novelty_len slots of rows, and of work, which then hold anything; where novelty_len is below 16 work stays as it was.
  * Refuses 1 for the length of novelty, a row's length or the rate, 3, and 4 for a value. */
 uint32_t ph_boundaries(const double *novelty, size_t novelty_len, uint64_t length, uint32_t rate, size_t max_sections,
                        uint32_t *rows, size_t rows_len, double *work, size_t work_len, size_t *sections, size_t *count, double *confidence);
@@ -164,16 +219,18 @@ uint32_t ph_boundary_times(const uint32_t *rows, size_t rows_len, uint64_t lengt
 
 /* ---- repairs */
 
-/* Replaces the rows from start on by the new ones, mends flux and threshold, those of the old rows, to what a full run on the edited rows gives, and names the slots written.
- * Room: rows slots each of flux and threshold, and min(21, rows) of work, which then hold anything. No new rows: nothing changes, and all four are 0.
+/* Replaces the rows from start on by the new ones, mends flux and threshold, those of the old rows, to what a full run on the edited rows
+ * gives, and names the slots written, from each *_first up to and without its *_past. No new rows: nothing changes, and all four are 0.
+ * Room: rows slots each of flux and threshold, and min(21, rows) of work, which then hold anything.
  * Refuses 1 for rows, bins or a start above rows, 2 for a length, 3, and 4 for a magnitude, old or new, or one of the first rows values of a curve. */
 uint32_t ph_patch_magnitudes(float *magnitudes, size_t magnitudes_len, size_t rows, size_t bins, size_t start,
                              const float *new_rows, size_t new_rows_len, double *flux, size_t flux_len, double *threshold, size_t threshold_len,
                              double *work, size_t work_len,
                              size_t *flux_first, size_t *flux_past, size_t *threshold_first, size_t *threshold_past);
 
-/* Replaces the feature rows from start on by the new ones, mends similarity and novelty, those of the old rows, to what a full run on the edited rows gives, and names the slots.
- * Room: 17 rows slots of similarity and rows of novelty. No new rows: nothing changes, and all four are 0.
+/* Replaces the feature rows from start on by the new ones, mends similarity and novelty, those of the old rows, to what a full run on the
+ * edited rows gives, and names the slots, from each *_first up to and without its *_past. No new rows: nothing changes, and all four are 0.
+ * Room: 17 rows slots of similarity and rows of novelty.
  * Refuses 1 for rows or a start above rows, 2 for a length, 3, and 4 for a feature, old or new, or a value of a curve up to its formula. */
 uint32_t ph_patch_features(double *features, size_t features_len, size_t rows, size_t start, const double *new_rows, size_t new_rows_len,
                            double *similarity, size_t similarity_len, double *novelty, size_t novelty_len,
@@ -181,13 +238,16 @@ uint32_t ph_patch_features(double *features, size_t features_len, size_t rows, s
 
 /* ---- a whole track */
 
-/* The room of a whole analysis: *row_slots each for flux, threshold, onsets, score, back, beats and downbeats, *lag_slots for each of the four lag curves, *work_slots for work.
+/* The room of a whole analysis: *row_slots each for flux, threshold, onsets, score, back, beats and downbeats, *lag_slots for each of the
+ * four lag curves, *work_slots for work.
  * With exactly this room neither analysis below refuses with 3; with one slot fewer in a slice that it is lent it does, unless a lower number applies.
  * Refuses 1 for rows above 1,048,576, the rate or a bound that isn't finite. */
 uint32_t ph_room_of(size_t rows, uint32_t rate, double min_bpm, double max_bpm, size_t *row_slots, size_t *lag_slots, size_t *work_slots);
 
-/* Onsets, tempo, candidates, stability, beats and downbeats of an envelope, as the calls above give them one after the other; *steady is ph_stability_of's *found.
- * No tempo: no stability, no beat. Room: by ph_room_of. With a stability both window slices and work then hold anything; else only min(21, N) slots of work do.
+/* Onsets, tempo, candidates, stability, beats and downbeats of an envelope, as the calls above give them one after the other: *found and what
+ * follows it up to *count are ph_estimate's, *steady is the *found of ph_stability_of. Without a tempo there is no stability and no beat.
+ * Room: by ph_room_of; with a stability window_clarity, window_weight and work then hold anything, in those slots, else only min(21, N) slots
+ * of work do.
  * Refuses 1 for the length, the rate or a bound, 3, and 4 for a value; a threshold above 2^150, made from a lent envelope that large, refuses nothing here. */
 uint32_t ph_analyse_envelope(const double *envelope, size_t envelope_len, uint32_t rate, double min_bpm, double max_bpm,
                              double *threshold, size_t threshold_len, uint32_t *onsets, size_t onsets_len,

@@ -24,6 +24,7 @@ import ctypes
 import operator
 import os
 import pathlib
+import site
 import sys
 import threading
 from typing import NamedTuple, Optional
@@ -130,16 +131,41 @@ class PatchedFeatures(NamedTuple):
 # ---- the library
 
 
+# the version of the library that this module is written for: major * 1,000,000 + minor * 1,000 + patch
+_VERSION = 1_000
+_REMEDY = "run tools/library in a clone of this module's source, which compiles it, or name another shared library in PROHUNSEV_LIBRARY"
+
+
 def _load():
-    """The shared library: PROHUNSEV_LIBRARY, or beside this file, or where tools/callers leaves it."""
-    here = pathlib.Path(__file__).resolve().parent
-    given = os.environ.get("PROHUNSEV_LIBRARY")
-    places = [pathlib.Path(given)] if given else [here / "libprohunsev.so", here.parent / "target/native/libprohunsev.so"]
-    for place in places:
-        if place.is_file():
-            return ctypes.CDLL(str(place.resolve()))  # a bare name would be looked for elsewhere
-    raise ImportError("the proved functions are not compiled yet: run tools/callers once, or name the shared library in PROHUNSEV_LIBRARY."
-                      f" Looked for: {', '.join(map(str, places))}")
+    """The shared library: PROHUNSEV_LIBRARY, or the first that is found beside this file, in its clone's lib/ (tools/library), where
+    tools/callers leaves it, under this Python's prefix, under the user's, or where the loader looks. Another version is an ImportError."""
+    here, given = pathlib.Path(__file__).resolve().parent, os.environ.get("PROHUNSEV_LIBRARY")
+    soname = f"libprohunsev.so.{_VERSION // 1_000_000}"
+    if given:
+        places = [pathlib.Path(given)]
+    else:
+        places = [here / "libprohunsev.so", here.parent / "lib/libprohunsev.so", here.parent / "target/native/libprohunsev.so",
+                  pathlib.Path(sys.prefix, "lib", soname), pathlib.Path(site.getuserbase(), "lib", soname)]
+    place = next((place for place in places if place.is_file()), None)
+    if given and not place:
+        raise ImportError(f"PROHUNSEV_LIBRARY names {given}, which is no file: {_REMEDY}")
+    try:
+        # a bare name of a file that was found would be looked for elsewhere
+        library = ctypes.CDLL(str(place.resolve()) if place else soname)
+    except OSError as error:
+        if place:
+            raise ImportError(f"{place} cannot be loaded: {error}; {_REMEDY}") from None
+        raise ImportError(f"the proved functions are not compiled yet, or not where this module looks: {_REMEDY}. Looked for:"
+                          f" {', '.join(map(str, places))}, and {soname} where the loader looks") from None
+    try:
+        version = library.ph_version
+    except AttributeError:
+        raise ImportError(f"{place or soname} has no ph_version, so it was made of older source than this module: {_REMEDY}") from None
+    version.restype, version.argtypes = ctypes.c_uint32, []
+    if version() != _VERSION:
+        texts = [f"{v // 1_000_000}.{v // 1_000 % 1_000}.{v % 1_000}" for v in (version(), _VERSION)]
+        raise ImportError(f"{place or soname} is version {texts[0]}, and this module is written for {texts[1]}: {_REMEDY}")
+    return library
 
 
 _library = _load()

@@ -324,7 +324,7 @@ class Declarations(unittest.TestCase):
         text = re.sub(r"/\*.*?\*/", "", self.HEADER.read_text(), flags=re.S)
         for name, parameters in re.findall(r"uint32_t ph_(\w+)\(([^)]*)\);", text):
             words = []
-            for parameter in parameters.split(","):
+            for parameter in parameters.split(",") if parameters != "void" else []:
                 const, kind, pointer, many = re.fullmatch(r"(const )?(\w+) (\*)?\w+(?:\[(\d+)\])?", " ".join(parameter.split())).groups()
                 words.append((bool(pointer or many) and ("read" if const else "written"), self.TYPES[kind], int(many or 1)))
             yield name, words
@@ -351,6 +351,9 @@ class Declarations(unittest.TestCase):
             "analyse_magnitudes": (f, 1, 1, 1, OPTS),
         }
         declared, buffers = dict(self.declared()), ph.Buffers(1, 1)
+        # what the module asks the library as it loads, with types of its own
+        version = ph._library.ph_version
+        self.assertEqual((declared.pop("version"), version.argtypes, version.restype), ([], [], ctypes.c_uint32))
         self.assertEqual(words.keys(), declared.keys())
         for call, given in words.items():
             seen = []
@@ -480,7 +483,7 @@ class Lending(unittest.TestCase):
         tried = subprocess.run([sys.executable, "-B", "-c", "import prohunsev"], cwd=here, capture_output=True, text=True,
                                env={**os.environ, "PROHUNSEV_LIBRARY": "/nowhere/lib.so"})
         self.assertEqual(tried.returncode, 1)
-        self.assertIn("ImportError: the proved functions are not compiled yet: run tools/callers", tried.stderr)
+        self.assertIn("ImportError: PROHUNSEV_LIBRARY names /nowhere/lib.so, which is no file: run tools/library", tried.stderr)
 
 
 class Patches(unittest.TestCase):

@@ -6,6 +6,7 @@ use prohunsev::{lag_range, rooms, LagRange, TempoOpts};
 use std::ops::Range;
 
 extern "C" {
+    fn ph_version() -> u32;
     fn ph_median_of(values: *const f64, n: usize, work: *mut f64, room: usize, median: *mut f64) -> u32;
     fn ph_mad_of(values: *const f64, n: usize, median: f64, work: *mut f64, room: usize, mad: *mut f64) -> u32;
     #[rustfmt::skip]
@@ -344,6 +345,12 @@ macro_rules! call {
             reach: $module::reach,
         }
     };
+}
+
+/// The version of the library that is linked: major * 1,000,000 + minor * 1,000 + patch. It takes nothing, so there is nothing to guard.
+pub fn version() -> u32 {
+    // it takes nothing, and returns a constant
+    unsafe { ph_version() }
 }
 
 pub const CALLS: [Call; 22] = [

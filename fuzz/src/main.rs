@@ -187,6 +187,7 @@ fn never(call: &Call, tally: &Tally) -> Vec<String> {
 }
 
 fn run(list: &[&Call], seed: u64, count: u64) -> bool {
+    println!("the library is version {} (ph_version)", calls::version());
     println!("seed {seed}, {count} inputs a call and those at the bounds, each with guards behind and before");
     println!(
         "{:24}{:>10}{:>10}{:>9}{:>9}{:>9}{:>9}{:>8}",

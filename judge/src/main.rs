@@ -265,7 +265,7 @@ fn together(seed: u64) -> Vec<(&'static str, Tally)> {
 
 fn run(seed: u64, only: &[&str]) -> bool {
     differences::tell();
-    println!("seed {seed}");
+    println!("seed {seed}, the library is version {} (ph_version)", port::version());
     println!(
         "{:24}{:>10}{:>10}{:>10}{:>8}{:>8}{:>8}{:>8}{:>13}",
         "call", "calls", "answered", "not empty", "no. 1", "no. 2", "no. 3", "no. 4", "differences"

@@ -11,6 +11,7 @@ pub struct Outcome {
 }
 
 unsafe extern "C" {
+    fn ph_version() -> u32;
     fn ph_median_of(values: *const f64, n: usize, work: *mut f64, room: usize, median: *mut f64) -> u32;
     fn ph_mad_of(values: *const f64, n: usize, median: f64, work: *mut f64, room: usize, mad: *mut f64) -> u32;
     fn ph_spectral_flux(magnitudes: *const f32, n: usize, rows: usize, bins: usize, flux: *mut f64, room: usize) -> u32;
@@ -247,6 +248,12 @@ unsafe extern "C" {
         novelty_first: *mut usize,
         novelty_past: *mut usize,
     ) -> u32;
+}
+
+/// The version of the library that is judged: major * 1,000,000 + minor * 1,000 + patch.
+pub fn version() -> u32 {
+    // it takes nothing, and returns a constant
+    unsafe { ph_version() }
 }
 
 fn ended<const N: usize>(number: u32, answers: Vec<u64>, slots: [Vec<u64>; N], harm: bool) -> Outcome {

@@ -3,6 +3,9 @@
 //! A slice is a pointer and a length. What each may do to the memory behind its pointers is proved: it reads and writes inside the
 //! slices lent, keeps no pointer, allocates nothing and has no state of its own.
 extern "C" {
+    // build.rs calls it, of the library that it is about to link, and the test below once it is linked
+    #[allow(dead_code)]
+    pub fn ph_version() -> u32;
     pub fn ph_median_of(values: *const f64, n: usize, work: *mut f64, work_slots: usize, median: *mut f64) -> u32;
     pub fn ph_mad_of(
         values: *const f64,
@@ -274,4 +277,16 @@ extern "C" {
         beat_count: *mut usize,
         downbeat_count: *mut usize,
     ) -> u32;
+}
+
+#[cfg(test)]
+mod tests {
+    #[test]
+    fn the_library_is_of_this_crates_version() {
+        let part = |text: &str| text.parse::<u32>().expect("cargo gives whole numbers");
+        let (major, minor) = (part(env!("CARGO_PKG_VERSION_MAJOR")), part(env!("CARGO_PKG_VERSION_MINOR")));
+        let version = major * 1_000_000 + minor * 1_000 + part(env!("CARGO_PKG_VERSION_PATCH"));
+        // takes nothing, and returns a constant
+        assert_eq!(unsafe { super::ph_version() }, version);
+    }
 }

@@ -76,6 +76,40 @@ static uint32_t next(uint32_t *state)
     return *state >> 16;
 }
 
+/* the header's constants: the version is the library's, and each limit is taken, and not what is one above it */
+static void constants(struct run *run)
+{
+    const uint32_t last[1] = {PROHUNSEV_MOST_FRAME}, past[1] = {PROHUNSEV_MOST_FRAME + 1};
+    const uint32_t last_row[1] = {PROHUNSEV_MOST_FEATURE_ROWS - 1}, past_row[1] = {PROHUNSEV_MOST_FEATURE_ROWS};
+    float loud[1] = {PROHUNSEV_MOST_MAGNITUDE}, louder[1] = {nextafterf(PROHUNSEV_MOST_MAGNITUDE, INFINITY)};
+    double large[1] = {PROHUNSEV_MOST_VALUE}, larger[1] = {nextafter(PROHUNSEV_MOST_VALUE, INFINITY)};
+    double slot[1], work[1];
+    uint32_t back[1], listed[1];
+    size_t low, high, slots, count;
+
+    CHECK(ph_version() == PROHUNSEV_VERSION);
+    CHECK(ph_frame_times(last, 1, PROHUNSEV_MOST_RATE, slot, 1) == PROHUNSEV_ANSWERED);
+    CHECK(ph_frame_times(past, 1, PROHUNSEV_MOST_RATE, slot, 1) == PROHUNSEV_OUT_OF_BOUNDS);
+    CHECK(ph_frame_times(last, 1, PROHUNSEV_MOST_RATE + 1, slot, 1) == PROHUNSEV_OUT_OF_BOUNDS);
+    CHECK(ph_frame_times(last, 1, PROHUNSEV_MOST_RATE, slot, 0) == PROHUNSEV_TOO_LITTLE_ROOM);
+    CHECK(ph_frame_times(last, 1, 48000, slot, 1) == 0);
+    CHECK(slot[0] == ((double)PROHUNSEV_MOST_FRAME * PROHUNSEV_HOP + PROHUNSEV_FRAME / 2.0) / 48000.0 * 1000.0);
+    CHECK(ph_room_of(PROHUNSEV_MOST_ROWS, 48000, PROHUNSEV_MIN_BPM, PROHUNSEV_MAX_BPM, &low, &high, &slots) == 0);
+    CHECK(ph_room_of(PROHUNSEV_MOST_ROWS + 1, 48000, PROHUNSEV_MIN_BPM, PROHUNSEV_MAX_BPM, &low, &high, &slots) == 1);
+    CHECK(ph_spectral_flux(loud, 0, 0, PROHUNSEV_MOST_BINS, slot, 1) == 0);
+    CHECK(ph_spectral_flux(loud, 0, 0, PROHUNSEV_MOST_BINS + 1, slot, 1) == 1);
+    CHECK(ph_spectral_flux(loud, 1, 2, 1, slot, 1) == PROHUNSEV_WRONG_LENGTH);
+    CHECK(ph_spectral_flux(loud, 1, 1, 1, slot, 1) == 0);
+    CHECK(ph_spectral_flux(louder, 1, 1, 1, slot, 1) == PROHUNSEV_WRONG_VALUE);
+    CHECK(ph_median_of(large, 1, work, 1, slot) == 0);
+    CHECK(ph_median_of(larger, 1, work, 1, slot) == PROHUNSEV_WRONG_VALUE);
+    CHECK(ph_beat_grid(large, 1, PROHUNSEV_MOST_PERIOD + 1, slot, 1, back, 1, listed, 1, &count) == 1);
+    CHECK(ph_beat_grid(large, 1, PROHUNSEV_MOST_PERIOD, slot, 1, back, 1, listed, 1, &count) == 0);
+    CHECK(ph_boundary_times(last_row, 1, PROHUNSEV_MOST_FEATURE_LENGTH, 48000, slot, 1) == 0);
+    CHECK(ph_boundary_times(past_row, 1, PROHUNSEV_MOST_FEATURE_LENGTH, 48000, slot, 1) == 1);
+    CHECK(ph_boundary_times(last_row, 1, (uint64_t)PROHUNSEV_MOST_FEATURE_LENGTH + 1, 48000, slot, 1) == 1);
+}
+
 static void medians(struct run *run)
 {
     const double values[4] = {4.0, 2.0, 3.0, 1.0};
@@ -191,18 +225,21 @@ static void tempo(struct run *run)
     CHECK(ph_lag_range(RATE, 30.0, 300.0, &least, &most) == 0 && most - least + 1 == L);
     poison(clarity_curve, L + 2), poison(weight_curve, L + 2), poison(work, L + 2);
 
-    CHECK(ph_estimate(envelope, N, 12, RATE, 30.0, 300.0, clarity_curve, L, weight_curve, L - 1, work, L, &found, &bpm, &clarity, lags, saliences, &count) == 3);
+    CHECK(ph_estimate(envelope, N, 12, RATE, 30.0, 300.0, clarity_curve, L, weight_curve, L - 1, work, L, &found, &bpm, &clarity, lags,
+                      saliences, &count) == 3);
     CHECK(ph_estimate(envelope, N, 12, RATE, 30.0, INFINITY, clarity_curve, L, weight_curve, L, work, L, &found, &bpm, &clarity, lags, saliences, &count) == 1);
     CHECK(found == POISON_FRAME && bpm == POISON && clarity == POISON && count == POISON_SIZE);
     CHECK(lags[0] == POISON_SIZE && lags[2] == POISON_SIZE && saliences[0] == POISON && saliences[2] == POISON);
     CHECK(kept(clarity_curve, 0, L + 2) && kept(weight_curve, 0, L + 2) && kept(work, 0, L + 2));
 
     /* one onset is no tempo: an answer, and the curves stay */
-    CHECK(ph_estimate(envelope, N, 1, RATE, 30.0, 300.0, clarity_curve, L + 2, weight_curve, L + 2, work, L + 2, &found, &bpm, &clarity, lags, saliences, &count) == 0);
+    CHECK(ph_estimate(envelope, N, 1, RATE, 30.0, 300.0, clarity_curve, L + 2, weight_curve, L + 2, work, L + 2, &found, &bpm, &clarity,
+                      lags, saliences, &count) == 0);
     CHECK(found == 0 && bpm == 0.0 && clarity == 0.0 && count == 0 && lags[0] == 0 && lags[2] == 0 && saliences[0] == 0.0 && saliences[2] == 0.0);
     CHECK(kept(clarity_curve, 0, L + 2) && kept(weight_curve, 0, L + 2));
 
-    CHECK(ph_estimate(envelope, N, 12, RATE, 30.0, 300.0, clarity_curve, L + 2, weight_curve, L + 2, work, L + 2, &found, &bpm, &clarity, lags, saliences, &count) == 0);
+    CHECK(ph_estimate(envelope, N, 12, RATE, 30.0, 300.0, clarity_curve, L + 2, weight_curve, L + 2, work, L + 2, &found, &bpm, &clarity,
+                      lags, saliences, &count) == 0);
     CHECK(found == 1 && bpm == 120.0 && lags[0] == 50 && saliences[0] == clarity && 1 <= count && count <= 3);
     CHECK(clarity_curve[50 - least] == clarity && 0.9 < clarity && clarity <= 1.0);
     CHECK(kept(clarity_curve, L, L + 2) && kept(weight_curve, L, L + 2) && kept(work, 0, L + 2));
@@ -213,9 +250,11 @@ static void tempo(struct run *run)
     CHECK(ph_stability_of(envelope, N, RATE, 30.0, 300.0, 50, clarity_curve, L, weight_curve, L, work, L - 1, &found, &fraction, &agreeing, &windows) == 3);
     CHECK(found == POISON_FRAME && fraction == POISON && agreeing == POISON_SIZE && windows == POISON_SIZE);
     CHECK(kept(clarity_curve, 0, L + 2) && kept(weight_curve, 0, L + 2) && kept(work, 0, L + 2));
-    CHECK(ph_stability_of(envelope, N, RATE, 30.0, 300.0, 0, clarity_curve, L + 2, weight_curve, L + 2, work, L + 2, &found, &fraction, &agreeing, &windows) == 0);
+    CHECK(ph_stability_of(envelope, N, RATE, 30.0, 300.0, 0, clarity_curve, L + 2, weight_curve, L + 2, work, L + 2, &found, &fraction,
+                          &agreeing, &windows) == 0);
     CHECK(found == 0 && fraction == 0.0 && agreeing == 0 && windows == 0);
-    CHECK(ph_stability_of(envelope, N, RATE, 30.0, 300.0, 50, clarity_curve, L + 2, weight_curve, L + 2, work, L + 2, &found, &fraction, &agreeing, &windows) == 0);
+    CHECK(ph_stability_of(envelope, N, RATE, 30.0, 300.0, 50, clarity_curve, L + 2, weight_curve, L + 2, work, L + 2, &found, &fraction,
+                          &agreeing, &windows) == 0);
     CHECK(found == 1 && windows == 2 && agreeing == 2 && fraction == 1.0);
     CHECK(kept(clarity_curve, L, L + 2) && kept(weight_curve, L, L + 2) && kept(work, L, L + 2));
 }
@@ -237,7 +276,7 @@ static void beats(struct run *run)
     CHECK(kept(score, 0, 8) && kept_frames(back, 0, 8) && kept_frames(grid, 0, 8));
     CHECK(ph_beat_grid(envelope, 6, 2, score, 8, back, 8, grid, 8, &count) == 0);
     CHECK(count == 3 && grid[0] == 1 && grid[1] == 3 && grid[2] == 5); /* M11 */
-    CHECK(back[1] == 4294967295u && back[3] == 1 && back[5] == 3);
+    CHECK(back[1] == PROHUNSEV_NO_LINK && back[3] == 1 && back[5] == 3);
     CHECK(kept(score, 6, 8) && kept_frames(back, 6, 8) && kept_frames(grid, 3, 8));
 
     count = POISON_SIZE;
@@ -291,8 +330,10 @@ static void sections(struct run *run)
     CHECK(ph_boundaries(novelty, 32, 48000, 0, 8, rows, 34, work, 34, &number, &count, &confidence) == 1);
     CHECK(ph_boundaries(novelty, 32, 48000, 48000, 8, rows, 31, work, 34, &number, &count, &confidence) == 3);
     CHECK(number == POISON_SIZE && count == POISON_SIZE && confidence == POISON && kept_frames(rows, 0, 34) && kept(work, 0, 34));
-    CHECK(ph_boundaries(novelty, 32, 48000, 48000, 1, rows, 34, work, 34, &number, &count, &confidence) == 0);
-    CHECK(number == 1 && count == 0 && confidence == 0.0 && kept_frames(rows, 0, 34));
+    for (size_t most = 0; most < 2; most++) { /* max(1, most) - 1 boundaries */
+        CHECK(ph_boundaries(novelty, 32, 48000, 48000, most, rows, 34, work, 34, &number, &count, &confidence) == 0);
+        CHECK(number == 1 && count == 0 && confidence == 0.0 && kept_frames(rows, 0, 34));
+    }
     CHECK(ph_boundaries(novelty, 32, 48000, 48000, 8, rows, 34, work, 34, &number, &count, &confidence) == 0);
     CHECK(number == 2 && count == 1 && rows[0] == 16 && 0.0 <= confidence && confidence <= 1.0);
     CHECK(kept_frames(rows, 1, 34) && kept(work, 32, 34));
@@ -467,7 +508,8 @@ static void whole_tracks(struct run *run)
 
     poison_track(whole);
     CHECK(analyse_envelope(envelope, RATE, whole, TRACK_LAGS - 1) == 3);
-    CHECK(whole->found == POISON_FRAME && whole->beat_count == POISON_SIZE && kept(whole->threshold, 0, TRACK + SPARE) && kept(whole->work, 0, TRACK_LAGS + SPARE));
+    CHECK(whole->found == POISON_FRAME && whole->beat_count == POISON_SIZE && kept(whole->threshold, 0, TRACK + SPARE) &&
+          kept(whole->work, 0, TRACK_LAGS + SPARE));
     CHECK(analyse_envelope(envelope, RATE, whole, TRACK_LAGS) == 0);
     memcpy(whole->flux, parts->flux, sizeof whole->flux);
     memcpy(whole->window_clarity, parts->window_clarity, sizeof whole->window_clarity);
@@ -482,6 +524,7 @@ static void *all(void *given)
     struct run *run = given;
 
     for (int turn = 0; turn < 50; turn++) {
+        constants(run);
         medians(run);
         onsets(run);
         close_peaks(run);
