@@ -8,18 +8,21 @@ of the right kind (an array.array, a memoryview, a NumPy array, ..), contiguous,
     uint32 frames    array('I'), numpy.uint32      lists of frames and rows, back links
 
 A slice has one dimension. Rows may have two, and then the shape must be what the call is told: (rows, bins) magnitudes, (rows, 16)
-features, (rows, 17) similarities; new rows of a patch, and a similarity that is written, may be any number of rows.
+features, (rows, 17) similarities; new rows of a patch, and a similarity that is written, may be any number of rows. A call that isn't told
+rows and bins takes them from the shape: analyse_magnitudes(magnitudes, rate=48000), spectral_flux(magnitudes, flux=flux).
 
-A call answers, or raises Refused with the number of the refusal, and then nothing that was lent has changed. A buffer of another kind,
-one that isn't contiguous, a masked array, or an output that can't be written raises TypeError; another shape, and an output that overlaps
-another slice, raises ValueError; a whole number that its C type cannot hold raises OverflowError; and none of these writes anything. A
-call that lists answers how many entries it listed: they stand first in the slice, and the slots behind them are unchanged.
+A call answers, or raises Refused with the number of the refusal and what it was refused for ("threshold: 4,095 slots lent, 4,096
+needed"), and then nothing that was lent has changed. A buffer of another kind, one that isn't contiguous, a masked array, or an output that
+can't be written raises TypeError; another shape, and an output that overlaps another slice, raises ValueError; a whole number that its C
+type cannot hold raises OverflowError; and none of these writes anything. A call that lists answers how many entries it listed: they stand
+first in the slice, and the slots behind them are unchanged.
 
 Calls hold no lock while they compute: threads run at the same time, each with outputs of its own, and may read the same inputs. A call
 that shares a slice with one of another thread that is still at work, where either writes it, raises ValueError. Only calls of this module
 are seen: that nothing else, such as NumPy in another thread, changes a lent buffer meanwhile is the caller's to see to.
 """
 import array
+import contextlib
 import ctypes
 import operator
 import os
@@ -27,7 +30,10 @@ import pathlib
 import site
 import sys
 import threading
-from typing import NamedTuple, Optional
+import warnings
+from typing import Any, Iterator, NamedTuple, Optional, Sequence, Tuple
+
+__version__ = "0.1.0"
 
 __all__ = [
     "Analysis", "BarBeat", "Buffers", "Candidate", "LagRange", "NO_LINK", "Patched", "PatchedFeatures", "Refused", "Room", "Sections",
@@ -40,9 +46,13 @@ __all__ = [
 # what beat_grid writes in `back` for a frame with no beat before it
 NO_LINK = 4_294_967_295
 
+# anything with the buffer protocol, which has no type of its own before Python 3.12
+Lent = Any
+
 
 class Refused(Exception):
-    """A call refused. `number` says why, 1 to 4, the lowest that applies; `call` is the call's name."""
+    """A call refused. `number` says why, 1 to 4, the lowest that applies; `call` is the call's name; `detail` names what was lent and what is
+    taken, and is empty where nothing more is known than the number."""
 
     WHY = {
         1: "a number is out of bounds: sample rate 1 to 192,000, at most 1,048,576 rows or slots of 1 to 4,096 bins, period at most"
@@ -54,12 +64,12 @@ class Refused(Exception):
            " similarities -1 to 1",
     }
 
-    def __init__(self, call, number):
-        super().__init__(call, number)
-        self.call, self.number = call, number
+    def __init__(self, call: str, number: int, detail: str = "") -> None:
+        super().__init__(call, number, detail)
+        self.call, self.number, self.detail = call, number, detail
 
-    def __str__(self):
-        return f"{self.call} refused with {self.number}: {self.WHY.get(self.number, 'no such number')}"
+    def __str__(self) -> str:
+        return f"{self.call} refused with {self.number}: {self.detail or self.WHY.get(self.number, 'no such number')}"
 
 
 class TempoOpts(NamedTuple):
@@ -74,7 +84,7 @@ class LagRange(NamedTuple):
     max_lag: int
 
     @property
-    def lags(self):
+    def lags(self) -> int:
         return self.max_lag - self.min_lag + 1
 
 
@@ -93,7 +103,7 @@ class Candidate(NamedTuple):
 class TempoEstimate(NamedTuple):
     """The tempo, or None, and at most three candidates, the winner first."""
     tempo: Optional[Tempo]
-    candidates: tuple
+    candidates: Tuple[Candidate, ...]
 
 
 class Stability(NamedTuple):
@@ -200,11 +210,12 @@ class _Slice:
     """An argument that is lent as a slice: its name for messages, the buffer, the kind of its values, whether it is written, and for rows
     how many there are, None for any, and how wide."""
 
-    __slots__ = ("name", "lent", "kind", "codes", "size", "written", "table")
+    __slots__ = ("name", "lent", "kind", "codes", "size", "written", "table", "shape", "slots")
 
     def __init__(self, name, lent, kind, written, *table):
         self.name, self.lent, self.written, self.table = name, lent, written, table
         self.kind, self.codes, self.size = kind
+        self.shape, self.slots = (), 0  # once it is taken
 
     def take(self, call):
         """A view of the buffer, which holds it in place until it is released, or a TypeError or ValueError."""
@@ -216,19 +227,24 @@ class _Slice:
         try:
             _get_buffer(self.lent, view, _C_CONTIGUOUS | _FORMAT | (_WRITABLE if self.written else 0))
         except (TypeError, ValueError, BufferError) as error:
-            raise TypeError(f"{want}, not {type(self.lent).__name__}: {error}") from None
+            turned = hasattr(self.lent, "flags") and not self.written and "contiguous" in str(error)
+            instead = f": lend numpy.ascontiguousarray({self.name})" if turned else ""
+            raise TypeError(f"{want}, not {type(self.lent).__name__}: {error}{instead}") from None
         code = (view.format or b"B").decode("ascii", "replace")
         plain = code[1:] if code[:1] in _NATIVE_ORDER else code
         if view.itemsize != self.size or plain not in self.codes:
             _release(view)
-            raise TypeError(f"{want}, not one of format {code!r} with {view.itemsize} bytes each")
+            instead = f": lend {self.name}.astype('{self.kind}')" if hasattr(self.lent, "astype") and not self.written else ""
+            raise TypeError(f"{want}, not one of format {code!r} with {view.itemsize} bytes each{instead}")
         if view.len and view.buf % self.size:
             _release(view)
             raise TypeError(f"{want}, aligned to {self.size} bytes")
         shape = tuple(view.shape[:view.ndim])
         if len(shape) != 1 and not self.fits(shape):
             _release(view)
-            raise ValueError(f"{call}: {self.name} must have {self.told(shape)}, not the shape {shape}")
+            which = ", which is bins by frames" if self.kind == "float32" and self.fits(shape[::-1]) else ""
+            raise ValueError(f"{call}: {self.name} must have {self.told(shape)}, not the shape {shape}{which}")
+        self.shape, self.slots = shape, view.len // self.size
         return view
 
     def fits(self, shape):
@@ -263,14 +279,48 @@ def _frames_out(name, lent):
     return _Slice(name, lent, _UINT32, True)
 
 
-def _magnitudes(magnitudes, rows, bins, written=False):
-    """The three parts that magnitudes are."""
+def _given(call, **words):
+    """A TypeError that names a word of the call that is missing; those behind rows and bins have names, and so may be left out."""
+    for name, word in words.items():
+        if word is None:
+            raise TypeError(f"{call}: {name} is missing")
+
+
+def _shape(call, name, lent, wanted):
+    """The shape of rows that are lent without their number: two dimensions, or an error that says what to do."""
+    try:
+        shape = memoryview(lent).shape
+    except (TypeError, ValueError, BufferError) as error:
+        raise TypeError(f"{call}: {name} must be a contiguous buffer, not {type(lent).__name__}: {error}") from None
+    if len(shape) != 2:
+        raise ValueError(f"{call}: {name} has the shape {shape}, so say {wanted}, or lend an array of two dimensions, rows first")
+    return shape
+
+
+# bins of the usual transforms: half their length, and one
+_BINS_OF_TRANSFORMS = (257, 513, 1_025, 2_049)
+
+
+def _magnitudes(call, magnitudes, rows, bins, written=False):
+    """The three parts that magnitudes are; rows and bins as given, or those of the shape."""
+    if (rows is None) != (bins is None):
+        raise TypeError(f"{call}: rows and bins go together: say both, or lend an array of two dimensions, say neither, and name what"
+                        " follows (rate=48000)")
+    if rows is None:
+        rows, bins = _shape(call, "magnitudes", magnitudes, "rows and bins")
     rows, bins = _size("rows", rows), _size("bins", bins)
+    few = rows.value in _BINS_OF_TRANSFORMS and bins.value not in _BINS_OF_TRANSFORMS
+    if few and rows.value < bins.value <= 4_096 and not written:
+        # answered as it is lent: a short track may have as many rows
+        warnings.warn(f"{call}: {rows.value} rows of {bins.value} bins: if this array is bins by frames, as librosa's are, lend"
+                      " numpy.ascontiguousarray(magnitudes.T)", stacklevel=3)
     return _Slice("magnitudes", magnitudes, _FLOAT32, written, rows.value, bins.value), rows, bins
 
 
-def _features(name, lent, rows, width, written=False):
-    """The two parts that features, or their similarity, are."""
+def _features(call, name, lent, rows, width, written=False):
+    """The two parts that features, or their similarity, are; rows as given, or those of the shape."""
+    if rows is None:
+        rows = _shape(call, name, lent, "rows")[0]
     rows = _size("rows", rows)
     return _Slice(name, lent, _FLOAT64, written, rows.value, width), rows
 
@@ -283,12 +333,18 @@ def _whole(name, number, kind):
         raise TypeError(f"{name} must be a whole number, not {type(number).__name__}") from None
     if not 0 <= number <= most:
         raise OverflowError(f"{name} is {number}, outside 0 to {most}")
-    return kind(number)
+    return _named(name, kind(number))
+
+
+def _named(name, number):
+    """The same number, with its name: what a refusal tells."""
+    number.name = name
+    return number
 
 
 def _real(name, number):
     try:
-        return ctypes.c_double(number)
+        return _named(name, ctypes.c_double(number))
     except TypeError:
         raise TypeError(f"{name} must be a real number, not {type(number).__name__}") from None
     except OverflowError:
@@ -357,13 +413,229 @@ def _call(call, *parts):
                 _apart(call, lent, others)
             _flying[id(lent)] = lent
         number = function(*words)
+        detail = _why(call, number, parts, lent) if number else ""
     finally:
         with _gate:
             _flying.pop(id(lent), None)
         for _, view in lent:
             _release(view)
     if number:
-        raise Refused(call, number)
+        raise Refused(call, number, detail)
+
+
+# ---- why a call refused: looked for in what it was lent, once it has. The number is the proved call's; these only explain it.
+
+
+class _Numbers:
+    """What a refused call was lent: its numbers, and of its slices the slots, by name."""
+
+    def __init__(self, parts, lent):
+        for part in parts:
+            if hasattr(part, "name") and not isinstance(part, _Slice):
+                setattr(self, part.name, part.value)
+        self.parts = {part.name: (part, view) for part, view in lent}
+        for name, (part, _) in self.parts.items():
+            setattr(self, name, part.slots)
+
+    @property
+    def lags(self):
+        return lag_range(self.rate, (self.min_bpm, self.max_bpm)).lags
+
+    def of(self, name, slots=None):
+        """The first so many values of a slice, as they lie."""
+        part, view = self.parts[name]
+        kind = {"float64": ctypes.c_double, "float32": ctypes.c_float, "uint32": ctypes.c_uint32}[part.kind]
+        slots = part.slots if slots is None else min(slots, part.slots)
+        return (kind * slots).from_address(view.buf) if slots else ()
+
+
+def _many(count, thing):
+    return f"{count:,} {thing}{'' if count == 1 else 's'}"
+
+
+def _why(call, number, parts, lent):
+    """What of all that was lent the number stands for: the first of the call's own list that fits; empty where none does."""
+    try:
+        numbers = _Numbers(parts, lent)
+        return next(filter(None, (look(numbers) for of, look in _TAKES.get(call, ()) if of == number)), "")
+    except Exception:  # an explanation that fails must not hide the refusal
+        return ""
+
+
+def _number(name, least, most):
+    def look(n):
+        top, number = (getattr(n, most) if isinstance(most, str) else most), getattr(n, name)
+        if least <= number <= top:
+            return ""
+        told = f"{name} {number:,}, {least:,} to {top:,}"
+        # an array of two dimensions whose second is the frames
+        turned = name == "bins" and "magnitudes" in n.parts and len(n.parts["magnitudes"][0].shape) == 2 and 1 <= n.rows <= 4_096 < n.bins
+        return told + ("; if this array is bins by frames, lend numpy.ascontiguousarray(magnitudes.T)" if turned else "")
+    return 1, look
+
+
+def _finite(name):
+    def look(n):
+        number = getattr(n, name)
+        return "" if abs(number) < float("inf") else f"{name} {number}, a finite number"
+    return 1, look
+
+
+def _at_most(name, most):
+    return 1, lambda n: f"{name}: {_many(getattr(n, name), 'slot')} lent, at most {most:,}" if getattr(n, name) > most else ""
+
+
+def _some(name):
+    return 1, lambda n: "" if getattr(n, name) else f"{name}: no value lent, at least one needed"
+
+
+def _entries(name, most):
+    def look(n):
+        at, entry = next(((at, entry) for at, entry in enumerate(n.of(name)) if entry > most), (0, 0))
+        return f"{name}[{at}] is {entry:,}, at most {most:,}" if entry else ""
+    return 1, look
+
+
+def _peaks(name, curve):
+    def look(n):
+        before, past = -1, getattr(n, curve)
+        for at, peak in enumerate(n.of(name)):
+            if peak >= past:
+                return f"{name}[{at}] is {peak:,}, past its curve of {_many(past, 'slot')}"
+            if peak <= before:
+                return f"{name}[{at}] is {peak:,} and the one before it {before:,}: a list of peaks ascends"
+            before = peak
+        return ""
+    return 1, look
+
+
+def _table(name, width):
+    def look(n):
+        wide = getattr(n, width) if isinstance(width, str) else width
+        lent, needed = getattr(n, name), n.rows * wide
+        return "" if lent == needed else f"{name}: {_many(lent, 'value')} lent, {needed:,} needed: {_many(n.rows, 'row')} of {wide:,}"
+    return 2, look
+
+
+def _new_rows(width):
+    def look(n):
+        wide = getattr(n, width) if isinstance(width, str) else width
+        if n.new_rows % wide:
+            return f"new_rows: {_many(n.new_rows, 'value')} lent, whole rows of {wide:,} needed"
+        count, left = n.new_rows // wide, n.rows - n.start
+        return "" if count <= left else f"new_rows: {_many(count, 'row')} lent, {left:,} of {n.rows:,} left from row {n.start:,} on"
+    return 2, look
+
+
+def _as_long(name, other):
+    def look(n):
+        lent, needed = getattr(n, name), getattr(n, other)
+        return "" if lent == needed else f"{name}: {_many(lent, 'slot')} lent, {needed:,} needed, as many as {other} has"
+    return 2, look
+
+
+def _room(name, needed, whole=None):
+    """Room by a formula of the numbers; `whole` is what to make where the slice is one of Buffers."""
+    def look(n):
+        lent, slots = getattr(n, name), needed(n)
+        return "" if lent >= slots else f"{name}: {_many(lent, 'slot')} lent, {slots:,} needed{whole(n) if whole else ''}"
+    return 3, look
+
+
+def _first_outside(values, most):
+    """The first place of a value that isn't finite or has a size above most, or None. A piece whose sizes sum up to no more than it holds
+    none, which is soon seen; with NumPy, where it is loaded already, sooner."""
+    numpy, step = sys.modules.get("numpy"), 65_536
+    for begin in range(0, len(values), step):
+        if numpy:
+            # the ctypes array itself is the buffer
+            count, kind = min(step, len(values) - begin), numpy.dtype(values._type_)
+            piece = numpy.frombuffer(values, kind, count, begin * kind.itemsize)
+            fine = numpy.abs(piece) <= most
+            if not fine.all():
+                return begin + int(fine.argmin())
+        else:
+            piece = values[begin:begin + step]
+            if not sum(map(abs, piece)) <= most:
+                for at, value in enumerate(piece):
+                    if not abs(value) <= most:
+                        return begin + at
+    return None
+
+
+_MAGNITUDE, _VALUE = (2.0 ** 126, "a value is finite and at most 2**126 in size"), (2.0 ** 150, "a value is finite and at most 2**150 in size")
+_SIMILARITY = 1.0, "a similarity is -1 to 1"
+
+
+def _values(name, taken=_VALUE, slots=None):
+    def look(n):
+        values = n.of(name, slots and slots(n))
+        at = _first_outside(values, taken[0])
+        return "" if at is None else f"{name}[{at}] is {values[at]}: {taken[1]}"
+    return 4, look
+
+
+def _value(name):
+    return 4, lambda n: "" if abs(getattr(n, name)) <= _VALUE[0] else f"{name} is {getattr(n, name)}: {_VALUE[1]}"
+
+
+_RATE, _OPTS = _number("rate", 1, 192_000), (_finite("min_bpm"), _finite("max_bpm"))
+_ROWS = (_number("rows", 0, 1_048_576), _number("bins", 1, 4_096), _table("magnitudes", "bins"))
+_FEATURE_ROWS, _LENGTH = _number("rows", 0, 50_000), _number("length", 1, 2 ** 31)
+_LAG_CURVES = tuple(_room(name, lambda n: n.lags) for name in ("clarity", "weight", "work"))
+
+
+def _frames_of(name):
+    return _at_most(name, 1_048_576)
+
+
+def _track(rows, input_, first):
+    """The room of a whole track; `rows` is the name of its length."""
+    def made(n):
+        return f"; Buffers({getattr(n, rows)}, {n.rate}, ({n.min_bpm}, {n.max_bpm})) has them"
+
+    def of_rows(n):
+        return getattr(n, rows)
+
+    by_row = tuple(_room(name, of_rows, made) for name in first + ("threshold", "onsets", "score", "back", "beats", "downbeats"))
+    by_lag = tuple(_room(name, lambda n: n.lags, made) for name in ("clarity", "weight", "window_clarity", "window_weight"))
+    return (*input_, _RATE, *_OPTS, *by_row, *by_lag, _room("work", lambda n: max(n.lags, min(21, of_rows(n))), made))
+
+
+# what each call takes, in the order of its parameters, in the words of include/prohunsev.h; bar_beat_at refuses nothing
+_TAKES = {
+    "median_of": (_some("values"), _room("work", lambda n: n.values), _values("values")),
+    "mad_of": (_some("values"), _room("work", lambda n: n.values), _values("values"), _value("median")),
+    "spectral_flux": (*_ROWS, _room("flux", lambda n: n.rows), _values("magnitudes", _MAGNITUDE)),
+    "adaptive_threshold": (_frames_of("flux"), _room("threshold", lambda n: n.flux), _room("work", lambda n: min(21, n.flux)),
+                           _values("flux")),
+    "pick_onsets": (_frames_of("flux"), _RATE, _as_long("threshold", "flux"), _room("frames", lambda n: n.flux), _values("flux"),
+                    _values("threshold")),
+    "suppress_close_peaks": (_frames_of("curve"), _peaks("peaks", "curve"), _room("frames", lambda n: n.peaks), _values("curve")),
+    "frame_times": (_RATE, _entries("frames", 1_048_575), _room("ms", lambda n: n.frames)),
+    "lag_range": (_RATE, *_OPTS),
+    "estimate": (_frames_of("envelope"), _RATE, *_OPTS, *_LAG_CURVES, _values("envelope")),
+    "stability_of": (_frames_of("envelope"), _RATE, *_OPTS, _number("whole_lag", 0, 45_000), *_LAG_CURVES, _values("envelope")),
+    "beat_grid": (_frames_of("envelope"), _number("period", 0, 45_000),
+                  *(_room(name, lambda n: n.envelope) for name in ("score", "back", "beats")), _values("envelope")),
+    "downbeats": (_frames_of("envelope"), _entries("beats", 1_048_575), _room("frames", lambda n: n.beats), _values("envelope")),
+    "similarity": (_FEATURE_ROWS, _table("features", 16), _room("similarity", lambda n: 17 * n.rows), _values("features")),
+    "novelty": (_FEATURE_ROWS, _table("similarity", 17), _room("novelty", lambda n: n.rows), _values("similarity", _SIMILARITY)),
+    "boundaries": (_at_most("novelty", 50_000), _LENGTH, _RATE, _room("rows", lambda n: n.novelty), _room("work", lambda n: n.novelty),
+                   _values("novelty")),
+    "boundary_times": (_LENGTH, _RATE, _entries("rows", 49_999), _room("ms", lambda n: n.rows)),
+    "patch_magnitudes": (*_ROWS, _number("start", 0, "rows"), _new_rows("bins"), _room("flux", lambda n: n.rows),
+                         _room("threshold", lambda n: n.rows), _room("work", lambda n: min(21, n.rows)), _values("magnitudes", _MAGNITUDE),
+                         _values("new_rows", _MAGNITUDE), _values("flux", slots=lambda n: n.rows),
+                         _values("threshold", slots=lambda n: n.rows)),
+    "patch_features": (_FEATURE_ROWS, _table("features", 16), _number("start", 0, "rows"), _new_rows(16),
+                       _room("similarity", lambda n: 17 * n.rows), _room("novelty", lambda n: n.rows), _values("features"),
+                       _values("new_rows"), _values("similarity", _SIMILARITY, lambda n: 17 * n.rows),
+                       _values("novelty", slots=lambda n: n.rows)),
+    "room_of": (_number("rows", 0, 1_048_576), _RATE, *_OPTS),
+    "analyse_envelope": (*_track("envelope", (_frames_of("envelope"),), ()), _values("envelope")),
+    "analyse_magnitudes": (*_track("rows", _ROWS, ("flux",)), _values("magnitudes", _MAGNITUDE)),
+}
 
 
 def _listed(call, *parts):
@@ -375,14 +647,14 @@ def _listed(call, *parts):
 # ---- medians
 
 
-def median_of(values, work):
+def median_of(values: Lent, work: Lent) -> float:
     """The median by IEEE total order, the upper middle of an even length. Room: work as long as values; it then holds anything."""
     median = ctypes.c_double()
     _call("median_of", _reals("values", values), _reals_out("work", work), ctypes.byref(median))
     return median.value
 
 
-def mad_of(values, median, work):
+def mad_of(values: Lent, median: float, work: Lent) -> float:
     """The median of the values' distances from a given median. Room: work as long as values; it then holds anything."""
     mad = ctypes.c_double()
     _call("mad_of", _reals("values", values), _real("median", median), _reals_out("work", work), ctypes.byref(mad))
@@ -392,34 +664,35 @@ def mad_of(values, median, work):
 # ---- onsets
 
 
-def spectral_flux(magnitudes, rows, bins, flux):
+def spectral_flux(magnitudes: Lent, rows: Optional[int] = None, bins: Optional[int] = None, flux: Lent = None) -> None:
     """Onset strength: flux[t] is how much float32 row t rises over row t - 1, summed over the bins. Room: rows slots of flux."""
-    _call("spectral_flux", *_magnitudes(magnitudes, rows, bins), _reals_out("flux", flux))
+    _given("spectral_flux", flux=flux)
+    _call("spectral_flux", *_magnitudes("spectral_flux", magnitudes, rows, bins), _reals_out("flux", flux))
 
 
-def threshold_room(slots):
+def threshold_room(slots: int) -> int:
     """Slots of work for the threshold of so many slots, also while patching."""
     return min(21, slots)
 
 
-def adaptive_threshold(flux, threshold, work):
+def adaptive_threshold(flux: Lent, threshold: Lent, work: Lent) -> None:
     """What a flux must exceed to be an onset. Room: threshold as long as flux, threshold_room(len(flux)) slots of work."""
     _call("adaptive_threshold", _reals("flux", flux), _reals_out("threshold", threshold), _reals_out("work", work))
 
 
-def pick_onsets(flux, threshold, rate, frames):
+def pick_onsets(flux: Lent, threshold: Lent, rate: int, frames: Lent) -> int:
     """Lists the frames of the onsets, ascending, and answers how many. The threshold is as long as flux. Room: frames as long as flux."""
     return _listed("pick_onsets", _reals("flux", flux), _reals("threshold", threshold), _small("rate", rate),
                    _frames_out("frames", frames))
 
 
-def suppress_close_peaks(peaks, curve, gap, frames):
+def suppress_close_peaks(peaks: Lent, curve: Lent, gap: int, frames: Lent) -> int:
     """Lists the best peak of each group within gap of its best, and answers how many. Room: frames as long as peaks."""
     return _listed("suppress_close_peaks", _frames("peaks", peaks), _reals("curve", curve), _size("gap", gap),
                    _frames_out("frames", frames))
 
 
-def frame_times(frames, rate, ms):
+def frame_times(frames: Lent, rate: int, ms: Lent) -> None:
     """Writes the time of each frame's centre in milliseconds. Room: ms as long as frames."""
     _call("frame_times", _frames("frames", frames), _small("rate", rate), _reals_out("ms", ms))
 
@@ -427,18 +700,20 @@ def frame_times(frames, rate, ms):
 # ---- tempo
 
 
-def lag_range(rate, opts=TempoOpts()):
+def lag_range(rate: int, opts: Sequence[float] = TempoOpts()) -> LagRange:
     """The lags that the bounds stand for; its `lags` is the room of each lag curve."""
     least, most = ctypes.c_size_t(), ctypes.c_size_t()
     _call("lag_range", _small("rate", rate), *_bounds(opts), ctypes.byref(least), ctypes.byref(most))
     return LagRange(least.value, most.value)
 
 
-def estimate(envelope, onsets, rate, opts, clarity, weight, work):
+def estimate(envelope: Lent, onsets: int, rate: int, opts: Sequence[float] = TempoOpts(), clarity: Lent = None, weight: Lent = None,
+             work: Lent = None) -> TempoEstimate:
     """The tempo of an envelope with so many onsets, and its candidates.
 
     Room: lag_range(rate, opts).lags slots of each of the last three. Unless the envelope is too short or flat or has fewer than two
     onsets, clarity and weight then hold each lag's."""
+    _given("estimate", clarity=clarity, weight=weight, work=work)
     found, bpm, clear, count = ctypes.c_uint32(), ctypes.c_double(), ctypes.c_double(), ctypes.c_size_t()
     lags, saliences = (ctypes.c_size_t * 3)(), (ctypes.c_double * 3)()
     _call("estimate", _reals("envelope", envelope), _size("onsets", onsets), _small("rate", rate), *_bounds(opts),
@@ -448,10 +723,12 @@ def estimate(envelope, onsets, rate, opts, clarity, weight, work):
     return TempoEstimate(tempo, tuple(Candidate(lags[k], saliences[k]) for k in range(count.value)))
 
 
-def stability_of(envelope, rate, opts, whole_lag, clarity, weight, work):
+def stability_of(envelope: Lent, rate: int, opts: Sequence[float] = TempoOpts(), whole_lag: Optional[int] = None, clarity: Lent = None,
+                 weight: Lent = None, work: Lent = None) -> Optional[Stability]:
     """How steady the tempo of this lag is, or None. Room: lag_range(rate, opts).lags slots of each of the last three.
 
     All three then hold anything."""
+    _given("stability_of", whole_lag=whole_lag, clarity=clarity, weight=weight, work=work)
     found, fraction, agreeing, windows = ctypes.c_uint32(), ctypes.c_double(), ctypes.c_size_t(), ctypes.c_size_t()
     _call("stability_of", _reals("envelope", envelope), _small("rate", rate), *_bounds(opts),
           _size("whole_lag", whole_lag), _reals_out("clarity", clarity), _reals_out("weight", weight), _reals_out("work", work),
@@ -462,18 +739,18 @@ def stability_of(envelope, rate, opts, whole_lag, clarity, weight, work):
 # ---- beats and bars
 
 
-def beat_grid(envelope, period, score, back, beats):
+def beat_grid(envelope: Lent, period: int, score: Lent, back: Lent, beats: Lent) -> int:
     """Lists the beats, about period frames apart, and answers how many. Room: each of the last three as long as envelope."""
     return _listed("beat_grid", _reals("envelope", envelope), _size("period", period), _reals_out("score", score),
                    _frames_out("back", back), _frames_out("beats", beats))
 
 
-def downbeats(envelope, beats, frames):
+def downbeats(envelope: Lent, beats: Lent, frames: Lent) -> int:
     """Lists every fourth beat from the loudest phase on, and answers how many. Room: frames as long as beats."""
     return _listed("downbeats", _reals("envelope", envelope), _frames("beats", beats), _frames_out("frames", frames))
 
 
-def bar_beat_at(time, downbeats, beats):
+def bar_beat_at(time: float, downbeats: Lent, beats: Lent) -> Optional[BarBeat]:
     """The bar and beat that a time lies in, or None before the first bar; all times in one unit. Refuses nothing."""
     found, bar, beat = ctypes.c_uint32(), ctypes.c_size_t(), ctypes.c_size_t()
     _call("bar_beat_at", _real("time", time), _reals("downbeats", downbeats), _reals("beats", beats), ctypes.byref(found),
@@ -484,22 +761,25 @@ def bar_beat_at(time, downbeats, beats):
 # ---- sections
 
 
-def similarity_room(rows):
+def similarity_room(rows: int) -> int:
     """Slots of similarity for so many feature rows."""
     return 17 * rows
 
 
-def similarity(features, rows, similarity):
+def similarity(features: Lent, rows: Optional[int] = None, similarity: Lent = None) -> None:
     """Slot 17 i + d: how alike rows i and i + d of 16 features are, -1 to 1. Room: similarity_room(rows)."""
-    _call("similarity", *_features("features", features, rows, 16), _Slice("similarity", similarity, _FLOAT64, True, None, 17))
+    _given("similarity", similarity=similarity)
+    _call("similarity", *_features("similarity", "features", features, rows, 16),
+          _Slice("similarity", similarity, _FLOAT64, True, None, 17))
 
 
-def novelty(similarity, rows, novelty):
+def novelty(similarity: Lent, rows: Optional[int] = None, novelty: Lent = None) -> None:
     """How new each row is. The similarity has exactly similarity_room(rows) slots. Room: rows slots of novelty."""
-    _call("novelty", *_features("similarity", similarity, rows, 17), _reals_out("novelty", novelty))
+    _given("novelty", novelty=novelty)
+    _call("novelty", *_features("novelty", "similarity", similarity, rows, 17), _reals_out("novelty", novelty))
 
 
-def boundaries(novelty, length, rate, max_sections, rows, work):
+def boundaries(novelty: Lent, length: int, rate: int, max_sections: int, rows: Lent, work: Lent) -> Sections:
     """Lists the rows at which sections begin; a row is length samples long. Room: rows and work as long as novelty."""
     sections, count, confidence = ctypes.c_size_t(), ctypes.c_size_t(), ctypes.c_double()
     _call("boundaries", _reals("novelty", novelty), _whole("length", length, ctypes.c_uint64), _small("rate", rate),
@@ -508,7 +788,7 @@ def boundaries(novelty, length, rate, max_sections, rows, work):
     return Sections(sections.value, count.value, confidence.value)
 
 
-def boundary_times(rows, length, rate, ms):
+def boundary_times(rows: Lent, length: int, rate: int, ms: Lent) -> None:
     """Writes the time at which each row begins in milliseconds. Room: ms as long as rows."""
     _call("boundary_times", _frames("rows", rows), _whole("length", length, ctypes.c_uint64), _small("rate", rate), _reals_out("ms", ms))
 
@@ -523,21 +803,26 @@ def _patch(call, *parts):
     return range(first, past), range(second_first, second_past)
 
 
-def patch_magnitudes(magnitudes, rows, bins, start, new_rows, flux, threshold, work):
+def patch_magnitudes(magnitudes: Lent, rows: Optional[int] = None, bins: Optional[int] = None, start: Optional[int] = None,
+                     new_rows: Lent = None, flux: Lent = None, threshold: Lent = None, work: Lent = None) -> Patched:
     """Replaces rows from start on and repairs flux and threshold, as a fresh analysis of the edited rows gives them.
 
     Room: rows slots of flux and of threshold, threshold_room(rows) slots of work, which then hold anything."""
-    lent, rows, bins = _magnitudes(magnitudes, rows, bins, True)
-    return Patched(*_patch("patch_magnitudes", lent, rows, bins, _size("start", start),
-                           _Slice("new_rows", new_rows, _FLOAT32, False, None, bins.value), _reals_out("flux", flux),
-                           _reals_out("threshold", threshold), _reals_out("work", work)))
+    call = "patch_magnitudes"
+    _given(call, start=start, new_rows=new_rows, flux=flux, threshold=threshold, work=work)
+    lent, rows, bins = _magnitudes(call, magnitudes, rows, bins, True)
+    return Patched(*_patch(call, lent, rows, bins, _size("start", start), _Slice("new_rows", new_rows, _FLOAT32, False, None, bins.value),
+                           _reals_out("flux", flux), _reals_out("threshold", threshold), _reals_out("work", work)))
 
 
-def patch_features(features, rows, start, new_rows, similarity, novelty):
+def patch_features(features: Lent, rows: Optional[int] = None, start: Optional[int] = None, new_rows: Lent = None,
+                   similarity: Lent = None, novelty: Lent = None) -> PatchedFeatures:
     """Replaces feature rows from start on and repairs similarity and novelty, as a fresh analysis of the edited rows gives them.
 
     Room: similarity_room(rows) slots of similarity and rows slots of novelty."""
-    return PatchedFeatures(*_patch("patch_features", *_features("features", features, rows, 16, True), _size("start", start),
+    call = "patch_features"
+    _given(call, start=start, new_rows=new_rows, similarity=similarity, novelty=novelty)
+    return PatchedFeatures(*_patch(call, *_features(call, "features", features, rows, 16, True), _size("start", start),
                                    _Slice("new_rows", new_rows, _FLOAT64, False, None, 16),
                                    _Slice("similarity", similarity, _FLOAT64, True, None, 17), _reals_out("novelty", novelty)))
 
@@ -552,11 +837,11 @@ class Room(NamedTuple):
     sorting: int
 
     @property
-    def bytes(self):
+    def bytes(self) -> int:
         return 40 * self.rows + 32 * self.lags + 8 * self.sorting
 
 
-def room_of(rows, rate, opts=TempoOpts()):
+def room_of(rows: int, rate: int, opts: Sequence[float] = TempoOpts()) -> Room:
     """The room for a track of at most so many rows."""
     slots = [ctypes.c_size_t() for _ in range(3)]
     _call("room_of", _size("rows", rows), _small("rate", rate), *_bounds(opts),
@@ -564,24 +849,48 @@ def room_of(rows, rate, opts=TempoOpts()):
     return Room(*(slot.value for slot in slots))
 
 
+def _few(frames):
+    """A list by its length and its first four frames."""
+    first = ", ".join(map(str, frames[:4]))
+    return f"{len(frames)} [{first}{', ..' if len(frames) > 4 else ''}]"
+
+
 class Analysis(NamedTuple):
-    """The rhythm of a track. The three lists are views of uint32 frames in the Buffers that were used, until those are used again."""
+    """The rhythm of a track. The three lists are views of uint32 frames in the Buffers that were used, until those are used again. Printed,
+    a list is its length and first frames."""
     tempo: Optional[Tempo]
-    candidates: tuple
+    candidates: Tuple[Candidate, ...]
     stability: Optional[Stability]
     onsets: memoryview
     beats: memoryview
     downbeats: memoryview
 
+    def __repr__(self) -> str:
+        return (f"Analysis(tempo={self.tempo}, candidates={self.candidates}, stability={self.stability}, onsets={_few(self.onsets)},"
+                f" beats={_few(self.beats)}, downbeats={_few(self.downbeats)})")
+
+
+class _Last(NamedTuple):
+    """The track that was answered last, whose curves the buffers hold; bins are None for an envelope, which stays the caller's, and lags are
+    how many slots of the lag curves are this track's: none without a tempo, and from a patch on until the mended curves are analysed."""
+    rows: int
+    bins: Optional[int]
+    rate: int
+    opts: Tuple[float, float]
+    lags: int
+
 
 class Buffers:
     """The room of one analysis, made once and used for track after track. A call that refuses changes no view handed out before.
+
+    After analyse_magnitudes they hold the track's curves: flux, threshold, clarity and weight are read-only views of them, until the buffers
+    are used again. patch_magnitudes mends flux and threshold where rows are replaced, and analyse_patched makes the new grid of them.
 
     One thread at a time: a call while another thread's is at work in the same Buffers raises ValueError. Once that one is done, a call
     writes over what its views show, so let each thread have Buffers of its own, or copy the views first. Nothing else may write the
     magnitudes or the envelope while a call reads them."""
 
-    def __init__(self, rows, rate, opts=TempoOpts()):
+    def __init__(self, rows: int, rate: int, opts: Sequence[float] = TempoOpts()) -> None:
         self.room = room_of(rows, rate, opts)
         rows = self.room.rows
 
@@ -595,29 +904,152 @@ class Buffers:
         self._onsets, self._back, self._beats, self._downbeats = (frames(rows) for _ in range(4))
         self._clarity, self._weight, self._window_clarity, self._window_weight = (reals(self.room.lags) for _ in range(4))
         self._work = reals(self.room.sorting)
+        self._last: Optional[_Last] = None
+        self._at_work: Optional[int] = None
 
-    def analyse_magnitudes(self, magnitudes, rows, bins, rate, opts=TempoOpts()):
-        """Analyses a track from its magnitudes, rows rows of bins float32 values."""
-        return self._analyse("analyse_magnitudes", _magnitudes(magnitudes, rows, bins), rate, opts, (_reals_out("flux", self._flux),))
+    def __repr__(self) -> str:
+        last = self._last
+        told = "nothing" if last is None else _many(last.rows, "row") + (f" of {_many(last.bins, 'bin')}" if last.bins else ", an envelope")
+        return f"<Buffers for {self.room.rows:,} rows and {self.room.lags:,} lags, {self.room.bytes:,} bytes; analysed last: {told}>"
 
-    def analyse_envelope(self, envelope, rate, opts=TempoOpts()):
+    def analyse_magnitudes(self, magnitudes: Lent, rows: Optional[int] = None, bins: Optional[int] = None, rate: Optional[int] = None,
+                           opts: Sequence[float] = TempoOpts()) -> Analysis:
+        """Analyses a track from its magnitudes, rows rows of bins float32 values; an array of two dimensions needs neither told:
+        analyse_magnitudes(magnitudes, rate=48000)."""
+        call = "analyse_magnitudes"
+        parts = _magnitudes(call, magnitudes, rows, bins)
+        _given(call, rate=rate)
+        return self._analyse(call, parts, parts[2].value, rate, opts, (_reals_out("flux", self._flux),))
+
+    def analyse_envelope(self, envelope: Lent, rate: int, opts: Sequence[float] = TempoOpts()) -> Analysis:
         """Analyses a track from its envelope of float64 values, one slot a frame."""
-        return self._analyse("analyse_envelope", (_reals("envelope", envelope),), rate, opts, ())
+        return self._analyse("analyse_envelope", (_reals("envelope", envelope),), None, rate, opts, ())
 
-    def _analyse(self, call, lent, rate, opts, flux):
+    def _analyse(self, call, lent, bins, rate, opts, flux):
         onsets, count, agreeing, windows, beats, downbeats = (ctypes.c_size_t() for _ in range(6))
         found, steady = ctypes.c_uint32(), ctypes.c_uint32()
         bpm, clarity, fraction = (ctypes.c_double() for _ in range(3))
         lags, saliences = (ctypes.c_size_t * 3)(), (ctypes.c_double * 3)()
-        _call(call, *lent, _small("rate", rate), *_bounds(opts), *flux,
-              _reals_out("threshold", self._threshold), _frames_out("onsets", self._onsets), _reals_out("clarity", self._clarity),
-              _reals_out("weight", self._weight), _reals_out("window_clarity", self._window_clarity),
-              _reals_out("window_weight", self._window_weight), _reals_out("score", self._score), _frames_out("back", self._back),
-              _frames_out("beats", self._beats), _frames_out("downbeats", self._downbeats), _reals_out("work", self._work),
-              ctypes.byref(onsets), ctypes.byref(found), ctypes.byref(bpm), ctypes.byref(clarity), lags, saliences, ctypes.byref(count),
-              ctypes.byref(steady), ctypes.byref(fraction), ctypes.byref(agreeing), ctypes.byref(windows), ctypes.byref(beats),
-              ctypes.byref(downbeats))
-        return Analysis(Tempo(bpm.value, clarity.value) if found.value else None,
-                        tuple(Candidate(lags[k], saliences[k]) for k in range(count.value)),
-                        Stability(fraction.value, agreeing.value, windows.value) if steady.value else None,
-                        self._onsets[:onsets.value], self._beats[:beats.value], self._downbeats[:downbeats.value])
+        rate, bounds = _small("rate", rate), _bounds(opts)
+        with self._alone(call) as held:
+            _call(call, *lent, rate, *bounds, *flux,
+                  _reals_out("threshold", self._threshold), _frames_out("onsets", self._onsets), _reals_out("clarity", self._clarity),
+                  _reals_out("weight", self._weight), _reals_out("window_clarity", self._window_clarity),
+                  _reals_out("window_weight", self._window_weight), _reals_out("score", self._score), _frames_out("back", self._back),
+                  _frames_out("beats", self._beats), _frames_out("downbeats", self._downbeats), _reals_out("work", self._work),
+                  ctypes.byref(onsets), ctypes.byref(found), ctypes.byref(bpm), ctypes.byref(clarity), lags, saliences,
+                  ctypes.byref(count), ctypes.byref(steady), ctypes.byref(fraction), ctypes.byref(agreeing), ctypes.byref(windows),
+                  ctypes.byref(beats), ctypes.byref(downbeats))
+            rows = lent[0].slots if bins is None else lent[1].value
+            held[0] = _Last(rows, bins, rate.value, (bounds[0].value, bounds[1].value), 0)
+            return self._answer(held, Tempo(bpm.value, clarity.value) if found.value else None,
+                                tuple(Candidate(lags[k], saliences[k]) for k in range(count.value)),
+                                Stability(fraction.value, agreeing.value, windows.value) if steady.value else None,
+                                onsets.value, beats.value, downbeats.value)
+
+    def _answer(self, held, tempo, candidates, stability, onsets, beats, downbeats):
+        # without a tempo the lag curves may be another track's
+        held[0] = held[0]._replace(lags=lag_range(held[0].rate, held[0].opts).lags if tempo else 0)
+        return Analysis(tempo, candidates, stability, self._onsets[:onsets], self._beats[:beats], self._downbeats[:downbeats])
+
+    def patch_magnitudes(self, magnitudes: Lent, rows: Optional[int] = None, bins: Optional[int] = None, start: Optional[int] = None,
+                         new_rows: Lent = None) -> Patched:
+        """Replaces rows of the magnitudes that were analysed last, from start on, and mends the buffers' flux and threshold: they are then,
+        bit for bit, those of a full run on the edited rows. The lists and lag curves are not: analyse_patched makes them anew.
+
+        The magnitudes are those that were lent to analyse_magnitudes, or as patches of these buffers left them: other values of the same shape
+        are not noticed, and the curves are then of no track. Raises ValueError where the last analysis was of other rows or bins, of an
+        envelope, or none, and else refuses as the module's patch_magnitudes does."""
+        call = "patch_magnitudes"
+        _given(call, start=start, new_rows=new_rows)
+        _, rows, bins = _magnitudes(call, magnitudes, rows, bins, True)
+        with self._alone(call) as held:
+            last = self._analysed(call, held)
+            if (rows.value, bins.value) != (last.rows, last.bins):
+                raise ValueError(f"{call}: {_many(rows.value, 'row')} of {_many(bins.value, 'bin')} lent, and these buffers analysed"
+                                 f" {_many(last.rows, 'row')} of {last.bins:,} last")
+            patched = patch_magnitudes(magnitudes, last.rows, last.bins, start, new_rows, self._flux[:last.rows],
+                                       self._threshold[:last.rows], self._work)
+            if patched.flux:
+                held[0] = last._replace(lags=0)
+            return patched
+
+    def analyse_patched(self) -> Analysis:
+        """Analyses the mended curves: onsets, tempo, stability, beats and downbeats at the rate and with the options of the last analysis,
+        as analyse_magnitudes gives them for the edited rows, bit for bit. Neither flux nor threshold is computed again.
+
+        These are the calls that one analysis is defined by, made in turn: pick_onsets, estimate, stability_of, beat_grid, downbeats. Raises
+        ValueError where no magnitudes have been analysed, or an envelope since."""
+        call = "analyse_patched"
+        with self._alone(call) as held:
+            last = self._analysed(call, held)
+            held[0] = last._replace(lags=0)
+            flux, opts = self._flux[:last.rows], last.opts
+            onsets = pick_onsets(flux, self._threshold[:last.rows], last.rate, self._onsets)
+            found = estimate(flux, onsets, last.rate, opts, self._clarity, self._weight, self._work)
+            # no tempo is lag 0, which has no stability and no beats
+            lag = found.candidates[0].lag if found.candidates else 0
+            steady = stability_of(flux, last.rate, opts, lag, self._window_clarity, self._window_weight, self._work)
+            laid = beat_grid(flux, lag, self._score, self._back, self._beats)
+            begun = downbeats(flux, self._beats[:laid], self._downbeats)
+            return self._answer(held, found.tempo, found.candidates, steady, onsets, laid, begun)
+
+    @staticmethod
+    def _analysed(call, held):
+        if held[0] is None or held[0].bins is None:
+            raise ValueError(f"{call}: these buffers hold the flux of no rows: analyse_magnitudes comes first")
+        return held[0]
+
+    @contextlib.contextmanager
+    def _alone(self, call: str) -> Iterator[list]:
+        """One call at a time, with a place for the track that the buffers hold when it ends: until it says otherwise the one from before, and
+        none where it is interrupted."""
+        entered = False
+        try:
+            with _gate:
+                # the mark of a thread that a fork left behind is another process's
+                if self._at_work == os.getpid():
+                    raise ValueError(f"{call}: these Buffers hold the slices of a call in another thread")
+                entered = True
+                self._at_work = os.getpid()
+            held, self._last = [self._last], None
+            try:
+                yield held
+            except Exception:
+                self._last = held[0]
+                raise
+            self._last = held[0]
+        finally:
+            if entered:
+                self._at_work = None
+
+    @property
+    def flux(self) -> memoryview:
+        """The flux of the magnitudes that were analysed last, a slot a row, as patches mended it. Empty after an envelope, which is one."""
+        last = self._last
+        return self._flux[:last.rows if last and last.bins is not None else 0].toreadonly()
+
+    @property
+    def threshold(self) -> memoryview:
+        """The threshold of what was analysed last, a slot a row or slot of the envelope, as patches mended it."""
+        last = self._last
+        return self._threshold[:last.rows if last else 0].toreadonly()
+
+    @property
+    def lags(self) -> Optional[LagRange]:
+        """The lags of the last analysis: slot k of clarity and weight is that of min_lag + k."""
+        last = self._last
+        return lag_range(last.rate, last.opts) if last else None
+
+    @property
+    def clarity(self) -> memoryview:
+        """How clearly the track repeats at each lag. Empty where the last analysis found no tempo, and after a patch until
+        analyse_patched."""
+        last = self._last
+        return self._clarity[:last.lags if last else 0].toreadonly()
+
+    @property
+    def weight(self) -> memoryview:
+        """The weight of each lag, by which the tempo was chosen. Empty where clarity is."""
+        last = self._last
+        return self._weight[:last.lags if last else 0].toreadonly()

@@ -1,9 +1,11 @@
 """Tests of prohunsev.py, with the standard library alone; those that need NumPy are skipped where it isn't installed."""
 import concurrent.futures
 import ctypes
+import inspect
 import math
 import os
 import pathlib
+import pickle
 import random
 import re
 import shlex
@@ -11,8 +13,10 @@ import subprocess
 import sys
 import tempfile
 import threading
+import typing
 import unittest
 import unittest.mock
+import warnings
 from array import array
 
 import prohunsev as ph
@@ -252,64 +256,223 @@ class Answers(unittest.TestCase):
             buffers.analyse_envelope(array("d", [1.0]) * rows, rate, opts)
 
 
-class Refusals(unittest.TestCase):
-    """Each call refuses with the lowest number that applies, and changes nothing."""
+def value(named):
+    """What is said of a value that is too large, or isn't finite."""
+    return named + ": a value is finite and at most 2**150 in size"
 
-    def refuses(self, number, call, *words):
+
+def magnitude(named):
+    return named + ": a value is finite and at most 2**126 in size"
+
+
+class Refusals(unittest.TestCase):
+    """Each call refuses with each of its numbers, the lowest that applies, says of what, and changes nothing."""
+
+    def refuses(self, number, detail, call, *words):
         before = [bytes(w) if isinstance(w, array) else None for w in words]
-        with self.assertRaises(ph.Refused) as caught:
-            call(*words)
-        self.assertEqual((caught.exception.number, caught.exception.call), (number, call.__name__))
-        self.assertEqual(before, [bytes(w) if isinstance(w, array) else None for w in words])
-        self.assertIn(f"{call.__name__} refused with {number}: ", str(caught.exception))
+        # with NumPy, if there is one, and as if there were none
+        for modules in ({}, {"numpy": None}):
+            with unittest.mock.patch.dict(sys.modules, modules), self.assertRaises(ph.Refused) as caught:
+                call(*words)
+            refused, name = caught.exception, call.__name__
+            self.assertEqual((refused.number, refused.call, refused.detail), (number, name, detail))
+            self.assertEqual(str(refused), f"{name} refused with {number}: {detail}")
+            self.assertEqual(before, [bytes(w) if isinstance(w, array) else None for w in words])
+
+    MANY = array("d", [0.0]) * 1_048_577
+    MOST = "1,048,577 slots lent, at most 1,048,576"
 
     def test_medians(self):
-        self.refuses(1, ph.median_of, reals(), room(2))
-        self.refuses(3, ph.median_of, reals(1, math.nan), room(1))
-        self.refuses(4, ph.median_of, reals(1, math.nan), room(2))
-        self.refuses(4, ph.mad_of, reals(1, 2), math.inf, room(2))
+        self.refuses(1, "values: no value lent, at least one needed", ph.median_of, reals(), room(2))
+        self.refuses(3, "work: 1 slot lent, 2 needed", ph.median_of, reals(1, math.nan), room(1))
+        self.refuses(4, value("values[1] is nan"), ph.median_of, reals(1, math.nan), room(2))
+        self.refuses(1, "values: no value lent, at least one needed", ph.mad_of, reals(), 1.0, room(2))
+        self.refuses(3, "work: 0 slots lent, 2 needed", ph.mad_of, reals(1, 2), math.inf, room(0))
+        self.refuses(4, value("median is inf"), ph.mad_of, reals(1, 2), math.inf, room(2))
+        self.refuses(4, value("values[0] is -inf"), ph.mad_of, reals(-math.inf, 2), 1.0, room(2))
 
     def test_onsets(self):
-        self.refuses(1, ph.spectral_flux, singles(), 0, 0, room(1))
-        self.refuses(1, ph.spectral_flux, singles(), 2 ** 64 - 1, 1, room(1))
-        self.refuses(2, ph.spectral_flux, singles(1), 2, 1, room(2))
-        self.refuses(3, ph.spectral_flux, singles(1, 1), 2, 1, room(1))
-        self.refuses(4, ph.spectral_flux, singles(1, math.inf), 2, 1, room(2))
-        self.refuses(3, ph.adaptive_threshold, reals(1, 1), room(2), room(1))
-        self.refuses(4, ph.adaptive_threshold, reals(TOO_LARGE), room(1), room(1))
-        self.refuses(1, ph.pick_onsets, reals(1), reals(1), 0, frame_room(1))
-        self.refuses(2, ph.pick_onsets, reals(1), reals(), RATE, frame_room(1))
-        self.refuses(1, ph.suppress_close_peaks, frames(3, 3), reals(0, 0, 0, 0), 1, frame_room(2))
-        self.refuses(1, ph.frame_times, frames(1_048_576), RATE, room(1))
-        self.refuses(3, ph.frame_times, frames(1, 2), RATE, room(1))
+        self.refuses(1, "bins 0, 1 to 4,096", ph.spectral_flux, singles(), 0, 0, room(1))
+        self.refuses(1, "rows 18,446,744,073,709,551,615, 0 to 1,048,576", ph.spectral_flux, singles(), 2 ** 64 - 1, 1, room(1))
+        self.refuses(2, "magnitudes: 1 value lent, 2 needed: 2 rows of 1", ph.spectral_flux, singles(1), 2, 1, room(2))
+        self.refuses(3, "flux: 1 slot lent, 2 needed", ph.spectral_flux, singles(1, 1), 2, 1, room(1))
+        self.refuses(4, magnitude("magnitudes[1] is inf"), ph.spectral_flux, singles(1, math.inf, math.nan), 3, 1, room(3))
+        self.refuses(4, magnitude(f"magnitudes[0] is {-2.0 ** 127}"), ph.spectral_flux, singles(-2.0 ** 127), 1, 1, room(1))
+
+        self.refuses(1, "flux: " + self.MOST, ph.adaptive_threshold, self.MANY, room(2), room(1))
+        self.refuses(3, "threshold: 1 slot lent, 2 needed", ph.adaptive_threshold, reals(1, 1), room(1), room(2))
+        self.refuses(3, "work: 1 slot lent, 2 needed", ph.adaptive_threshold, reals(1, 1), room(2), room(1))
+        self.refuses(3, "work: 20 slots lent, 21 needed", ph.adaptive_threshold, pulses(30), room(30), room(20))
+        self.refuses(4, value(f"flux[0] is {TOO_LARGE}"), ph.adaptive_threshold, reals(TOO_LARGE), room(1), room(1))
+
+        self.refuses(1, "flux: " + self.MOST, ph.pick_onsets, self.MANY, reals(1), RATE, frame_room(1))
+        self.refuses(1, "rate 0, 1 to 192,000", ph.pick_onsets, reals(1), reals(1), 0, frame_room(1))
+        self.refuses(2, "threshold: 0 slots lent, 1 needed, as many as flux has", ph.pick_onsets, reals(1), reals(), RATE, frame_room(1))
+        self.refuses(3, "frames: 0 slots lent, 1 needed", ph.pick_onsets, reals(1), reals(1), RATE, frame_room(0))
+        self.refuses(4, value("flux[0] is nan"), ph.pick_onsets, reals(math.nan), reals(math.inf), RATE, frame_room(1))
+        self.refuses(4, value("threshold[1] is inf"), ph.pick_onsets, reals(1, 2), reals(0, math.inf), RATE, frame_room(2))
+
+        self.refuses(1, "curve: " + self.MOST, ph.suppress_close_peaks, frames(3), self.MANY, 1, frame_room(2))
+        self.refuses(1, "peaks[1] is 3 and the one before it 3: a list of peaks ascends", ph.suppress_close_peaks, frames(3, 3),
+                     reals(0, 0, 0, 0), 1, frame_room(2))
+        self.refuses(1, "peaks[1] is 4, past its curve of 4 slots", ph.suppress_close_peaks, frames(3, 4), reals(0, 0, 0, 0), 1,
+                     frame_room(2))
+        self.refuses(3, "frames: 1 slot lent, 2 needed", ph.suppress_close_peaks, frames(2, 3), reals(0, 0, 0, 0), 1, frame_room(1))
+        self.refuses(4, value("curve[3] is nan"), ph.suppress_close_peaks, frames(2), reals(0, 0, 0, math.nan), 1, frame_room(1))
+
+        self.refuses(1, "rate 192,001, 1 to 192,000", ph.frame_times, frames(1), 192_001, room(1))
+        self.refuses(1, "frames[1] is 1,048,576, at most 1,048,575", ph.frame_times, frames(0, 1_048_576), RATE, room(2))
+        self.refuses(3, "ms: 1 slot lent, 2 needed", ph.frame_times, frames(1, 2), RATE, room(1))
 
     def test_tempo(self):
-        self.refuses(1, ph.lag_range, 192_001)
-        self.refuses(1, ph.lag_range, RATE, ph.TempoOpts(math.nan, 300))
-        self.refuses(3, ph.estimate, reals(), 0, RATE, OPTS, room(338), room(337), room(338))
-        self.refuses(4, ph.estimate, reals(math.nan), 0, RATE, OPTS, room(338), room(338), room(338))
-        self.refuses(1, ph.stability_of, reals(1), RATE, OPTS, 45_001, room(338), room(338), room(338))
+        a, b, c, short = room(338), room(338), room(338), room(337)
+        self.refuses(1, "rate 192,001, 1 to 192,000", ph.lag_range, 192_001)
+        self.refuses(1, "min_bpm nan, a finite number", ph.lag_range, RATE, ph.TempoOpts(math.nan, 300))
+        self.refuses(1, "max_bpm -inf, a finite number", ph.lag_range, RATE, (30, -math.inf))
+
+        self.refuses(1, "envelope: " + self.MOST, ph.estimate, self.MANY, 0, RATE, OPTS, a, b, c)
+        self.refuses(1, "rate 0, 1 to 192,000", ph.estimate, reals(), 0, 0, OPTS, a, b, c)
+        self.refuses(1, "max_bpm inf, a finite number", ph.estimate, reals(), 0, RATE, (30, math.inf), a, b, c)
+        self.refuses(3, "clarity: 337 slots lent, 338 needed", ph.estimate, reals(), 0, RATE, OPTS, short, b, c)
+        self.refuses(3, "weight: 337 slots lent, 338 needed", ph.estimate, reals(), 0, RATE, OPTS, a, short, c)
+        self.refuses(3, "work: 337 slots lent, 338 needed", ph.estimate, reals(), 0, RATE, OPTS, a, b, short)
+        self.refuses(3, "clarity: 338 slots lent, 2,213 needed", ph.estimate, reals(), 0, RATE, (5, 300), a, b, c)
+        self.refuses(4, value("envelope[0] is nan"), ph.estimate, reals(math.nan), 0, RATE, OPTS, a, b, c)
+
+        self.refuses(1, "envelope: " + self.MOST, ph.stability_of, self.MANY, RATE, OPTS, 9, a, b, c)
+        self.refuses(1, "rate 0, 1 to 192,000", ph.stability_of, reals(1), 0, OPTS, 9, a, b, c)
+        self.refuses(1, "min_bpm inf, a finite number", ph.stability_of, reals(1), RATE, (math.inf, 30), 9, a, b, c)
+        self.refuses(1, "whole_lag 45,001, 0 to 45,000", ph.stability_of, reals(1), RATE, OPTS, 45_001, a, b, c)
+        self.refuses(3, "clarity: 337 slots lent, 338 needed", ph.stability_of, reals(1), RATE, OPTS, 9, short, b, c)
+        self.refuses(3, "weight: 337 slots lent, 338 needed", ph.stability_of, reals(1), RATE, OPTS, 9, a, short, c)
+        self.refuses(3, "work: 337 slots lent, 338 needed", ph.stability_of, reals(1), RATE, OPTS, 9, a, b, short)
+        self.refuses(4, value("envelope[1] is inf"), ph.stability_of, reals(1, math.inf), RATE, OPTS, 9, a, b, c)
 
     def test_beats(self):
-        self.refuses(1, ph.beat_grid, reals(1, 2), 45_001, room(2), frame_room(2), frame_room(2))
-        self.refuses(3, ph.beat_grid, reals(1, 2), 1, room(2), frame_room(1), frame_room(2))
-        self.refuses(1, ph.downbeats, reals(1, 2), frames(1_048_576), frame_room(1))
-        self.refuses(3, ph.downbeats, reals(1, 2), frames(0, 1), frame_room(1))
+        self.refuses(1, "envelope: " + self.MOST, ph.beat_grid, self.MANY, 1, room(2), frame_room(2), frame_room(2))
+        self.refuses(1, "period 45,001, 0 to 45,000", ph.beat_grid, reals(1, 2), 45_001, room(2), frame_room(2), frame_room(2))
+        self.refuses(3, "score: 1 slot lent, 2 needed", ph.beat_grid, reals(1, 2), 1, room(1), frame_room(2), frame_room(2))
+        self.refuses(3, "back: 1 slot lent, 2 needed", ph.beat_grid, reals(1, 2), 1, room(2), frame_room(1), frame_room(2))
+        self.refuses(3, "beats: 1 slot lent, 2 needed", ph.beat_grid, reals(1, 2), 1, room(2), frame_room(2), frame_room(1))
+        self.refuses(4, value("envelope[1] is nan"), ph.beat_grid, reals(1, math.nan), 1, room(2), frame_room(2), frame_room(2))
+        self.refuses(1, "envelope: " + self.MOST, ph.downbeats, self.MANY, frames(1), frame_room(1))
+        self.refuses(1, "beats[0] is 1,048,576, at most 1,048,575", ph.downbeats, reals(1, 2), frames(1_048_576), frame_room(1))
+        self.refuses(3, "frames: 1 slot lent, 2 needed", ph.downbeats, reals(1, 2), frames(0, 1), frame_room(1))
+        self.refuses(4, value("envelope[0] is nan"), ph.downbeats, reals(math.nan, 2), frames(0), frame_room(1))
 
     def test_sections(self):
-        self.refuses(2, ph.similarity, room(31), 2, room(34))
-        self.refuses(3, ph.similarity, room(32), 2, room(33))
-        self.refuses(4, ph.novelty, room(17), 1, room(1))
-        self.refuses(1, ph.boundaries, room(1), 0, RATE, 1, frame_room(1), room(1))
-        self.refuses(1, ph.boundary_times, frames(50_000), 1, RATE, room(1))
+        self.refuses(1, "rows 50,001, 0 to 50,000", ph.similarity, room(31), 50_001, room(34))
+        self.refuses(2, "features: 31 values lent, 32 needed: 2 rows of 16", ph.similarity, room(31), 2, room(34))
+        self.refuses(3, "similarity: 33 slots lent, 34 needed", ph.similarity, room(32), 2, room(33))
+        self.refuses(4, value("features[16] is inf"), ph.similarity, room(16) + array("d", [math.inf]) * 16, 2, room(34))
+        self.refuses(1, "rows 50,001, 0 to 50,000", ph.novelty, room(17), 50_001, room(1))
+        self.refuses(2, "similarity: 17 values lent, 34 needed: 2 rows of 17", ph.novelty, room(17), 2, room(2))
+        self.refuses(3, "novelty: 0 slots lent, 1 needed", ph.novelty, room(17), 1, room(0))
+        self.refuses(4, "similarity[0] is -7.5: a similarity is -1 to 1", ph.novelty, room(17), 1, room(1))
+        self.refuses(1, "novelty: 50,001 slots lent, at most 50,000", ph.boundaries, room(50_001), 1, RATE, 1, frame_room(1), room(1))
+        self.refuses(1, "length 0, 1 to 2,147,483,648", ph.boundaries, room(1), 0, RATE, 1, frame_room(1), room(1))
+        self.refuses(1, "rate 0, 1 to 192,000", ph.boundaries, room(1), 1, 0, 1, frame_room(1), room(1))
+        self.refuses(3, "rows: 0 slots lent, 1 needed", ph.boundaries, room(1), 1, RATE, 1, frame_room(0), room(1))
+        self.refuses(3, "work: 0 slots lent, 1 needed", ph.boundaries, room(1), 1, RATE, 1, frame_room(1), room(0))
+        self.refuses(4, value("novelty[0] is nan"), ph.boundaries, reals(math.nan), 1, RATE, 1, frame_room(1), room(1))
+        self.refuses(1, "length 2,147,483,649, 1 to 2,147,483,648", ph.boundary_times, frames(1), 2 ** 31 + 1, RATE, room(1))
+        self.refuses(1, "rate 0, 1 to 192,000", ph.boundary_times, frames(1), 1, 0, room(1))
+        self.refuses(1, "rows[1] is 50,000, at most 49,999", ph.boundary_times, frames(1, 50_000), 1, RATE, room(2))
+        self.refuses(3, "ms: 0 slots lent, 1 needed", ph.boundary_times, frames(1), 1, RATE, room(0))
 
     def test_patches(self):
-        rows = singles(1, 2)
-        self.refuses(1, ph.patch_magnitudes, rows, 2, 1, 3, singles(), room(2), room(2), room(2))
-        self.refuses(2, ph.patch_magnitudes, rows, 2, 1, 2, singles(5), room(2), room(2), room(2))
-        self.refuses(3, ph.patch_magnitudes, rows, 2, 1, 0, singles(5), room(2), room(1), room(2))
-        self.refuses(4, ph.patch_magnitudes, rows, 2, 1, 0, singles(math.nan), room(2), room(2), room(2))
-        self.refuses(4, ph.patch_features, room(16), 1, 0, room(16), room(17), room(1))
+        rows, nan = singles(1, 2), math.nan
+
+        def curves():
+            return room(2), room(2), room(2)
+
+        self.refuses(1, "rows 1,048,577, 0 to 1,048,576", ph.patch_magnitudes, rows, 1_048_577, 1, 3, singles(), *curves())
+        self.refuses(1, "bins 4,097, 1 to 4,096", ph.patch_magnitudes, rows, 2, 4_097, 0, singles(), *curves())
+        self.refuses(1, "start 3, 0 to 2", ph.patch_magnitudes, rows, 2, 1, 3, singles(), *curves())
+        self.refuses(2, "magnitudes: 2 values lent, 3 needed: 3 rows of 1", ph.patch_magnitudes, rows, 3, 1, 2, singles(5), *curves())
+        self.refuses(2, "new_rows: 1 row lent, 0 of 2 left from row 2 on", ph.patch_magnitudes, rows, 2, 1, 2, singles(5), *curves())
+        self.refuses(2, "new_rows: 1 value lent, whole rows of 2 needed", ph.patch_magnitudes, rows, 1, 2, 0, singles(5), *curves())
+        self.refuses(3, "flux: 1 slot lent, 2 needed", ph.patch_magnitudes, rows, 2, 1, 0, singles(5), room(1), room(2), room(2))
+        self.refuses(3, "threshold: 1 slot lent, 2 needed", ph.patch_magnitudes, rows, 2, 1, 0, singles(5), room(2), room(1), room(2))
+        self.refuses(3, "work: 1 slot lent, 2 needed", ph.patch_magnitudes, rows, 2, 1, 0, singles(5), room(2), room(2), room(1))
+        self.refuses(4, magnitude("magnitudes[1] is nan"), ph.patch_magnitudes, singles(1, nan), 2, 1, 0, singles(nan), *curves())
+        self.refuses(4, magnitude("new_rows[0] is nan"), ph.patch_magnitudes, rows, 2, 1, 0, singles(nan), *curves())
+        # slots past the rows may hold anything
+        self.refuses(4, value("flux[1] is nan"), ph.patch_magnitudes, rows, 2, 1, 0, singles(5), reals(0, nan), reals(nan, 0), room(2))
+        self.refuses(4, value("threshold[0] is nan"), ph.patch_magnitudes, rows, 2, 1, 0, singles(5), reals(0, 0, nan), reals(nan, 0), room(2))
+
+        zeros = array("d", [0.0])
+        self.refuses(1, "rows 50,001, 0 to 50,000", ph.patch_features, room(16), 50_001, 0, room(16), zeros * 17, room(1))
+        self.refuses(1, "start 2, 0 to 1", ph.patch_features, room(16), 1, 2, room(16), zeros * 17, room(1))
+        self.refuses(2, "features: 16 values lent, 0 needed: 0 rows of 16", ph.patch_features, room(16), 0, 0, room(16), zeros * 17, room(1))
+        self.refuses(2, "new_rows: 15 values lent, whole rows of 16 needed", ph.patch_features, room(16), 1, 0, room(15), zeros * 17, room(1))
+        self.refuses(2, "new_rows: 2 rows lent, 1 of 1 left from row 0 on", ph.patch_features, room(16), 1, 0, room(32), zeros * 17, room(1))
+        self.refuses(3, "similarity: 16 slots lent, 17 needed", ph.patch_features, room(16), 1, 0, room(16), zeros * 16, room(1))
+        self.refuses(3, "novelty: 0 slots lent, 1 needed", ph.patch_features, room(16), 1, 0, room(16), zeros * 17, room(0))
+        self.refuses(4, value("features[2] is nan"), ph.patch_features, room(2) + reals(nan) + room(13), 1, 0, room(16), zeros * 17, room(1))
+        self.refuses(4, value("new_rows[15] is inf"), ph.patch_features, room(16), 1, 0, room(15) + reals(math.inf), zeros * 17, room(1))
+        self.refuses(4, "similarity[0] is -7.5: a similarity is -1 to 1", ph.patch_features, room(16), 1, 0, room(16), room(17), room(1))
+        self.refuses(4, value("novelty[0] is nan"), ph.patch_features, room(16), 1, 0, room(16), zeros * 17 + reals(9), reals(nan))
+
+    def test_whole_tracks(self):
+        self.refuses(1, "rows 1,048,577, 0 to 1,048,576", ph.room_of, 1_048_577, RATE)
+        self.refuses(1, "rate 0, 1 to 192,000", ph.room_of, 1, 0)
+        self.refuses(1, "min_bpm inf, a finite number", ph.room_of, 1, RATE, (math.inf, 300))
+        buffers, ones = ph.Buffers(10, RATE), singles(1)
+        call = buffers.analyse_envelope
+        self.refuses(1, "envelope: " + self.MOST, call, self.MANY, RATE)
+        self.refuses(1, "rate 0, 1 to 192,000", call, room(11), 0)
+        self.refuses(1, "max_bpm nan, a finite number", call, room(11), RATE, (30, math.nan))
+        self.refuses(3, "threshold: 10 slots lent, 11 needed; Buffers(11, 48000, (30.0, 300.0)) has them", call, room(11), RATE)
+        self.refuses(3, "clarity: 338 slots lent, 2,213 needed; Buffers(9, 48000, (5.0, 300.0)) has them", call, room(9), RATE, (5, 300))
+        self.refuses(4, value("envelope[1] is -inf"), call, reals(1, -math.inf), RATE)
+        call = buffers.analyse_magnitudes
+        self.refuses(1, "rows 1,048,577, 0 to 1,048,576", call, singles(), 1_048_577, 1, RATE)
+        self.refuses(1, "bins 0, 1 to 4,096", call, singles(), 1, 0, RATE)
+        self.refuses(1, "rate 0, 1 to 192,000", call, ones, 1, 1, 0)
+        self.refuses(1, "min_bpm nan, a finite number", call, ones, 1, 1, RATE, (math.nan, 1))
+        self.refuses(2, "magnitudes: 3 values lent, 4 needed: 2 rows of 2", call, ones * 3, 2, 2, RATE)
+        self.refuses(3, "flux: 10 slots lent, 11 needed; Buffers(11, 48000, (30.0, 300.0)) has them", call, ones * 11, 11, 1, RATE)
+        self.refuses(3, "clarity: 338 slots lent, 2,213 needed; Buffers(2, 48000, (5.0, 300.0)) has them", call, ones * 4, 2, 2, RATE, (5, 300))
+        self.refuses(4, magnitude("magnitudes[2] is nan"), call, singles(1, 1, math.nan, math.nan), 2, 2, RATE)
+        # the room that is named is enough
+        ph.Buffers(11, 48000, (30.0, 300.0)).analyse_magnitudes(ones * 11, 11, 1, RATE)
+
+    def test_the_first_bad_value_of_many(self):
+        magnitudes = array("f", [2.0 ** 100]) * 300_000
+        for at in (0, 65_535, 65_536, 131_071, 299_999):
+            for bad in (math.nan, -math.inf, 2.0 ** 127):
+                magnitudes[at] = bad
+                self.refuses(4, magnitude(f"magnitudes[{at}] is {bad}"), ph.spectral_flux, magnitudes, 300_000, 1, room(300_000))
+            magnitudes[at] = 1.0
+
+    def test_no_explanation(self):
+        """Where nothing is found, or looking fails, the refusal is told in its general words."""
+        for looks in ({}, {"lag_range": ()}, {"lag_range": ((1, lambda n: ""),)}, {"lag_range": ((1, lambda n: n.nothing),)}):
+            with unittest.mock.patch.object(ph, "_TAKES", looks), self.assertRaises(ph.Refused) as caught:
+                ph.lag_range(0)
+            self.assertEqual((caught.exception.number, caught.exception.detail), (1, ""))
+            self.assertEqual(str(caught.exception), "lag_range refused with 1: " + ph.Refused.WHY[1])
+
+    def test_every_call_explains(self):
+        self.assertEqual(set(ph._TAKES), {name for name, _ in Declarations().declared()} - {"bar_beat_at"})
+
+    README = pathlib.Path(__file__).resolve().parent / "README.md"
+
+    @unittest.skipUnless(README.is_file(), "the README is not beside this file")
+    def test_as_the_readme_says(self):
+        text = self.README.read_text()
+        for call, *words in ((ph.adaptive_threshold, pulses(4_096), room(4_095), room(21)), (ph.Buffers(1, 1).analyse_envelope, reals(1), 0),
+                             (ph.spectral_flux, singles(*range(7)), 4, 2, room(4)),
+                             (ph.pick_onsets, room(17) + reals(math.nan), room(18), RATE, frame_room(18))):
+            with self.assertRaises(ph.Refused) as caught:
+                call(*words)
+            self.assertIn(f"\n{caught.exception}\n", text)
+
+    def test_kept_in_a_pickle(self):
+        again = pickle.loads(pickle.dumps(ph.Refused("lag_range", 1, "rate 0, 1 to 192,000")))
+        self.assertEqual((again.call, again.number, str(again)), ("lag_range", 1, "lag_range refused with 1: rate 0, 1 to 192,000"))
+        self.assertEqual(ph.Refused("x", 2).detail, "")
 
 
 class Declarations(unittest.TestCase):
@@ -441,6 +604,85 @@ class Lending(unittest.TestCase):
         for shape in ((), (1, 1), (1, 1, 1)):
             self.wrong(ValueError, f"values must have one dimension, not the shape {shape}", ph.median_of, shaped(reals(1), shape), room(1))
             self.wrong(ValueError, f"work must have one dimension, not the shape {shape}", ph.median_of, reals(1), shaped(room(1), shape))
+
+    def test_rows_of_a_shape(self):
+        """Two dimensions need no rows and bins told; other forms say what to do."""
+        def shaped(values, *shape):
+            return memoryview(values).cast("B").cast(values.typecode, shape)
+
+        rows, buffers, flux, again = singles(*range(12)), ph.Buffers(6, RATE), room(6), room(6)
+        ph.spectral_flux(rows, 6, 2, again)
+        ph.spectral_flux(shaped(rows, 6, 2), flux=flux)
+        self.assertEqual(flux, again)
+        self.assertEqual(Tracks.told(buffers.analyse_magnitudes(shaped(rows, 6, 2), rate=RATE)),
+                         Tracks.told(buffers.analyse_magnitudes(rows, 6, 2, RATE)))
+        self.assertEqual((buffers._last.rows, buffers._last.bins), (6, 2))
+        told = ph.patch_magnitudes(shaped(rows[:], 6, 2), start=5, new_rows=singles(3, 4), flux=flux, threshold=reals(*range(6)), work=room(6))
+        self.assertEqual(told, ph.patch_magnitudes(rows[:], 6, 2, 5, singles(3, 4), again, reals(*range(6)), room(6)))
+        features, band, other, curve = room(32), room(34), room(34), room(2)
+        ph.similarity(shaped(features, 2, 16), similarity=band)
+        ph.similarity(features, 2, other)
+        self.assertEqual(band, other)
+        ph.novelty(shaped(band, 2, 17), novelty=curve)
+        ph.patch_features(shaped(features, 2, 16), start=0, new_rows=room(16), similarity=band, novelty=curve)
+
+        both = "rows and bins go together: say both, or lend an array of two dimensions, say neither, and name what follows (rate=48000)"
+        self.wrong(TypeError, "analyse_magnitudes: " + both, buffers.analyse_magnitudes, shaped(rows, 6, 2), RATE)
+        self.wrong(TypeError, "spectral_flux: " + both, lambda m: ph.spectral_flux(m, bins=2, flux=flux), rows)
+        one = "magnitudes has the shape (12,), so say rows and bins, or lend an array of two dimensions, rows first"
+        self.wrong(ValueError, "spectral_flux: " + one, lambda m: ph.spectral_flux(m, flux=flux), rows)
+        self.wrong(ValueError, "analyse_magnitudes: " + one, lambda m: buffers.analyse_magnitudes(m, rate=RATE), rows)
+        self.wrong(ValueError, "features has the shape (32,), so say rows,", lambda m: ph.similarity(m, similarity=band), features)
+        self.wrong(ValueError, "similarity must have the shape (34, 17)", lambda m: ph.novelty(shaped(m, 34, 1), novelty=curve), band)
+        self.wrong(TypeError, "magnitudes must be a contiguous buffer, not list", lambda m: ph.spectral_flux(m, flux=flux), [[1.0]])
+        for call, words in (("spectral_flux", {}), ("similarity", {}), ("novelty", {}), ("patch_features", {"start": 0, "new_rows": band}),
+                            ("patch_magnitudes", {"start": 0, "new_rows": rows, "flux": flux, "threshold": flux})):
+            missing = {"spectral_flux": "flux", "patch_magnitudes": "work", "patch_features": "similarity"}.get(call, call)
+            self.wrong(TypeError, f"{call}: {missing} is missing", lambda: getattr(ph, call)(shaped(rows, 6, 2), **words))
+        self.wrong(TypeError, "analyse_magnitudes: rate is missing", buffers.analyse_magnitudes, rows, 6, 2)
+        # 0 is a number that was given
+        self.assertEqual(ph.stability_of(reals(1), RATE, whole_lag=0, clarity=room(338), weight=room(338), work=room(338)), None)
+
+    def test_default_options(self):
+        envelope = turn()
+        for opts in ({}, {"opts": (140, 300)}):
+            curves = [{name: room(338) for name in ("clarity", "weight", "work")} for _ in range(2)]
+            bounds = opts.get("opts", OPTS)
+            found = ph.estimate(envelope, 47, RATE, **opts, **curves[0])
+            self.assertEqual(found, ph.estimate(envelope, 47, RATE, bounds, *curves[1].values()))
+            self.assertEqual((found.candidates[0].lag, curves[0]), (73 if opts else 94, curves[1]))
+            steady = ph.stability_of(envelope, RATE, whole_lag=94, **opts, **curves[0])
+            self.assertEqual(steady, ph.stability_of(envelope, RATE, bounds, 94, *curves[1].values()))
+        self.wrong(TypeError, "estimate: clarity is missing", ph.estimate, envelope, 47, RATE)
+        self.wrong(TypeError, "stability_of: whole_lag is missing", ph.stability_of, envelope, RATE)
+        self.wrong(TypeError, "stability_of: work is missing", ph.stability_of, envelope, RATE, OPTS, 94, room(338), room(338))
+
+    def test_bins_by_frames(self):
+        """An array whose first dimension is a transform's bins is answered as it is lent, and told."""
+        def shaped(rows, bins):
+            return memoryview(bytes(4 * rows * bins)).cast("f", (rows, bins))
+
+        for rows, bins, warned in ((513, 2_000, True), (257, 300, True), (513, 1_025, False), (2_000, 513, False), (513, 4, False), (512, 600, False)):
+            for call in (lambda m: ph.spectral_flux(m, flux=room(rows)), lambda m: ph.spectral_flux(m, rows, bins, room(rows)),
+                         lambda m: ph.Buffers(rows, RATE).analyse_magnitudes(m, rate=RATE)):
+                with warnings.catch_warnings(record=True) as caught:
+                    warnings.simplefilter("always")
+                    call(shaped(rows, bins))
+                self.assertEqual(len(caught), warned, (rows, bins))
+                for one in caught:
+                    self.assertIn(f"{rows} rows of {bins} bins: if this array is bins by frames, as librosa's are, lend"
+                                  " numpy.ascontiguousarray(magnitudes.T)", str(one.message))
+                    self.assertEqual(one.filename, __file__)
+        # more frames than bins may be
+        for call in (lambda m: ph.spectral_flux(m, flux=room(513)), lambda m: ph.Buffers(513, RATE).analyse_magnitudes(m, rate=RATE)):
+            with self.assertRaises(ph.Refused) as caught:
+                call(shaped(513, 4_097))
+            self.assertEqual((caught.exception.number, caught.exception.detail),
+                             (1, "bins 4,097, 1 to 4,096; if this array is bins by frames, lend numpy.ascontiguousarray(magnitudes.T)"))
+        self.wrong(ValueError, "not the shape (4, 9), which is bins by frames", lambda m: ph.spectral_flux(m, 9, 4, room(9)), shaped(4, 9))
+        with self.assertRaises(ValueError) as caught:
+            ph.similarity(memoryview(bytes(8 * 32)).cast("d", (16, 2)), 2, room(34))
+        self.assertNotIn("bins", str(caught.exception))
 
     def test_numbers(self):
         self.wrong(OverflowError, "rate is -1", ph.lag_range, -1)
@@ -656,6 +898,206 @@ class Tracks(unittest.TestCase):
             self.assertEqual(os.waitpid(child, 0)[1], 0)
 
 
+class Repairs(unittest.TestCase):
+    """A track that is patched in its buffers has the curves, the tempo and the grid of a full run on the edited rows, bit for bit."""
+
+    @staticmethod
+    def rows_of(count, bins, beat, r):
+        """Rows of hits over noise, about `beat` rows apart; beat 0 is silence."""
+        magnitudes = array("f")
+        for t in range(count):
+            hit = 1.0 + r.random() if beat and t % beat == 5 else 0.0
+            magnitudes.extend(hit + 0.05 * r.random() if beat else 0.25 for _ in range(bins))
+        return magnitudes
+
+    @staticmethod
+    def told(buffers, track):
+        """Everything that is told of a track, floats by their bits."""
+        curves = (buffers.flux, buffers.threshold, buffers.clarity, buffers.weight)
+        return repr(track[:3]), [list(view) for view in track[3:]], [bytes(curve) for curve in curves], buffers.lags
+
+    def test_patched_tracks(self):
+        r, seen = random.Random(7), [0, 0]
+        for rows, bins, rate, opts, beat in (
+            (0, 1, RATE, OPTS, 94), (1, 3, RATE, OPTS, 94), (30, 2, 1, OPTS, 3), (376, 1, RATE, OPTS, 94), (377, 1, RATE, OPTS, 94),
+            (700, 2, 44_100, OPTS, 94), (1_300, 1, RATE, (30, 100), 73), (1_000, 1, 24_000, (300, 60), 60), (1_500, 1, RATE, (140, 300), 73),
+            (1_000, 1, RATE, OPTS, 0),
+        ):
+            magnitudes, buffers, full = self.rows_of(rows, bins, beat, r), ph.Buffers(1_550, RATE), ph.Buffers(1_550, RATE)
+            # another track's curves before
+            buffers.analyse_envelope(turn(1_550), RATE)
+            buffers.analyse_magnitudes(magnitudes, rows, bins, rate, opts)
+            for turn_ in range(6):
+                start = r.randint(0, rows) if turn_ else 0
+                new = self.rows_of(r.randint(0, rows - start) if turn_ else rows, bins, r.choice((beat, 0, 47, 110)), r)
+                if new and turn_ == 3:
+                    held, was = buffers._last, bytes(magnitudes)
+                    wrong = new[:]
+                    wrong[-1] = math.nan
+                    self.assertRaises(ph.Refused, buffers.patch_magnitudes, magnitudes, rows, bins, start, wrong)
+                    self.assertEqual((buffers._last, bytes(magnitudes)), (held, was))
+                patched = buffers.patch_magnitudes(magnitudes, rows, bins, start, new)
+                self.assertEqual(patched.flux, range(start, min(rows, start + len(new) // bins + 1)) if new else range(0))
+                if new:
+                    self.assertEqual((len(buffers.clarity), len(buffers.weight)), (0, 0))
+                track, expected = buffers.analyse_patched(), full.analyse_magnitudes(magnitudes, rows, bins, rate, opts)
+                seen[expected.tempo is None] += 1
+                self.assertEqual(self.told(buffers, track), self.told(full, expected))
+                self.assertEqual((len(full.flux), len(full.threshold)), (rows, rows))
+                self.assertEqual(len(full.clarity), ph.lag_range(rate, opts).lags if expected.tempo else 0)
+                # by the flux as an envelope, from the same values
+                envelope, lists = array("d", bytes(full.flux)), Tracks.told(expected)
+                self.assertEqual(Tracks.told(full.analyse_envelope(envelope, rate, opts)), lists)
+                self.assertEqual((len(full.flux), bytes(full.threshold)), (0, bytes(buffers.threshold)))
+        self.assertTrue(seen[0] > 10 and seen[1] > 10, seen)
+
+    def test_swells_without_onsets(self):
+        """A flux that repeats and has no onset: no tempo, by the count of onsets alone."""
+        n, level, magnitudes = 1_500, 0.0, array("f")
+        for t in range(n):
+            level += 1.0 + math.sin(2 * math.pi * t / 94)
+            magnitudes.append(level)
+        buffers, full = ph.Buffers(n, RATE), ph.Buffers(n, RATE)
+        buffers.analyse_magnitudes(magnitudes, n, 1, RATE)
+        buffers.patch_magnitudes(magnitudes, n, 1, 700, magnitudes[700:710])
+        track, expected = buffers.analyse_patched(), full.analyse_magnitudes(magnitudes, n, 1, RATE)
+        self.assertEqual(self.told(buffers, track), self.told(full, expected))
+        self.assertTrue(len(track.onsets) < 2 and track.tempo is None and len(track.beats) == 0, track)
+        self.assertIsNotNone(ph.estimate(buffers.flux, 2, RATE, clarity=room(338), weight=room(338), work=room(338)).tempo)
+
+    def test_curves(self):
+        """Each is the one of its name, and read-only."""
+        n, opts = 2_000, (40, 250)
+        magnitudes, flux, threshold = self.rows_of(n, 2, 94, random.Random(3)), room(n), room(n)
+        ph.spectral_flux(magnitudes, n, 2, flux)
+        ph.adaptive_threshold(flux, threshold, room(21))
+        lags = ph.lag_range(RATE, opts)
+        clarity, weight = room(lags.lags), room(lags.lags)
+        found = ph.estimate(flux, 20, RATE, opts, clarity, weight, room(lags.lags))
+        buffers = ph.Buffers(n + 5, RATE)
+        self.assertEqual([len(buffers.flux), len(buffers.threshold), len(buffers.clarity), len(buffers.weight), buffers.lags], [0] * 4 + [None])
+        track = buffers.analyse_magnitudes(magnitudes, n, 2, RATE, opts)
+        for view, expected in ((buffers.flux, flux), (buffers.threshold, threshold), (buffers.clarity, clarity), (buffers.weight, weight)):
+            self.assertEqual((bytes(view), view.format, view.readonly), (bytes(expected), "d", True))
+        self.assertEqual((buffers.lags, track.tempo), (lags, found.tempo))
+        self.assertNotEqual(clarity, weight)
+        self.assertEqual(buffers.clarity[found.candidates[0].lag - lags.min_lag], found.tempo.clarity)
+        # a track without a tempo shows no other's lag curves, and a refused call changes nothing of this
+        self.assertIsNone(buffers.analyse_magnitudes(magnitudes[:400], 200, 2, RATE, opts).tempo)
+        self.assertRaises(ph.Refused, buffers.analyse_magnitudes, magnitudes, n, 2, 0)
+        self.assertRaises(TypeError, buffers.analyse_magnitudes, threshold, n, 2, RATE)
+        self.assertEqual([len(buffers.flux), len(buffers.threshold), len(buffers.clarity), len(buffers.weight)], [200, 200, 0, 0])
+        # they may be lent
+        self.assertEqual(ph.pick_onsets(buffers.flux, buffers.threshold, RATE, frame_room(200)), 3)
+        with self.assertRaisesRegex(TypeError, "work must be a contiguous buffer of float64 values to write into"):
+            ph.median_of(reals(1), buffers.flux)
+
+    def test_only_what_was_analysed(self):
+        buffers, rows, none = ph.Buffers(10, RATE), array("f", [1.0]) * 12, "these buffers hold the flux of no rows: analyse_magnitudes comes first"
+        for call, words in ((buffers.patch_magnitudes, (rows, 6, 2, 0, singles(2, 2))), (buffers.analyse_patched, ())):
+            with self.assertRaises(ValueError) as caught:
+                call(*words)
+            self.assertEqual(str(caught.exception), f"{call.__name__}: {none}")
+        buffers.analyse_magnitudes(rows, 6, 2, RATE)
+        for r, b in ((5, 2), (6, 1), (4, 3), (12, 1), (7, 2), (0, 2), (1, 12)):
+            with self.assertRaises(ValueError) as caught:
+                buffers.patch_magnitudes(rows, r, b, 0, singles())
+            told = f"{r} row{'' if r == 1 else 's'} of {b} bin{'' if b == 1 else 's'}"
+            self.assertEqual(str(caught.exception), f"patch_magnitudes: {told} lent, and these buffers analysed 6 rows of 2 last")
+        for number, start, new in ((1, 7, singles()), (2, 0, singles(1)), (2, 6, singles(1, 1)), (4, 0, singles(1, math.nan))):
+            with self.assertRaises(ph.Refused) as caught:
+                buffers.patch_magnitudes(rows, 6, 2, start, new)
+            self.assertEqual((caught.exception.number, list(rows)), (number, [1.0] * 12))
+        self.assertRaises(TypeError, buffers.patch_magnitudes, rows, 6, 2, 0, reals(1, 1))
+        self.assertRaises(TypeError, buffers.patch_magnitudes, bytes(48), 6, 2, 0, singles(1, 1))
+        self.assertRaisesRegex(TypeError, "patch_magnitudes: new_rows is missing", buffers.patch_magnitudes, rows, 6, 2, 0)
+        self.assertEqual(buffers.patch_magnitudes(rows, 6, 2, 6, singles()), (range(0), range(0)))
+        patched = buffers.patch_magnitudes(memoryview(rows).cast("B").cast("f", (6, 2)), start=5, new_rows=singles(3, 3))
+        self.assertEqual((patched, list(buffers.flux), list(rows[-3:])), ((range(5, 6), range(0, 6)), [0, 0, 0, 0, 0, 4], [1, 3, 3]))
+        track = buffers.analyse_envelope(reals(1, 2), RATE)
+        self.assertRaisesRegex(ValueError, none, buffers.analyse_patched)
+        self.assertRaisesRegex(ValueError, none, buffers.patch_magnitudes, rows, 6, 2, 0, singles())
+        self.assertEqual((len(buffers.threshold), track.tempo), (2, None))
+
+    def test_one_thread_at_a_time(self):
+        # a call is held inside the library while others are tried
+        buffers, rows = ph.Buffers(3_000, RATE), array("f", pulses(3_000))
+        alone = Tracks.told(buffers.analyse_magnitudes(rows, 3_000, 1, RATE))
+        begun, done, inner = threading.Event(), threading.Event(), ph._library.ph_stability_of
+
+        class Held:
+            def __call__(self, *words):
+                begun.set()
+                done.wait(30)
+                return inner(*words)
+
+        with concurrent.futures.ThreadPoolExecutor(1) as pool:
+            with unittest.mock.patch.object(ph._library, "ph_stability_of", Held()):
+                first = pool.submit(buffers.analyse_patched)
+                self.assertTrue(begun.wait(30))
+            try:
+                for call, words in ((buffers.analyse_patched, ()), (buffers.analyse_envelope, (reals(1), RATE)),
+                                    (buffers.patch_magnitudes, (rows, 3_000, 1, 0, singles()))):
+                    with self.assertRaisesRegex(ValueError, f"{call.__name__}: these Buffers hold the slices of a call in another thread"):
+                        call(*words)
+            finally:
+                done.set()
+            self.assertEqual(Tracks.told(first.result()), alone)
+        self.assertEqual(Tracks.told(buffers.analyse_patched()), alone)
+
+    @unittest.skipUnless(hasattr(os, "fork"), "no fork here")
+    def test_a_fork_forgets_calls(self):
+        buffers, envelope = ph.Buffers(600, RATE), pulses(600)
+        lag = buffers.analyse_envelope(envelope, RATE).candidates[0].lag
+        with unittest.mock.patch.object(buffers, "_at_work", os.getpid()):  # as by another thread
+            self.assertRaises(ValueError, buffers.analyse_envelope, envelope, RATE)
+            child = os.fork()
+            if child == 0:
+                os._exit(0 if buffers.analyse_envelope(envelope, RATE).candidates[0].lag == lag else 1)
+            self.assertEqual(os.waitpid(child, 0)[1], 0)
+
+    def test_interrupted(self):
+        """A call that is broken off leaves buffers that hold no track, and work."""
+        buffers, rows = ph.Buffers(600, RATE), array("f", pulses(600))
+        alone = Tracks.told(buffers.analyse_magnitudes(rows, 600, 1, RATE))
+        for call, words in ((buffers.analyse_patched, ()), (buffers.analyse_magnitudes, (rows, 600, 1, RATE)),
+                            (buffers.patch_magnitudes, (rows, 600, 1, 0, singles(1)))):
+            buffers.analyse_magnitudes(rows, 600, 1, RATE)
+            with unittest.mock.patch.object(ph, "_call", side_effect=KeyboardInterrupt), self.assertRaises(KeyboardInterrupt):
+                call(*words)
+            self.assertEqual((len(buffers.flux), len(buffers.threshold), buffers.lags), (0, 0, None))
+            self.assertRaises(ValueError, buffers.analyse_patched)
+            self.assertEqual(Tracks.told(buffers.analyse_magnitudes(rows, 600, 1, RATE)), alone)
+
+    def test_printed(self):
+        buffers = ph.Buffers(100_000, RATE)
+        made = "<Buffers for 100,000 rows and 338 lags, 4,013,520 bytes; analysed last: "
+        self.assertEqual(repr(buffers), made + "nothing>")
+        envelope = array("d", (float(t % 80 == 5) for t in range(2_000)))
+        said = repr(buffers.analyse_envelope(envelope, RATE))
+        self.assertIn("Analysis(tempo=Tempo(bpm=140.625, clarity=1.0), candidates=(Candidate(lag=80, salience=", said)
+        self.assertTrue(said.endswith("stability=Stability(fraction=1.0, agreeing=4, windows=4), onsets=25 [5, 85, 165, 245, ..],"
+                                      " beats=25 [5, 85, 165, 245, ..], downbeats=7 [5, 325, 645, 965, ..])"), said)
+        self.assertEqual(repr(buffers), made + "2,000 rows, an envelope>")
+        said = str(buffers.analyse_magnitudes(singles(0, 1, 0), 3, 1, RATE))
+        self.assertEqual(said, "Analysis(tempo=None, candidates=(), stability=None, onsets=1 [1], beats=0 [], downbeats=0 [])")
+        self.assertEqual(repr(buffers), made + "3 rows of 1 bin>")
+
+    def test_hints(self):
+        """Each public function, and each public method of Buffers, says the type of every parameter and of its answer."""
+        self.assertRegex(ph.__version__, r"^\d+\.\d+\.\d+$")
+        public = [getattr(ph, name) for name in ph.__all__ if inspect.isfunction(getattr(ph, name))]
+        self.assertGreaterEqual(len(public), 22)
+        methods = [m for name, m in vars(ph.Buffers).items() if inspect.isfunction(m) and (name[0] != "_" or name == "__init__")]
+        self.assertEqual(len(methods), 5)
+        for function in public + methods + [ph.Refused.__init__]:
+            hints = typing.get_type_hints(function)
+            self.assertEqual(set(hints), set(inspect.signature(function).parameters) - {"self"} | {"return"}, function)
+        for name, got in vars(ph.Buffers).items():
+            if isinstance(got, property):
+                self.assertIn("return", typing.get_type_hints(got.fget), name)
+
+
 @unittest.skipUnless(numpy, "NumPy is not installed")
 class Arrays(unittest.TestCase):
     """NumPy arrays, lent as they are."""
@@ -708,6 +1150,44 @@ class Arrays(unittest.TestCase):
         ph.spectral_flux(numpy.empty((0, 4), numpy.float32), 0, 4, flux)
         self.assertRaises(ValueError, ph.median_of, numpy.ones((2, 3)), numpy.empty(6))
         self.assertRaises(ValueError, ph.median_of, numpy.float64(1), numpy.empty(1))
+
+    def test_what_to_lend_instead(self):
+        flux = numpy.empty(6)
+        for wrong, hint in (
+            (numpy.ones((6, 2)), r"format 'd' with 8 bytes each: lend magnitudes\.astype\('float32'\)"),
+            (numpy.ones((2, 6), numpy.float32).T, r"not C-contiguous: lend numpy\.ascontiguousarray\(magnitudes\)"),
+            (numpy.ones((6, 2), numpy.float32, order="F"), r"not C-contiguous: lend numpy\.ascontiguousarray\(magnitudes\)"),
+        ):
+            for call in (lambda m: ph.spectral_flux(m, 6, 2, flux), lambda m: ph.spectral_flux(m, flux=flux),
+                         lambda m: ph.Buffers(6, RATE).analyse_magnitudes(m, rate=RATE)):
+                with self.assertRaisesRegex(TypeError, hint):
+                    call(wrong)
+            # an output is not to be copied
+            with self.assertRaises(TypeError) as caught:
+                ph.median_of(numpy.ones(2), wrong.astype(numpy.float32))
+            self.assertNotIn("lend", str(caught.exception))
+
+    def test_rows_of_a_shape(self):
+        magnitudes = numpy.zeros((2_000, 4), numpy.float32)
+        magnitudes[5::94] = 1.0
+        buffers = ph.Buffers(2_000, RATE)
+        told = Tracks.told(buffers.analyse_magnitudes(magnitudes, 2_000, 4, RATE, (60, 300)))
+        self.assertEqual(Tracks.told(buffers.analyse_magnitudes(magnitudes, rate=RATE, opts=(60, 300))), told)
+        numpy.testing.assert_array_equal(numpy.asarray(buffers.flux), magnitudes.sum(axis=1))
+
+    EXAMPLES = pathlib.Path(__file__).resolve().parent.parent / "examples"
+
+    @unittest.skipUnless((EXAMPLES / "repair.py").is_file(), "the examples are not beside this folder")
+    def test_example_of_a_repair(self):
+        stored = (self.EXAMPLES / "repair.txt").read_text()
+        self.assertIn("the same answers, lists and curves, bit for bit", stored)
+        with tempfile.TemporaryDirectory() as elsewhere:
+            ran = subprocess.run([sys.executable, "-B", str(self.EXAMPLES / "repair.py")], cwd=elsewhere, capture_output=True, text=True)
+        self.assertEqual((ran.returncode, ran.stderr, ran.stdout), (0, "", stored))
+        # Rust's says the same
+        self.assertEqual((self.EXAMPLES.parent / "rust/examples/repair.txt").read_text(), stored)
+        wrong = subprocess.run([sys.executable, "-B", str(self.EXAMPLES / "repair.py"), "now"], capture_output=True, text=True)
+        self.assertEqual((wrong.returncode, wrong.stdout, "examples/repair.py --time" in wrong.stderr), (2, "", True))
 
     def test_masked_arrays(self):
         masked = numpy.ma.masked_greater(numpy.arange(3.0), 1.0)

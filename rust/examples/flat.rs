@@ -152,7 +152,7 @@ struct Vectors {
 
 impl Vectors {
     /// For tracks of at most so many frames. Not of zeros, for which an allocator may leave pages unwritten until they are used.
-    fn new(frames: usize) -> Result<Vectors, Refusal> {
+    fn new(frames: usize) -> Result<Vectors, Refused> {
         let (rows, lags) = (frames / FRAMES_A_ROW, rooms::lags(RATE, OPTS)?);
         Ok(Vectors {
             magnitudes: vec![1.0; frames * BINS],
@@ -262,7 +262,7 @@ impl Vectors {
     }
 }
 
-fn refused<T>(number: u32, outcome: Result<T, Refusal>) -> Result<(), Box<dyn Error>> {
+fn refused<T>(number: u32, outcome: Result<T, Refused>) -> Result<(), Box<dyn Error>> {
     match outcome {
         Err(refusal) if refusal.number() == number => Ok(()),
         Err(refusal) => Err(format!("to be refused with {number}, but {refusal}").into()),

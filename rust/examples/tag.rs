@@ -1,7 +1,7 @@
 //! Tags a track: onsets, tempo, beats and bars of twenty seconds of clicks at 126 beats a minute, the first of each bar the loudest.
 //!
 //!     cargo run --release --example tag
-use prohunsev::{bar_beat_at, frame_times, limits, Buffers, Refusal, TempoOpts};
+use prohunsev::{bar_beat_at, frame_times, limits, Buffers, Refused, TempoOpts};
 
 const RATE: u32 = 48_000;
 const BINS: usize = 64;
@@ -25,7 +25,7 @@ fn clicks(rows: usize) -> Vec<f32> {
 }
 
 // the times of listed frames, in seconds
-fn seconds(frames: &[u32]) -> Result<Vec<f64>, Refusal> {
+fn seconds(frames: &[u32]) -> Result<Vec<f64>, Refused> {
     let mut times = vec![0.0; frames.len()];
     frame_times(frames, RATE, &mut times)?;
     times.iter_mut().for_each(|t| *t /= 1000.0);
@@ -37,7 +37,7 @@ fn show(what: &str, times: &[f64]) {
     println!("{:4} {what:10} at {} .. s", times.len(), first.join(" "));
 }
 
-fn main() -> Result<(), Refusal> {
+fn main() -> Result<(), Refused> {
     let rows = 20 * RATE as usize / limits::HOP as usize;
     let magnitudes = clicks(rows);
 

@@ -1,6 +1,5 @@
 //! Beats and bars.
-use crate::ffi;
-use crate::Refusal;
+use crate::{ffi, limits, rooms, Refused};
 
 /// A place in the music: bar and beat, both counted from 1.
 #[derive(Clone, Copy, Debug, PartialEq, Eq)]
@@ -16,8 +15,8 @@ pub struct BarBeat {
 ///
 /// Room: `envelope.len()` slots of each of `score`, `back` and `beats`. Beats are listed as frames, ascending; `score` and `back` then
 /// hold each frame's score and the beat before it ([`NO_LINK`](crate::limits::NO_LINK) where there is none).
-/// Refuses [`OutOfBounds`](Refusal::OutOfBounds) (the envelope's length, the period), [`TooLittleRoom`](Refusal::TooLittleRoom), and
-/// [`WrongValue`](Refusal::WrongValue) (an envelope value).
+/// Refuses [`OutOfBounds`](crate::Refusal::OutOfBounds) (the envelope's length, the period), [`TooLittleRoom`](crate::Refusal::TooLittleRoom), and
+/// [`WrongValue`](crate::Refusal::WrongValue) (an envelope value).
 ///
 /// ```
 /// # use prohunsev::*;
@@ -25,7 +24,7 @@ pub struct BarBeat {
 /// let count = beat_grid(&[0.0, 4.0, 0.0, 4.0, 0.0, 4.0], 2, &mut score, &mut back, &mut beats)?;
 /// assert_eq!(beats[..count], [1, 3, 5]);
 /// assert_eq!((back[1], back[3]), (limits::NO_LINK, 1));
-/// # Ok::<(), Refusal>(())
+/// # Ok::<(), Refused>(())
 /// ```
 pub fn beat_grid(
     envelope: &[f64],
@@ -33,7 +32,7 @@ pub fn beat_grid(
     score: &mut [f64],
     back: &mut [u32],
     beats: &mut [u32],
-) -> Result<usize, Refusal> {
+) -> Result<usize, Refused> {
     let mut count = 0;
     // SAFETY: the pointers and lengths are those of borrowed slices and a local (the reason in lib.rs)
     let number = unsafe {
@@ -50,7 +49,14 @@ pub fn beat_grid(
             &mut count,
         )
     };
-    Refusal::unless_answered(number)?;
+    Refused::unless_answered("beat_grid", number, |why| {
+        why.frames("envelope", envelope.len())
+            .number("period", period as u64, 0, limits::MOST_PERIOD as u64)
+            .room("score", score.len(), rooms::beats(envelope.len()))
+            .room("back", back.len(), rooms::beats(envelope.len()))
+            .room("beats", beats.len(), rooms::beats(envelope.len()))
+            .values("envelope", envelope)
+    })?;
     Ok(count)
 }
 
@@ -58,17 +64,17 @@ pub fn beat_grid(
 /// many there are.
 ///
 /// Room: `beats.len()` slots of `frames`. A beat past the envelope counts as silent.
-/// Refuses [`OutOfBounds`](Refusal::OutOfBounds) (the envelope's length, a beat above 1,048,575),
-/// [`TooLittleRoom`](Refusal::TooLittleRoom), and [`WrongValue`](Refusal::WrongValue) (an envelope value).
+/// Refuses [`OutOfBounds`](crate::Refusal::OutOfBounds) (the envelope's length, a beat above 1,048,575),
+/// [`TooLittleRoom`](crate::Refusal::TooLittleRoom), and [`WrongValue`](crate::Refusal::WrongValue) (an envelope value).
 ///
 /// ```
 /// # use prohunsev::*;
 /// let mut frames = [0; 3];
 /// let count = downbeats(&[0.0, 4.0, 0.0, 4.0, 0.0, 4.0], &[1, 3, 5], &mut frames)?;
 /// assert_eq!(frames[..count], [1]);
-/// # Ok::<(), Refusal>(())
+/// # Ok::<(), Refused>(())
 /// ```
-pub fn downbeats(envelope: &[f64], beats: &[u32], frames: &mut [u32]) -> Result<usize, Refusal> {
+pub fn downbeats(envelope: &[f64], beats: &[u32], frames: &mut [u32]) -> Result<usize, Refused> {
     let mut count = 0;
     // SAFETY: the pointers and lengths are those of borrowed slices and a local (the reason in lib.rs)
     let number = unsafe {
@@ -82,7 +88,12 @@ pub fn downbeats(envelope: &[f64], beats: &[u32], frames: &mut [u32]) -> Result<
             &mut count,
         )
     };
-    Refusal::unless_answered(number)?;
+    Refused::unless_answered("downbeats", number, |why| {
+        why.frames("envelope", envelope.len())
+            .entries("beats", beats, limits::MOST_FRAME)
+            .room("frames", frames.len(), rooms::entries(beats.len()))
+            .values("envelope", envelope)
+    })?;
     Ok(count)
 }
 

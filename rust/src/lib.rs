@@ -7,7 +7,8 @@
 //! A call takes up to 40 KB of its thread's stack on x86-64 (measured: 34,279 bytes in a whole track, on a stack filled with a pattern). A
 //! thread of 40 KB ran a whole track in a release build; without optimisation what stands around the call needs more, and 48 KB were enough.
 //!
-//! - A call answers, or refuses with a [`Refusal`], and then nothing that was lent has changed.
+//! - A call answers, or is [`Refused`], for one of four reasons ([`Refusal`]), and then nothing that was lent has changed. The error says
+//!   which of all that was lent it was: `threshold: 4,095 slots lent, 4,096 needed`.
 //! - "No tempo" and "no stability" are answers: `Ok` of a `None`.
 //! - A call that lists answers how many entries it listed; they stand first in the slice, and the slots behind them are unchanged.
 //! - Times come from frames: a frame is 256 samples after the one before it ([`frame_times`] in milliseconds).
@@ -29,8 +30,11 @@
 //! assert!((tempo.bpm - 120.0).abs() < 1.0);
 //! assert_eq!(track.onsets.len(), 42);
 //! assert!(track.beats.len() > 35 && track.downbeats.len() > 8);
-//! # Ok::<(), prohunsev::Refusal>(())
+//! # Ok::<(), prohunsev::Refused>(())
 //! ```
+//!
+//! It also hands out the curves of what it analysed, and mends them where rows are replaced ([`Buffers::patch_magnitudes`]); the new grid
+//! is then had without a full run ([`Buffers::analyse_patched`]).
 #![deny(missing_docs)]
 #![deny(unsafe_op_in_unsafe_fn)]
 
@@ -45,12 +49,13 @@ pub mod rooms;
 mod sections;
 mod tempo;
 mod track;
+mod why;
 
 pub use beats::{bar_beat_at, beat_grid, downbeats, BarBeat};
 pub use medians::{mad_of, median_of};
 pub use onsets::{adaptive_threshold, frame_times, pick_onsets, spectral_flux, suppress_close_peaks};
 pub use patches::{patch_features, patch_magnitudes, Patched, PatchedFeatures};
-pub use refusal::Refusal;
+pub use refusal::{Refusal, Refused};
 pub use sections::{boundaries, boundary_times, novelty, similarity, Sections};
 pub use tempo::{estimate, lag_range, stability_of, Candidate, LagRange, Stability, Tempo, TempoEstimate, TempoOpts};
 pub use track::{Analysis, Buffers};

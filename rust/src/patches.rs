@@ -1,6 +1,5 @@
 //! Patches: rows replaced, and the curves that follow from them repaired, as one fresh analysis of the edited rows would give them.
-use crate::ffi;
-use crate::Refusal;
+use crate::{ffi, limits, rooms, Refused};
 use std::ops::Range;
 
 /// The slots that [`patch_magnitudes`] repaired; both ranges are `0..0` for an empty patch.
@@ -26,9 +25,9 @@ pub struct PatchedFeatures {
 ///
 /// `new_rows` holds whole rows. Lent as well: `rows` slots of `flux` and `threshold` that hold the curves, and
 /// [`rooms::threshold_work`](crate::rooms::threshold_work) slots of `work`, which then hold anything.
-/// Refuses [`OutOfBounds`](Refusal::OutOfBounds) (rows, bins, a start above rows), [`WrongLength`](Refusal::WrongLength) (not rows times
-/// bins, a patch that isn't whole rows or runs past the end), [`TooLittleRoom`](Refusal::TooLittleRoom) (a curve or `work` too short),
-/// and [`WrongValue`](Refusal::WrongValue) (a magnitude, old or new, or a curve's value).
+/// Refuses [`OutOfBounds`](crate::Refusal::OutOfBounds) (rows, bins, a start above rows), [`WrongLength`](crate::Refusal::WrongLength) (not rows times
+/// bins, a patch that isn't whole rows or runs past the end), [`TooLittleRoom`](crate::Refusal::TooLittleRoom) (a curve or `work` too short),
+/// and [`WrongValue`](crate::Refusal::WrongValue) (a magnitude, old or new, or a curve's value).
 ///
 /// ```
 /// # use prohunsev::*;
@@ -39,7 +38,7 @@ pub struct PatchedFeatures {
 /// let patched = patch_magnitudes(&mut magnitudes, 4, 1, 1, &[5.0], &mut flux, &mut threshold, &mut work)?;
 /// assert_eq!(flux, [0.0, 5.0, 0.0, 1.0]);
 /// assert_eq!(patched, Patched { flux: 1..3, threshold: 0..4 });
-/// # Ok::<(), Refusal>(())
+/// # Ok::<(), Refused>(())
 /// ```
 // the rows, the patch and the curves are eight slices and numbers of the caller's; a struct to hold them would be taken apart again
 #[allow(clippy::too_many_arguments)]
@@ -52,7 +51,7 @@ pub fn patch_magnitudes(
     flux: &mut [f64],
     threshold: &mut [f64],
     work: &mut [f64],
-) -> Result<Patched, Refusal> {
+) -> Result<Patched, Refused> {
     let mut named = Patched { flux: 0..0, threshold: 0..0 };
     // SAFETY: the pointers and lengths are those of borrowed slices and of a local's fields (the reason in lib.rs)
     let number = unsafe {
@@ -76,7 +75,17 @@ pub fn patch_magnitudes(
             &mut named.threshold.end,
         )
     };
-    Refusal::unless_answered(number)?;
+    Refused::unless_answered("patch_magnitudes", number, |why| {
+        why.magnitude_rows("magnitudes", magnitudes.len(), rows, bins)
+            .new_rows("new_rows", new_rows.len(), start, rows, bins)
+            .room("flux", flux.len(), rooms::flux(rows))
+            .room("threshold", threshold.len(), rooms::threshold(rows))
+            .room("work", work.len(), rooms::threshold_work(rows))
+            .magnitudes("magnitudes", magnitudes)
+            .magnitudes("new_rows", new_rows)
+            .values("flux", &flux[..rows.min(flux.len())])
+            .values("threshold", &threshold[..rows.min(threshold.len())])
+    })?;
     Ok(named)
 }
 
@@ -84,7 +93,7 @@ pub fn patch_magnitudes(
 /// those of the edited rows, bit for bit.
 ///
 /// `new_rows` holds whole rows of 16. Lent as well: 17 slots a row of `similarity` and `rows` slots of `novelty`, which hold the curves.
-/// Refuses as [`patch_magnitudes`] does, and [`WrongValue`](Refusal::WrongValue) for a lent similarity outside -1 to 1.
+/// Refuses as [`patch_magnitudes`] does, and [`WrongValue`](crate::Refusal::WrongValue) for a lent similarity outside -1 to 1.
 ///
 /// ```
 /// # use prohunsev::*;
@@ -95,7 +104,7 @@ pub fn patch_magnitudes(
 /// let patched = patch_features(&mut features, 3, 2, &[-1.0; 16], &mut band, &mut novel)?;
 /// assert_eq!(patched, PatchedFeatures { similarity: 2..51, novelty: 0..3 });
 /// assert_eq!((band[0], band[2]), (1.0, -1.0));
-/// # Ok::<(), Refusal>(())
+/// # Ok::<(), Refused>(())
 /// ```
 pub fn patch_features(
     features: &mut [f64],
@@ -104,7 +113,7 @@ pub fn patch_features(
     new_rows: &[f64],
     similarity: &mut [f64],
     novelty: &mut [f64],
-) -> Result<PatchedFeatures, Refusal> {
+) -> Result<PatchedFeatures, Refused> {
     let mut named = PatchedFeatures { similarity: 0..0, novelty: 0..0 };
     // SAFETY: the pointers and lengths are those of borrowed slices and of a local's fields (the reason in lib.rs)
     let number = unsafe {
@@ -125,6 +134,15 @@ pub fn patch_features(
             &mut named.novelty.end,
         )
     };
-    Refusal::unless_answered(number)?;
+    Refused::unless_answered("patch_features", number, |why| {
+        why.feature_rows("features", features.len(), rows, limits::FEATURE_WIDTH)
+            .new_rows("new_rows", new_rows.len(), start, rows, limits::FEATURE_WIDTH)
+            .room("similarity", similarity.len(), rooms::similarity(rows))
+            .room("novelty", novelty.len(), rooms::novelty(rows))
+            .values("features", features)
+            .values("new_rows", new_rows)
+            .similarities("similarity", &similarity[..rooms::similarity(rows).min(similarity.len())])
+            .values("novelty", &novelty[..rows.min(novelty.len())])
+    })?;
     Ok(named)
 }

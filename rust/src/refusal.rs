@@ -1,12 +1,15 @@
 //! Why a call refuses.
+use crate::why::{Detail, Why};
 use std::error::Error;
 use std::fmt;
 
 /// Why a call refused. A refusal changes nothing that was lent, and of the reasons that apply the lowest is given.
 ///
+/// A call's error is a [`Refused`], which holds one of these; `?` turns it into one where a function answers `Result<_, Refusal>`.
+///
 /// ```
 /// use prohunsev::{lag_range, Refusal, TempoOpts};
-/// let refusal = lag_range(0, TempoOpts::new()).unwrap_err();
+/// let refusal = Refusal::from(lag_range(0, TempoOpts::new()).unwrap_err());
 /// assert_eq!(refusal, Refusal::OutOfBounds);
 /// assert_eq!(refusal.number(), 1);
 /// assert!(refusal.to_string().contains("sample rate"));
@@ -31,22 +34,8 @@ impl Refusal {
         self as u32
     }
 
-    // 0 is an answer; the calls are proved to give no number above 4
-    pub(crate) fn unless_answered(number: u32) -> Result<(), Refusal> {
-        match number {
-            0 => Ok(()),
-            1 => Err(Refusal::OutOfBounds),
-            2 => Err(Refusal::WrongLength),
-            3 => Err(Refusal::TooLittleRoom),
-            4 => Err(Refusal::WrongValue),
-            _ => unreachable!("the library linked answers {number}, which is no number of refusal"),
-        }
-    }
-}
-
-impl fmt::Display for Refusal {
-    fn fmt(&self, f: &mut fmt::Formatter<'_>) -> fmt::Result {
-        let why = match self {
+    const fn sentence(self) -> &'static str {
+        match self {
             Refusal::OutOfBounds => {
                 "a number is out of bounds: sample rate 1 to 192,000, at most 1,048,576 rows or slots of 1 to 4,096 bins, period at most \
                  45,000, at most 50,000 feature rows of 1 to 2^31 samples, finite BPM bounds, frames at most 1,048,575; or a patch starts \
@@ -62,9 +51,119 @@ impl fmt::Display for Refusal {
                 "a value isn't finite or is too large: magnitudes up to 2^126, envelopes, curves, medians and features up to 2^150, \
                  similarities -1 to 1"
             }
-        };
-        write!(f, "refused with {}: {why}", self.number())
+        }
+    }
+}
+
+impl fmt::Display for Refusal {
+    fn fmt(&self, f: &mut fmt::Formatter<'_>) -> fmt::Result {
+        write!(f, "refused with {}: {}", self.number(), self.sentence())
     }
 }
 
 impl Error for Refusal {}
+
+/// A refusal of a call: why, which call, and what of all that was lent to it, in words.
+///
+/// The reason is the proved call's. The words are worked out afterwards from what was lent: they name the argument, what it was and what
+/// is taken; where nothing is found they are the reason's own. Two are equal where their reasons are, and one may be compared with a
+/// [`Refusal`]. Nothing is allocated.
+///
+/// ```
+/// use prohunsev::{adaptive_threshold, lag_range, Refusal, Refused, TempoOpts};
+/// let refused = adaptive_threshold(&[0.0; 30], &mut [0.0; 29], &mut [0.0; 21]).unwrap_err();
+/// assert_eq!(refused.to_string(), "adaptive_threshold refused with 3: threshold: 29 slots lent, 30 needed");
+/// assert_eq!(refused, Refusal::TooLittleRoom);
+/// match lag_range(0, TempoOpts::new()) {
+///     Err(Refused { refusal: Refusal::OutOfBounds, .. }) => {}
+///     other => panic!("{other:?}"),
+/// }
+/// ```
+#[derive(Clone, Copy)]
+pub struct Refused {
+    /// The reason.
+    pub refusal: Refusal,
+    /// The name of the call; empty for one made of a [`Refusal`].
+    pub call: &'static str,
+    detail: Detail,
+}
+
+impl Refused {
+    /// The number of the refusal, 1 to 4.
+    pub const fn number(&self) -> u32 {
+        self.refusal.number()
+    }
+
+    pub(crate) const fn of(call: &'static str, refusal: Refusal, detail: Detail) -> Refused {
+        Refused { refusal, call, detail }
+    }
+
+    // 0 is an answer; the calls are proved to give no number above 4. What is lent is looked at only where the number refuses.
+    pub(crate) fn unless_answered(
+        call: &'static str,
+        number: u32,
+        explain: impl FnOnce(Why) -> Why,
+    ) -> Result<(), Refused> {
+        let refusal = match number {
+            0 => return Ok(()),
+            1 => Refusal::OutOfBounds,
+            2 => Refusal::WrongLength,
+            3 => Refusal::TooLittleRoom,
+            4 => Refusal::WrongValue,
+            _ => unreachable!("the library linked answers {number}, which is no number of refusal"),
+        };
+        Err(Refused { refusal, call, detail: explain(Why::of(refusal)).found() })
+    }
+
+    // the same refusal, told of the call that the caller made
+    pub(crate) fn of_call(self, call: &'static str) -> Refused {
+        Refused { call, ..self }
+    }
+}
+
+impl PartialEq for Refused {
+    fn eq(&self, other: &Refused) -> bool {
+        self.refusal == other.refusal
+    }
+}
+
+impl Eq for Refused {}
+
+impl PartialEq<Refusal> for Refused {
+    fn eq(&self, other: &Refusal) -> bool {
+        self.refusal == *other
+    }
+}
+
+impl From<Refused> for Refusal {
+    fn from(refused: Refused) -> Refusal {
+        refused.refusal
+    }
+}
+
+impl From<Refusal> for Refused {
+    fn from(refusal: Refusal) -> Refused {
+        Refused { refusal, call: "", detail: Detail::Unknown }
+    }
+}
+
+impl fmt::Display for Refused {
+    fn fmt(&self, f: &mut fmt::Formatter<'_>) -> fmt::Result {
+        if !self.call.is_empty() {
+            write!(f, "{} ", self.call)?;
+        }
+        match self.detail {
+            Detail::Unknown => write!(f, "{}", self.refusal),
+            detail => write!(f, "refused with {}: {detail}", self.number()),
+        }
+    }
+}
+
+// what a program says whose main ends with one
+impl fmt::Debug for Refused {
+    fn fmt(&self, f: &mut fmt::Formatter<'_>) -> fmt::Result {
+        write!(f, "Refused({self})")
+    }
+}
+
+impl Error for Refused {}

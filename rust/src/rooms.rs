@@ -1,7 +1,7 @@
 //! Room: how many slots each lent slice needs, from the counts alone.
 //!
-//! With fewer slots a call refuses with [`Refusal::TooLittleRoom`] and changes nothing; with exactly these it never does.
-use crate::{ffi, lag_range, limits, Refusal, TempoOpts};
+//! With fewer slots a call refuses with [`Refusal::TooLittleRoom`](crate::Refusal::TooLittleRoom) and changes nothing; with exactly these it never does.
+use crate::{ffi, lag_range, limits, Refused, TempoOpts};
 
 /// Slots of `flux` for so many magnitude rows.
 pub const fn flux(rows: usize) -> usize {
@@ -34,7 +34,7 @@ pub const fn onsets(slots: usize) -> usize {
 /// # use prohunsev::*;
 /// assert_eq!(rooms::lags(48_000, TempoOpts::new()), Ok(338));
 /// ```
-pub fn lags(rate: u32, opts: TempoOpts) -> Result<usize, Refusal> {
+pub fn lags(rate: u32, opts: TempoOpts) -> Result<usize, Refused> {
     Ok(lag_range(rate, opts)?.lags())
 }
 
@@ -75,7 +75,7 @@ pub struct Track {
 }
 
 impl Track {
-    /// The room for a track of at most so many rows. Refuses [`Refusal::OutOfBounds`] for more than 1,048,576 rows, for the rate, and for
+    /// The room for a track of at most so many rows. Refuses [`OutOfBounds`](crate::Refusal::OutOfBounds) for more than 1,048,576 rows, for the rate, and for
     /// a bound that isn't finite.
     ///
     /// ```
@@ -83,15 +83,17 @@ impl Track {
     /// let room = rooms::Track::of(67_500, 48_000, TempoOpts::new())?; // six minutes
     /// assert_eq!((room.rows, room.lags, room.sorting), (67_500, 338, 338));
     /// assert_eq!(room.bytes(), 2_713_520);
-    /// # Ok::<(), Refusal>(())
+    /// # Ok::<(), Refused>(())
     /// ```
-    pub fn of(rows: usize, rate: u32, opts: TempoOpts) -> Result<Track, Refusal> {
+    pub fn of(rows: usize, rate: u32, opts: TempoOpts) -> Result<Track, Refused> {
         let mut room = Track { rows: 0, lags: 0, sorting: 0 };
         let Track { rows: row_slots, lags: lag_slots, sorting: work_slots } = &mut room;
         // SAFETY: the pointers are those of a local's three fields (the reason in lib.rs)
         let number =
             unsafe { ffi::ph_room_of(rows, rate, opts.min_bpm, opts.max_bpm, row_slots, lag_slots, work_slots) };
-        Refusal::unless_answered(number)?;
+        Refused::unless_answered("room_of", number, |why| {
+            why.number("rows", rows as u64, 0, limits::MOST_ROWS as u64).rate(rate).bounds(opts)
+        })?;
         Ok(room)
     }
 

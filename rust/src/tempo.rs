@@ -1,6 +1,5 @@
 //! Tempo: how fast the pulse of an envelope is, and how steady.
-use crate::ffi;
-use crate::Refusal;
+use crate::{ffi, limits, Refused};
 
 /// The bounds of the tempo search in beats a minute, 30 to 300 where nothing else is said. They may come in either order.
 ///
@@ -130,19 +129,19 @@ pub struct Stability {
 
 /// The lags that the options' bounds stand for.
 ///
-/// Refuses [`OutOfBounds`](Refusal::OutOfBounds) (the rate, a bound that isn't finite).
+/// Refuses [`OutOfBounds`](crate::Refusal::OutOfBounds) (the rate, a bound that isn't finite).
 ///
 /// ```
 /// # use prohunsev::*;
 /// let range = lag_range(48_000, TempoOpts::new())?;
 /// assert_eq!((range.min_lag, range.max_lag, range.lags()), (38, 375, 338));
-/// # Ok::<(), Refusal>(())
+/// # Ok::<(), Refused>(())
 /// ```
-pub fn lag_range(rate: u32, opts: TempoOpts) -> Result<LagRange, Refusal> {
+pub fn lag_range(rate: u32, opts: TempoOpts) -> Result<LagRange, Refused> {
     let mut range = LagRange { min_lag: 0, max_lag: 0 };
     // SAFETY: the pointers are those of a local's two fields (the reason in lib.rs)
     let number = unsafe { ffi::ph_lag_range(rate, opts.min_bpm, opts.max_bpm, &mut range.min_lag, &mut range.max_lag) };
-    Refusal::unless_answered(number)?;
+    Refused::unless_answered("lag_range", number, |why| why.rate(rate).bounds(opts))?;
     Ok(range)
 }
 
@@ -151,8 +150,8 @@ pub fn lag_range(rate: u32, opts: TempoOpts) -> Result<LagRange, Refusal> {
 /// Room: [`rooms::lags`](crate::rooms::lags) slots of each of `clarity`, `weight` and `work`, also where there is no tempo.
 /// Unless the envelope is too short or flat or has fewer than two onsets, `clarity` and `weight` then hold the clarity and the weight of
 /// each lag.
-/// Refuses [`OutOfBounds`](Refusal::OutOfBounds) (the envelope's length, the rate, a bound that isn't finite),
-/// [`TooLittleRoom`](Refusal::TooLittleRoom), and [`WrongValue`](Refusal::WrongValue) (an envelope value).
+/// Refuses [`OutOfBounds`](crate::Refusal::OutOfBounds) (the envelope's length, the rate, a bound that isn't finite),
+/// [`TooLittleRoom`](crate::Refusal::TooLittleRoom), and [`WrongValue`](crate::Refusal::WrongValue) (an envelope value).
 ///
 /// ```
 /// # use prohunsev::*;
@@ -162,7 +161,7 @@ pub fn lag_range(rate: u32, opts: TempoOpts) -> Result<LagRange, Refusal> {
 /// let found = estimate(&envelope, 10, 48_000, TempoOpts::new(), &mut clarity, &mut weight, &mut work)?;
 /// assert_eq!(found.lag(), Some(80));
 /// assert_eq!(found.tempo.unwrap().bpm, 140.625);
-/// # Ok::<(), Refusal>(())
+/// # Ok::<(), Refused>(())
 /// ```
 pub fn estimate(
     envelope: &[f64],
@@ -172,7 +171,7 @@ pub fn estimate(
     clarity: &mut [f64],
     weight: &mut [f64],
     work: &mut [f64],
-) -> Result<TempoEstimate, Refusal> {
+) -> Result<TempoEstimate, Refused> {
     let (mut found, mut bpm, mut clear, mut count) = (0, 0.0, 0.0, 0);
     let (mut lags, mut saliences) = ([0; 3], [0.0; 3]);
     // SAFETY: the pointers and lengths are those of borrowed slices and locals (the reason in lib.rs)
@@ -198,7 +197,13 @@ pub fn estimate(
             &mut count,
         )
     };
-    Refusal::unless_answered(number)?;
+    Refused::unless_answered("estimate", number, |why| {
+        why.frames("envelope", envelope.len())
+            .rate(rate)
+            .bounds(opts)
+            .lag_curves(rate, opts, [("clarity", clarity.len()), ("weight", weight.len()), ("work", work.len())])
+            .values("envelope", envelope)
+    })?;
     let tempo = (found != 0).then_some(Tempo { bpm, clarity: clear });
     Ok(TempoEstimate::of(tempo, lags, saliences, count))
 }
@@ -207,7 +212,7 @@ pub fn estimate(
 /// `None` where fewer than two windows fit, or where `whole_lag`, the lag of the whole track's tempo, is 0.
 ///
 /// Room: [`rooms::lags`](crate::rooms::lags) slots of each of `clarity`, `weight` and `work`; all three then hold anything.
-/// Refuses as [`estimate`] does, and [`OutOfBounds`](Refusal::OutOfBounds) for a lag above 45,000.
+/// Refuses as [`estimate`] does, and [`OutOfBounds`](crate::Refusal::OutOfBounds) for a lag above 45,000.
 ///
 /// ```
 /// # use prohunsev::*;
@@ -216,7 +221,7 @@ pub fn estimate(
 /// let (mut clarity, mut weight, mut work) = (vec![0.0; lags], vec![0.0; lags], vec![0.0; lags]);
 /// let steady = stability_of(&envelope, 48_000, TempoOpts::new(), 80, &mut clarity, &mut weight, &mut work)?;
 /// assert_eq!(steady, Some(Stability { fraction: 1.0, agreeing: 4, windows: 4 }));
-/// # Ok::<(), Refusal>(())
+/// # Ok::<(), Refused>(())
 /// ```
 pub fn stability_of(
     envelope: &[f64],
@@ -226,7 +231,7 @@ pub fn stability_of(
     clarity: &mut [f64],
     weight: &mut [f64],
     work: &mut [f64],
-) -> Result<Option<Stability>, Refusal> {
+) -> Result<Option<Stability>, Refused> {
     let (mut found, mut fraction, mut agreeing, mut windows) = (0, 0.0, 0, 0);
     // SAFETY: the pointers and lengths are those of borrowed slices and locals (the reason in lib.rs)
     let number = unsafe {
@@ -249,6 +254,13 @@ pub fn stability_of(
             &mut windows,
         )
     };
-    Refusal::unless_answered(number)?;
+    Refused::unless_answered("stability_of", number, |why| {
+        why.frames("envelope", envelope.len())
+            .rate(rate)
+            .bounds(opts)
+            .number("whole_lag", whole_lag as u64, 0, limits::MOST_PERIOD as u64)
+            .lag_curves(rate, opts, [("clarity", clarity.len()), ("weight", weight.len()), ("work", work.len())])
+            .values("envelope", envelope)
+    })?;
     Ok((found != 0).then_some(Stability { fraction, agreeing, windows }))
 }

@@ -60,7 +60,7 @@ fn runs_of_magnitude_patches() {
                         assert_eq!(before[t].to_bits(), flux[t].to_bits());
                     }
                 }
-                Err(refusal) => assert_eq!((refusal, new[0].is_nan()), (Refusal::WrongValue, true)),
+                Err(refused) => assert_eq!((refused.refusal, new[0].is_nan()), (Refusal::WrongValue, true)),
             }
             let fresh = magnitude_curves(&magnitudes, rows, bins);
             assert_eq!((bits(&flux), bits(&threshold)), (bits(&fresh.0), bits(&fresh.1)));

@@ -8,12 +8,12 @@ fn envelope(n: usize) -> Vec<f64> {
     (0..n).map(|t| (t % 7) as f64 * 0.01 + if t % 94 == 5 { 2.0 } else { 0.0 }).collect()
 }
 
-fn short<T>(answer: Result<T, Refusal>) -> bool {
+fn short<T>(answer: Result<T, Refused>) -> bool {
     answer.is_err_and(|r| r == Refusal::TooLittleRoom)
 }
 
 // a call by its name, its slots, and itself with other numbers of them
-type Case<'a> = (&'a str, &'a [usize], &'a dyn Fn(&[usize]) -> Result<(), Refusal>);
+type Case<'a> = (&'a str, &'a [usize], &'a dyn Fn(&[usize]) -> Result<(), Refused>);
 
 // each call with the slots of its outputs and work slices, by `rooms`: with so many it is answered; with one slot fewer in any of them, and
 // different numbers to spare in the others, it is not
@@ -75,7 +75,11 @@ fn one_slot_short() {
                 let mut slots: Vec<usize> = exact.iter().zip(1..).map(|(slots, spare)| slots + spare).collect();
                 assert_eq!(call(&slots), Ok(()), "{name}, {n}, and to spare");
                 slots[short] = exact[short] - 1;
-                assert_eq!(call(&slots), Err(Refusal::TooLittleRoom), "{name}, {n}, slice {short} of its outputs");
+                assert_eq!(
+                    call(&slots),
+                    Err(Refusal::TooLittleRoom.into()),
+                    "{name}, {n}, slice {short} of its outputs"
+                );
             }
         }
     }
@@ -97,7 +101,7 @@ fn a_whole_track() {
     ] {
         assert!(short(Buffers::with_room(less).unwrap().analyse_envelope(&envelope(2_000), RATE, opts)));
     }
-    assert_eq!(rooms::Track::of(limits::MOST_ROWS + 1, RATE, opts), Err(Refusal::OutOfBounds));
+    assert_eq!(rooms::Track::of(limits::MOST_ROWS + 1, RATE, opts), Err(Refusal::OutOfBounds.into()));
     assert!(Buffers::for_tracks(10, 0, opts).is_err());
     // the most that a track can use, and one more of each
     let most = rooms::Track { rows: limits::MOST_ROWS, lags: 45_000, sorting: 45_000 };
@@ -107,7 +111,7 @@ fn a_whole_track() {
         rooms::Track { lags: 45_001, ..most },
         rooms::Track { sorting: usize::MAX, ..most },
     ] {
-        assert_eq!(Buffers::with_room(more).err(), Some(Refusal::OutOfBounds));
+        assert_eq!(Buffers::with_room(more).err(), Some(Refusal::OutOfBounds.into()));
     }
 }
 
@@ -118,17 +122,20 @@ fn a_refused_track() {
     let mut buffers = Buffers::for_tracks(1_000, RATE, opts).unwrap();
     let beats = buffers.analyse_envelope(&envelope(1_000), RATE, opts).unwrap().beats.to_vec();
     assert!(!beats.is_empty());
-    let was = format!("{buffers:?}");
-    assert_eq!(buffers.analyse_envelope(&[0.0; 1_001], 0, opts), Err(Refusal::OutOfBounds));
-    assert_eq!(buffers.analyse_magnitudes(&[0.0; 1_001], 1_001, 1, 0, opts), Err(Refusal::OutOfBounds));
-    assert_eq!(buffers.analyse_magnitudes(&[f32::NAN], 1, 1, 0, opts), Err(Refusal::OutOfBounds));
-    assert_eq!(buffers.analyse_magnitudes(&[f32::NAN], 2, 1, RATE, opts), Err(Refusal::WrongLength));
-    assert_eq!(buffers.analyse_magnitudes(&[f32::NAN; 1_001], 1_001, 1, RATE, opts), Err(Refusal::TooLittleRoom));
-    assert_eq!(buffers.analyse_magnitudes(&[0.0, f32::NAN], 2, 1, RATE, opts), Err(Refusal::WrongValue));
-    assert_eq!(buffers.analyse_envelope(&[9.0, limits::MOST_VALUE * 2.0], RATE, opts), Err(Refusal::WrongValue));
+    let was = buffers.clone();
+    assert_eq!(buffers.analyse_envelope(&[0.0; 1_001], 0, opts), Err(Refusal::OutOfBounds.into()));
+    assert_eq!(buffers.analyse_magnitudes(&[0.0; 1_001], 1_001, 1, 0, opts), Err(Refusal::OutOfBounds.into()));
+    assert_eq!(buffers.analyse_magnitudes(&[f32::NAN], 1, 1, 0, opts), Err(Refusal::OutOfBounds.into()));
+    assert_eq!(buffers.analyse_magnitudes(&[f32::NAN], 2, 1, RATE, opts), Err(Refusal::WrongLength.into()));
+    assert_eq!(
+        buffers.analyse_magnitudes(&[f32::NAN; 1_001], 1_001, 1, RATE, opts),
+        Err(Refusal::TooLittleRoom.into())
+    );
+    assert_eq!(buffers.analyse_magnitudes(&[0.0, f32::NAN], 2, 1, RATE, opts), Err(Refusal::WrongValue.into()));
+    assert_eq!(buffers.analyse_envelope(&[9.0, limits::MOST_VALUE * 2.0], RATE, opts), Err(Refusal::WrongValue.into()));
     let slow = opts.with_min_bpm(5.0);
-    assert_eq!(buffers.analyse_envelope(&envelope(1_000), RATE, slow), Err(Refusal::TooLittleRoom));
-    assert_eq!(format!("{buffers:?}"), was);
+    assert_eq!(buffers.analyse_envelope(&envelope(1_000), RATE, slow), Err(Refusal::TooLittleRoom.into()));
+    assert!(buffers == was);
 }
 
 // its thresholds come out above 2^150, and are no lent values

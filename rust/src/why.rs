@@ -1,0 +1,385 @@
+//! What a call was refused for, found by looking at what it was lent, once it has refused.
+//!
+//! A call names all that it takes, in the order of its parameters, and the first that the number of its refusal fits is told. It decides
+//! nothing: the number is the proved call's, and where none is found here the general sentence is told.
+use crate::{limits, rooms, Refusal, TempoOpts};
+use std::fmt;
+
+/// A slice by its name, and the slots that were lent.
+pub type Named = (&'static str, usize);
+
+/// What is wrong with one thing that was lent.
+#[derive(Clone, Copy)]
+pub enum Detail {
+    Unknown,
+    /// A number, and its bounds.
+    Number {
+        name: &'static str,
+        is: u64,
+        least: u64,
+        most: u64,
+    },
+    /// A number that must be finite.
+    Bound {
+        name: &'static str,
+        is: f64,
+    },
+    /// An input of more slots than any track has.
+    TooMany {
+        slice: &'static str,
+        lent: usize,
+        most: usize,
+    },
+    Empty {
+        slice: &'static str,
+    },
+    /// An entry of a list.
+    Entry {
+        slice: &'static str,
+        at: usize,
+        is: u32,
+        most: u32,
+    },
+    /// An entry of a list that isn't above the one before it.
+    Falls {
+        slice: &'static str,
+        at: usize,
+        is: u32,
+        before: u32,
+    },
+    /// A list of peaks that points past its curve.
+    Past {
+        slice: &'static str,
+        at: usize,
+        is: u32,
+        curve: usize,
+    },
+    /// Rows of another number of values.
+    Rows {
+        slice: &'static str,
+        lent: usize,
+        rows: usize,
+        width: usize,
+    },
+    /// An input that isn't as long as another.
+    Unlike {
+        slice: &'static str,
+        lent: usize,
+        needed: usize,
+        other: &'static str,
+    },
+    /// New rows that aren't whole.
+    Broken {
+        slice: &'static str,
+        lent: usize,
+        width: usize,
+    },
+    /// New rows that run past the last.
+    Runs {
+        slice: &'static str,
+        count: usize,
+        start: usize,
+        rows: usize,
+    },
+    /// A slice that is too short; `whole` where it is one of `Buffers`.
+    Room {
+        slice: &'static str,
+        lent: usize,
+        needed: usize,
+        whole: bool,
+    },
+    /// A value of a slice, and what is taken.
+    Value {
+        slice: &'static str,
+        at: usize,
+        is: f64,
+        taken: Taken,
+    },
+    /// A value that is lent alone.
+    Alone {
+        name: &'static str,
+        is: f64,
+        taken: Taken,
+    },
+    /// Rows that aren't those that the buffers analysed last.
+    Analysed {
+        rows: usize,
+        bins: usize,
+        last: (usize, usize),
+    },
+    /// Buffers that have analysed no magnitudes, or an envelope since.
+    NoRows,
+}
+
+/// What values are taken.
+#[derive(Clone, Copy)]
+pub enum Taken {
+    Magnitudes,
+    Values,
+    Similarities,
+}
+
+impl Taken {
+    fn takes(self, value: f64) -> bool {
+        let most = match self {
+            Taken::Magnitudes => f64::from(limits::MOST_MAGNITUDE),
+            Taken::Values => limits::MOST_VALUE,
+            Taken::Similarities => 1.0,
+        };
+        value.abs() <= most
+    }
+}
+
+/// The search for a detail.
+pub struct Why {
+    refusal: Refusal,
+    detail: Detail,
+}
+
+impl Why {
+    pub fn of(refusal: Refusal) -> Why {
+        Why { refusal, detail: Detail::Unknown }
+    }
+
+    pub fn found(self) -> Detail {
+        self.detail
+    }
+
+    // what `look` finds, where this is the reason and nothing has been found before
+    fn or(self, reason: Refusal, look: impl FnOnce() -> Option<Detail>) -> Why {
+        match self.detail {
+            Detail::Unknown if self.refusal == reason => Why { detail: look().unwrap_or(Detail::Unknown), ..self },
+            _ => self,
+        }
+    }
+
+    // ---- number 1
+
+    pub fn number(self, name: &'static str, is: u64, least: u64, most: u64) -> Why {
+        let outside = !(least..=most).contains(&is);
+        self.or(Refusal::OutOfBounds, || outside.then_some(Detail::Number { name, is, least, most }))
+    }
+
+    pub fn rate(self, rate: u32) -> Why {
+        self.number("rate", rate.into(), 1, limits::MOST_RATE.into())
+    }
+
+    pub fn bounds(self, opts: TempoOpts) -> Why {
+        let bounds = [("min_bpm", opts.min_bpm), ("max_bpm", opts.max_bpm)];
+        let open = bounds.into_iter().find(|(_, is)| !is.is_finite());
+        self.or(Refusal::OutOfBounds, || open.map(|(name, is)| Detail::Bound { name, is }))
+    }
+
+    pub fn slots(self, slice: &'static str, lent: usize, most: usize) -> Why {
+        self.or(Refusal::OutOfBounds, || (lent > most).then_some(Detail::TooMany { slice, lent, most }))
+    }
+
+    // an envelope, a flux or a curve
+    pub fn frames(self, slice: &'static str, lent: usize) -> Why {
+        self.slots(slice, lent, limits::MOST_ROWS)
+    }
+
+    pub fn some(self, slice: &'static str, lent: usize) -> Why {
+        self.or(Refusal::OutOfBounds, || (lent == 0).then_some(Detail::Empty { slice }))
+    }
+
+    pub fn entries(self, slice: &'static str, list: &[u32], most: u32) -> Why {
+        self.or(Refusal::OutOfBounds, || {
+            let at = list.iter().position(|&is| is > most)?;
+            Some(Detail::Entry { slice, at, is: list[at], most })
+        })
+    }
+
+    pub fn peaks(self, slice: &'static str, list: &[u32], curve: usize) -> Why {
+        self.or(Refusal::OutOfBounds, || {
+            let at = (0..list.len()).find(|&at| list[at] as usize >= curve || at > 0 && list[at] <= list[at - 1])?;
+            Some(if list[at] as usize >= curve {
+                Detail::Past { slice, at, is: list[at], curve }
+            } else {
+                Detail::Falls { slice, at, is: list[at], before: list[at - 1] }
+            })
+        })
+    }
+
+    // ---- numbers 1 and 2
+
+    pub fn magnitude_rows(self, slice: &'static str, lent: usize, rows: usize, bins: usize) -> Why {
+        let why = self.number("rows", rows as u64, 0, limits::MOST_ROWS as u64);
+        why.number("bins", bins as u64, 1, limits::MOST_BINS as u64).table(slice, lent, rows, bins)
+    }
+
+    pub fn feature_rows(self, slice: &'static str, lent: usize, rows: usize, width: usize) -> Why {
+        self.number("rows", rows as u64, 0, limits::MOST_FEATURE_ROWS as u64).table(slice, lent, rows, width)
+    }
+
+    fn table(self, slice: &'static str, lent: usize, rows: usize, width: usize) -> Why {
+        let whole = rows.checked_mul(width) == Some(lent);
+        self.or(Refusal::WrongLength, || (!whole).then_some(Detail::Rows { slice, lent, rows, width }))
+    }
+
+    pub fn new_rows(self, slice: &'static str, lent: usize, start: usize, rows: usize, width: usize) -> Why {
+        self.number("start", start as u64, 0, rows as u64).or(Refusal::WrongLength, || {
+            if width == 0 || lent % width != 0 {
+                return Some(Detail::Broken { slice, lent, width });
+            }
+            let count = lent / width;
+            (count > rows.saturating_sub(start)).then_some(Detail::Runs { slice, count, start, rows })
+        })
+    }
+
+    pub fn of_length(self, slice: &'static str, lent: usize, other: &'static str, needed: usize) -> Why {
+        self.or(Refusal::WrongLength, || (lent != needed).then_some(Detail::Unlike { slice, lent, needed, other }))
+    }
+
+    // ---- number 3
+
+    pub fn room(self, slice: &'static str, lent: usize, needed: usize) -> Why {
+        self.short(slice, lent, needed, false)
+    }
+
+    fn short(self, slice: &'static str, lent: usize, needed: usize, whole: bool) -> Why {
+        self.or(Refusal::TooLittleRoom, || (lent < needed).then_some(Detail::Room { slice, lent, needed, whole }))
+    }
+
+    // three slices of a lag each; what that comes to is asked where it matters
+    pub fn lag_curves(self, rate: u32, opts: TempoOpts, lent: [Named; 3]) -> Why {
+        let lags = rooms::lags(rate, opts).unwrap_or(0);
+        lent.into_iter().fold(self, |why, (slice, slots)| why.room(slice, slots, lags))
+    }
+
+    // slices of `Buffers`: those of a row, of a lag, and to work in
+    pub fn track(
+        self,
+        (rows, rate, opts): (usize, u32, TempoOpts),
+        of_rows: &[Named],
+        of_lags: &[Named],
+        work: usize,
+    ) -> Why {
+        let Ok(room) = rooms::Track::of(rows, rate, opts) else { return self };
+        let why = of_rows.iter().fold(self, |why, &(slice, lent)| why.short(slice, lent, room.rows, true));
+        let why = of_lags.iter().fold(why, |why, &(slice, lent)| why.short(slice, lent, room.lags, true));
+        why.short("work", work, room.sorting, true)
+    }
+
+    // ---- number 4
+
+    pub fn value(self, name: &'static str, is: f64) -> Why {
+        let taken = Taken::Values;
+        self.or(Refusal::WrongValue, || (!taken.takes(is)).then_some(Detail::Alone { name, is, taken }))
+    }
+
+    pub fn values(self, slice: &'static str, lent: &[f64]) -> Why {
+        self.first(slice, lent.iter().copied(), Taken::Values)
+    }
+
+    pub fn magnitudes(self, slice: &'static str, lent: &[f32]) -> Why {
+        self.first(slice, lent.iter().map(|&x| f64::from(x)), Taken::Magnitudes)
+    }
+
+    pub fn similarities(self, slice: &'static str, lent: &[f64]) -> Why {
+        self.first(slice, lent.iter().copied(), Taken::Similarities)
+    }
+
+    fn first(self, slice: &'static str, lent: impl Iterator<Item = f64>, taken: Taken) -> Why {
+        self.or(Refusal::WrongValue, || {
+            let (at, is) = lent.enumerate().find(|&(_, is)| !taken.takes(is))?;
+            Some(Detail::Value { slice, at, is, taken })
+        })
+    }
+}
+
+/// A count with a comma at each thousand.
+struct Count(u64);
+
+impl fmt::Display for Count {
+    fn fmt(&self, f: &mut fmt::Formatter<'_>) -> fmt::Result {
+        if self.0 < 1_000 {
+            return write!(f, "{}", self.0);
+        }
+        write!(f, "{},{:03}", Count(self.0 / 1_000), self.0 % 1_000)
+    }
+}
+
+fn count(number: usize) -> Count {
+    Count(number as u64)
+}
+
+/// So many things of a name.
+struct Many(usize, &'static str);
+
+impl fmt::Display for Many {
+    fn fmt(&self, f: &mut fmt::Formatter<'_>) -> fmt::Result {
+        write!(f, "{} {}{}", count(self.0), self.1, if self.0 == 1 { "" } else { "s" })
+    }
+}
+
+impl fmt::Display for Taken {
+    fn fmt(&self, f: &mut fmt::Formatter<'_>) -> fmt::Result {
+        f.write_str(match self {
+            Taken::Magnitudes => "a value is finite and at most 2^126 in size",
+            Taken::Values => "a value is finite and at most 2^150 in size",
+            Taken::Similarities => "a similarity is -1 to 1",
+        })
+    }
+}
+
+impl fmt::Display for Detail {
+    fn fmt(&self, f: &mut fmt::Formatter<'_>) -> fmt::Result {
+        match *self {
+            Detail::Unknown => Ok(()),
+            Detail::Number { name, is, least, most } => {
+                write!(f, "{name} {}, {} to {}", Count(is), Count(least), Count(most))
+            }
+            Detail::Bound { name, is } => write!(f, "{name} {is:?}, a finite number"),
+            Detail::TooMany { slice, lent, most } => {
+                write!(f, "{slice}: {} lent, at most {}", Many(lent, "slot"), count(most))
+            }
+            Detail::Empty { slice } => write!(f, "{slice}: no value lent, at least one needed"),
+            Detail::Entry { slice, at, is, most } => {
+                write!(f, "{slice}[{at}] is {}, at most {}", Count(is.into()), Count(most.into()))
+            }
+            Detail::Falls { slice, at, is, before } => {
+                let (is, before) = (Count(is.into()), Count(before.into()));
+                write!(f, "{slice}[{at}] is {is} and the one before it {before}: a list of peaks ascends")
+            }
+            Detail::Past { slice, at, is, curve } => {
+                write!(f, "{slice}[{at}] is {}, past its curve of {}", Count(is.into()), Many(curve, "slot"))
+            }
+            Detail::Rows { slice, lent, rows, width } => {
+                let (needed, rows, width) = (count(rows.saturating_mul(width)), Many(rows, "row"), count(width));
+                write!(f, "{slice}: {} lent, {needed} needed: {rows} of {width}", Many(lent, "value"))
+            }
+            Detail::Unlike { slice, lent, needed, other } => {
+                write!(f, "{slice}: {} lent, {} needed, as many as {other} has", Many(lent, "slot"), count(needed))
+            }
+            Detail::Broken { slice, lent, width } => {
+                write!(f, "{slice}: {} lent, whole rows of {} needed", Many(lent, "value"), count(width))
+            }
+            Detail::Runs { slice, count: new, start, rows } => {
+                let left = count(rows.saturating_sub(start));
+                write!(
+                    f,
+                    "{slice}: {} lent, {left} of {} left from row {} on",
+                    Many(new, "row"),
+                    count(rows),
+                    count(start)
+                )
+            }
+            Detail::Room { slice, lent, needed, whole } => {
+                write!(f, "{slice}: {} lent, {} needed", Many(lent, "slot"), count(needed))?;
+                f.write_str(if whole {
+                    "; Buffers::for_tracks of as many rows, this rate and these options has them"
+                } else {
+                    ""
+                })
+            }
+            Detail::Value { slice, at, is, taken } => write!(f, "{slice}[{at}] is {is:?}: {taken}"),
+            Detail::Alone { name, is, taken } => write!(f, "{name} is {is:?}: {taken}"),
+            Detail::Analysed { rows, bins, last } => {
+                let [r, b, last_r, last_b] = [rows, bins, last.0, last.1].map(count);
+                write!(f, "{r} rows of {b} bins lent, and these buffers analysed {last_r} rows of {last_b} last")
+            }
+            Detail::NoRows => f.write_str("these buffers hold the flux of no rows: analyse_magnitudes comes first"),
+        }
+    }
+}
