@@ -64,7 +64,7 @@ pub fn novelty(similarity: &[f64], rows: usize, novelty: &mut [f64]) -> Result<(
     })
 }
 
-/// Lists the rows at which sections begin, ascending, at most `max_sections - 1` of them. A row is `length` samples long.
+/// Lists the rows at which sections begin, ascending, at most `max(1, max_sections) - 1` of them. A row is `length` samples long.
 ///
 /// Room: `novelty.len()` slots of `rows` and of `work`, which then holds anything. Fewer than 16 rows: one section, no boundary.
 /// Refuses [`OutOfBounds`](crate::Refusal::OutOfBounds) (the number of rows, the length, the rate),
