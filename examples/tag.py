@@ -47,6 +47,7 @@ WIDE_FRAME, WIDE_HOP = 4096, 1024                # the transform under the featu
 MOST_ROWS, MOST_FEATURE_ROWS, MOST_RATE = 1_048_576, 50_000, 192_000  # the library's limits
 MOST_SECTIONS = 12                               # the original's default
 BLOCK = 1 << 17                                  # samples read at a time: 512 rows, which stay in a processor's cache
+LOUDEST = 2.0 ** 100                             # a float file may hold more; no sum or magnitude of such samples is too large for a call
 
 
 class Trouble(Exception):
@@ -62,6 +63,7 @@ class Wav:
     def __init__(self, stream, name, piped=False):
         self.stream, self.name, self.code, self.warning = stream, name, None, None
         head = stream.read(12)
+        self.is_empty = not head
         self.is_wav = head[:4] == b"RIFF" and head[8:] == b"WAVE"
         if self.is_wav:
             self._find_data(piped)
@@ -131,12 +133,14 @@ class Wav:
 
     def _values(self, raw, done):
         if self.code == 3:
-            with np.errstate(over="ignore"):
-                values = np.frombuffer(raw, "<f%d" % (self.bits // 8)).astype(np.float32)
-            if not np.isfinite(values).all():
-                at = done + int(np.argmin(np.isfinite(values))) // self.channels
-                raise Trouble("%s: the sample at %.6f s isn't a finite number" % (self.name, at / self.rate))
-            return values
+            values = np.frombuffer(raw, "<f%d" % (self.bits // 8))
+            with np.errstate(invalid="ignore"):
+                fine = np.abs(values) <= LOUDEST  # no for what isn't a number
+            if not fine.all():
+                at = int(np.argmin(fine))
+                raise Trouble("%s: the sample at %.6f s is %g: samples lie from -1 to 1, and none above %.2g is read"
+                              % (self.name, (done + at // self.channels) / self.rate, values[at], LOUDEST))
+            return values.astype(np.float32)
         if self.bits == 8:
             return (np.frombuffer(raw, np.uint8).astype(np.float32) - 128) / 128
         if self.bits == 24:
@@ -175,6 +179,8 @@ def recording(path):
     name = told_name(path)
     with open(path, "rb") as stream:
         wav = Wav(stream, name)
+        if wav.is_empty:
+            raise Trouble("%s is empty: there is no song in it" % name)
         if wav.is_wav and wav.is_read_here:
             yield wav
             return
@@ -192,8 +198,11 @@ def recording(path):
             process.stdout.close()  # all of it was read; a decoder that would say more isn't waited for
             if process.wait() or not readable:
                 said.seek(0)
-                words = said.read().decode("utf-8", "replace").strip().splitlines() or ["no word of why"]
-                raise Trouble("%s: %s, and %s can't read it: %s" % (name, what, command[0], words[-1]))
+                # the first says what is wrong, those behind it what follows, or which option would hide it
+                first = (said.read().decode("utf-8", "replace").strip().splitlines() or ["no word of why"])[0]
+                if "matches no streams" in first:
+                    raise Trouble("%s: there is no sound in it, by %s" % (name, command[0]))
+                raise Trouble("%s: %s, and %s can't read it: %s" % (name, what, command[0], first))
         finally:
             process.kill()  # where it has ended already this does nothing
             process.stdout.close()
@@ -702,16 +711,22 @@ def arguments(words):
     parser.add_argument("--json", metavar="FILE", help="write the answers as JSON")
     parser.add_argument("--labels", metavar="FILE", help="write sections and beats as labels that Audacity imports")
     parser.add_argument("--onsets", action="store_true", help="label the onsets too")
-    parser.add_argument("--picture", metavar="FILE", help="draw flux, threshold, onsets, beats, downbeats, sections and tempo, as SVG")
+    parser.add_argument("--picture", metavar="FILE.svg", help="draw flux, threshold, onsets, beats, downbeats, sections and tempo, as SVG")
     parser.add_argument("--part", metavar="START-END", type=part_of, help="draw this part alone, for example 1:00-1:30; half a minute is easy to read")
-    parser.add_argument("--min-bpm", type=float, default=30.0, metavar="BPM", help="the slowest tempo that is looked for (30)")
-    parser.add_argument("--max-bpm", type=float, default=300.0, metavar="BPM", help="the fastest tempo that is looked for (300)")
+    parser.add_argument("--min-bpm", type=float, default=30.0, metavar="BPM", help="the slowest tempo that is looked for (30), to the nearest lag")
+    parser.add_argument("--max-bpm", type=float, default=300.0, metavar="BPM", help="the fastest tempo that is looked for (300), to the nearest lag")
     parser.add_argument("--quiet", action="store_true", help="no progress bar, and no lines on standard output")
     given = parser.parse_args(words)
     if given.onsets and not given.labels:
         parser.error("--onsets labels the onsets too: it needs --labels FILE")
     if given.part and not given.picture:
-        parser.error("--part draws a part alone: it needs --picture FILE")
+        parser.error("--part draws a part alone: it needs --picture FILE.svg")
+    # what is there and no file, a device or a pipe, has no ending
+    if given.picture and given.picture != "-" and (os.path.isfile(given.picture) or not os.path.exists(given.picture)):
+        start, ending = os.path.splitext(given.picture)
+        if ending.lower() != ".svg":
+            parser.error("--picture %s: the picture is SVG, so name it %s.svg; rsvg-convert or a browser makes other pictures of it"
+                         % (given.picture, start))
     places = [os.path.realpath(p) if p != "-" else p for p in (given.json, given.labels, given.picture) if p]
     if len(set(places)) != len(places):
         parser.error("two outputs have the same name")
@@ -748,8 +763,10 @@ def main(words=None):
     try:
         run(given)
         return 0
-    except (Trouble, ph.Refused) as trouble:
+    except Trouble as trouble:
         say(str(trouble))
+    except ph.Refused as refused:
+        say("%s: %s" % (told_name(given.song), refused))
     except BrokenPipeError:
         say("standard output was closed before all was said")
         os.dup2(os.open(os.devnull, os.O_WRONLY), 1)  # or Python complains once more as it ends

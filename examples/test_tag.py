@@ -13,6 +13,7 @@ import json
 import math
 import os
 import re
+import shutil
 import signal
 import struct
 import subprocess
@@ -111,10 +112,10 @@ class Answer(Room):
     @classmethod
     def setUpClass(cls):
         super().setUpClass()
-        outs = [word for kind in ("json", "labels", "picture") for word in ("--" + kind, cls.path("out." + kind))]
+        outs = [word for kind, name in (("json", "out.json"), ("labels", "out.labels"), ("picture", "out.svg")) for word in ("--" + kind, cls.path(name))]
         done = subprocess.run([sys.executable, TAG, cls.song] + outs, cwd=tempfile.gettempdir(), stdout=subprocess.PIPE, check=True)
         cls.text = done.stdout.decode()
-        cls.json, cls.labels, cls.picture = (cls.read("out." + kind) for kind in ("json", "labels", "picture"))
+        cls.json, cls.labels, cls.picture = (cls.read("out." + kind) for kind in ("json", "labels", "svg"))
         cls.told = json.loads(cls.json)
 
     @classmethod
@@ -194,6 +195,28 @@ class Answer(Room):
         module = os.path.join(HERE, "..", "python")
         done = subprocess.run([sys.executable, "-c", shown[1][1]], cwd=self.folder, env=dict(os.environ, PYTHONPATH=module), stdout=subprocess.PIPE, check=True)
         self.assertEqual(done.stdout.decode(), shown[2][1])
+
+    def test_page_on_bounds(self):
+        """A tempo may lie outside the bounds, by the rounding of its lag, and docs/USE.md says by how much."""
+        page = " ".join(stored("..", "docs", "USE.md").split())
+        slow, fast, long, short, told = re.search(r"At 48,000 the bounds (\d+) and (\d+) are lags (\d+) and (\d+), and clicks every \4 rows are told as"
+                                                  r" (\d+\.\d+)\.", page).groups()
+        bounds = float(slow), float(fast)
+        self.assertEqual(ph.lag_range(48_000, bounds), (int(short), int(long)))
+        flux = np.zeros(3000)
+        flux[5::int(short)] = 1
+        tempo = ph.Buffers(3000, 48_000, bounds).analyse_envelope(flux, 48_000, bounds).tempo
+        self.assertGreater(tempo.bpm, bounds[1])
+        self.assertEqual("%.2f" % tempo.bpm, told)
+        found = re.search(r"at a rate of 100 the bounds 30 and 300 are lags (\d+) and (\d+), ([\d.]+) and ([\d.]+) beats a minute, both outside", page).groups()
+        lags = ph.lag_range(100)
+        self.assertEqual(tuple(map(int, found[:2])), lags[::-1])
+        self.assertEqual(found[2:], tuple("%.2f" % tag.beats_a_minute(lag, 100) for lag in lags[::-1]))
+        # up to half a lag, wherever that leaves two
+        for rate, low, high in ((48_000, 30, 300), (44_100, 61, 199), (192_000, 5, 300), (8_000, 90, 180)):
+            for bound, lag in zip((high, low), ph.lag_range(rate, (low, high))):
+                self.assertLessEqual(abs(rate / 256 * 60 / bound - lag), 0.5)
+        self.assertNotRegex(page, "No tempo outside the bounds")
 
     def test_picture(self):
         kept = stored("..", "docs", "tag.svg")
@@ -379,14 +402,31 @@ class Formats(Room):
             os.chmod(self.put(name, script.encode()), 0o755)
             told = json.loads(self.run_tag(other, "--json", "-", env={"PATH": self.folder})[0])
             self.assertEqual(dict(told, song="piece.wav"), answer)
-            self.put(name, b"#!/bin/sh\necho first >&2; echo no such codec >&2; exit 1\n")
-            self.assertIn("%s can't read it: no such codec" % name, self.run_tag(other, status=1, env={"PATH": self.folder})[1])
+            self.put(name, b"#!/bin/sh\necho no such codec >&2; echo try another >&2; exit 1\n")
+            self.assertEqual(self.run_tag(other, status=1, env={"PATH": self.folder})[1],
+                             "tag: some song.flac: not a WAV file, and %s can't read it: no such codec\n" % name)
             self.put(name, b"#!/bin/sh\nexec /bin/cat '%s'\n" % self.put("four.wav", riff(2, 1, 44_100, 4, bytes(1 << 20))).encode())
             self.assertIn("%s can't read it: no word of why" % name, self.run_tag(other, status=1, env={"PATH": self.folder})[1])
             # dies on the way: half a song is no answer
             self.put(name, b"#!/bin/sh\n/usr/bin/head -c 999999 '%s'; echo disk on fire >&2; exit 1\n" % self.song.encode())
             self.assertIn("disk on fire", self.run_tag(other, "--json", self.path("half"), status=1, env={"PATH": self.folder})[1])
             self.assertFalse(os.path.exists(self.path("half")))
+
+    # what ffmpeg 5 says where -map finds nothing
+    SILENT = "Stream map '0:a:0' matches no streams.\nTo ignore this, add a trailing '?' to the map.\n"
+
+    def test_pictures_without_sound(self):
+        video = self.put("silent.mp4", b"pictures, so to speak")
+        os.chmod(self.put("ffmpeg", b'#!/bin/sh\nprintf %%s "%s" >&2; exit 1\n' % self.SILENT.encode()), 0o755)
+        self.assertEqual(self.run_tag(video, status=1, env={"PATH": self.folder})[1], "tag: silent.mp4: there is no sound in it, by ffmpeg\n")
+        os.unlink(self.path("ffmpeg"))
+
+    @unittest.skipUnless(shutil.which("ffmpeg"), "ffmpeg is not on the path")
+    def test_pictures_without_sound_by_this_ffmpeg(self):
+        video = self.path("pictures alone.avi")
+        subprocess.run(["ffmpeg", "-v", "error", "-y", "-f", "rawvideo", "-pix_fmt", "gray", "-s", "16x16", "-i", "-", "-c:v", "rawvideo", video],
+                       input=bytes(256 * 5), check=True)
+        self.assertEqual(self.run_tag(video, status=1)[1], "tag: pictures alone.avi: there is no sound in it, by ffmpeg\n")
 
     @unittest.skipUnless(tag.decoder("x"), "neither ffmpeg nor sox is on the path")
     def test_decoder_of_this_machine(self):
@@ -408,7 +448,7 @@ class Odd(Room):
 
     def nothing(self, name, data, sections, rows):
         """An answer that holds nothing but rows and at most one section, in every form."""
-        outs = {kind: self.path(name + "." + kind) for kind in ("json", "labels", "picture")}
+        outs = {kind: self.path("%s.%s" % (name, "svg" if kind == "picture" else kind)) for kind in ("json", "labels", "picture")}
         out, err = self.run_tag(self.put(name, data), *(word for kind in outs for word in ("--" + kind, outs[kind])))
         self.assertEqual(err, "")
         self.assertIn("\ntempo      none\n", out)
@@ -437,7 +477,9 @@ class Odd(Room):
         self.assertIn("Is a directory", self.refused(self.folder))
         away = {"PATH": self.folder}
         self.assertIn("not a WAV file", self.refused(self.put("words.wav", b"no song at all"), env=away))
-        self.assertIn("not a WAV file", self.refused(self.put("nothing.wav", b""), env=away))
+        # with a decoder or without
+        for more in ({"env": away}, {}):
+            self.assertEqual(self.refused(self.put("nothing.wav", b""), **more), "tag: nothing.wav is empty: there is no song in it\n")
         self.assertIn("WAV of format 2 with 4 bits", self.refused(self.put("adpcm.wav", riff(2, 1, 44_100, 4, b"12")), env=away))
         self.assertIn("without a data chunk", self.refused(self.put("head.wav", riff(1, 1, 44_100, 16, b"")[:-8])))
         self.assertIn("without a format", self.refused(self.put("bare.wav", b"RIFF\x04\x00\x00\x00WAVE")))
@@ -448,11 +490,23 @@ class Odd(Room):
         self.assertIn("at 0 samples", self.refused(self.put("still.wav", riff(1, 1, 0, 16, b""))))
 
     def test_values_that_are_no_samples(self):
-        data = np.zeros(100_000, "<f4")
-        data[44_100] = np.nan
-        self.assertIn("the sample at 1.000000 s isn't a finite number", self.refused(self.put("nan.wav", riff(3, 1, 44_100, 32, data.tobytes()))))
-        data[44_100] = 3e38
-        self.assertIn("refused with 4", self.refused(self.put("huge.wav", riff(3, 1, 44_100, 32, np.repeat(data, 2).tobytes()))))
+        least = "samples lie from -1 to 1, and none above 1.3e+30 is read"
+        for bits, value, told in ((32, np.nan, "nan"), (32, np.inf, "inf"), (64, -np.inf, "-inf"), (64, np.nan, "nan"), (64, 1e300, "1e+300"),
+                                  (64, -3e38, "-3e+38"), (32, 1e38, "1e+38"), (64, 1.5 * tag.LOUDEST, "1.90148e+30")):
+            for channels in 1, 2:
+                data = np.zeros((100_000, channels), "<f%d" % (bits // 8))
+                data[44_100] = value
+                err = self.refused(self.put("loud.wav", riff(3, channels, 44_100, bits, data.tobytes())))
+                self.assertEqual(err, "tag: loud.wav: the sample at 1.000000 s is %s: %s\n" % (told, least))
+        # the loudest that is read is answered, and nothing is said of it
+        chance = np.random.RandomState(8)
+        data = (chance.randint(0, 2, (100_000, 2)) * 2.0 - 1) * tag.LOUDEST
+        _, err = self.run_tag(self.put("loudest.wav", riff(3, 2, 44_100, 64, data.tobytes())))
+        self.assertEqual(err, "")
+
+    def test_a_refusal_names_the_song(self):
+        err = self.refused(self.song, "--max-bpm", "nan")
+        self.assertEqual(err, "tag: piece.wav: lag_range refused with 1: max_bpm nan, a finite number\n")
 
     def test_cut_short(self):
         data = struct.pack("<h", 1000) * 44_100
@@ -467,15 +521,28 @@ class Odd(Room):
         self.assertIn("50,000 seconds", self.refused(self.put("slow.wav", riff(1, 1, 1, 16, bytes(100_002)))))
 
     def test_places(self):
+        os.link(self.song, self.path("song.svg"))
         for kind in "--json", "--labels", "--picture":
-            self.assertIn("is the song itself", self.refused(self.song, kind, self.song))
+            self.assertIn("is the song itself", self.refused(self.song, kind, self.path("song.svg")))
             self.assertIn("is a folder", self.refused(self.song, kind, self.folder))
-            self.assertIn("there is no folder", self.refused(self.song, kind, self.path("no folder/x")))
+            self.assertIn("there is no folder", self.refused(self.song, kind, self.path("no folder/x.svg")))
+        os.unlink(self.path("song.svg"))
         self.run_tag(self.song, "--json", self.path("x"), "--labels", self.path("x"), status=2)
         self.run_tag(self.song, "--onsets", status=2)
         self.run_tag(self.song, "--part", "1-2", status=2)
         self.run_tag(self.song, "--picture", "-", "--part", "2-1", status=2)
         self.run_tag(status=2)
+        # a picture is SVG, and its name says so; what is there already stays
+        self.put("old.png", b"a picture")
+        for name, instead in (("p.png", "p.svg"), ("old.png", "old.svg"), ("p", "p.svg"), ("p.svg.gz", "p.svg.svg"), ("no folder/.svg", "no folder/.svg.svg")):
+            out, err = self.run_tag(self.song, "--picture", self.path(name), status=2)
+            self.assertIn("--picture %s: the picture is SVG, so name it %s" % (self.path(name), self.path(instead)), err)
+            self.assertEqual((out, os.path.exists(self.path("p.png"))), ("", False))
+        with open(self.path("old.png"), "rb") as kept:
+            self.assertEqual(kept.read(), b"a picture")
+        self.run_tag(self.song, "--picture", self.path("P.SVG"), "--labels", os.devnull)
+        xml.etree.ElementTree.parse(self.path("P.SVG"))
+        self.run_tag(self.song, "--picture", os.devnull)
         # a link is followed, a device is written as it is
         os.symlink(self.path("true.json"), self.path("link.json"))
         self.run_tag(self.song, "--json", self.path("link.json"), "--labels", os.devnull)

@@ -208,7 +208,7 @@ _nowhere = ctypes.c_double()
 
 class _Slice:
     """An argument that is lent as a slice: its name for messages, the buffer, the kind of its values, whether it is written, and for rows
-    how many there are, None for any, and how wide."""
+    how many there are and how wide, None for any."""
 
     __slots__ = ("name", "lent", "kind", "codes", "size", "written", "table", "shape", "slots")
 
@@ -227,8 +227,7 @@ class _Slice:
         try:
             _get_buffer(self.lent, view, _C_CONTIGUOUS | _FORMAT | (_WRITABLE if self.written else 0))
         except (TypeError, ValueError, BufferError) as error:
-            turned = hasattr(self.lent, "flags") and not self.written and "contiguous" in str(error)
-            instead = f": lend numpy.ascontiguousarray({self.name})" if turned else ""
+            instead = self.instead() if "contiguous" in str(error) else ""
             raise TypeError(f"{want}, not {type(self.lent).__name__}: {error}{instead}") from None
         code = (view.format or b"B").decode("ascii", "replace")
         plain = code[1:] if code[:1] in _NATIVE_ORDER else code
@@ -247,9 +246,28 @@ class _Slice:
         self.shape, self.slots = shape, view.len // self.size
         return view
 
+    def instead(self):
+        """What to lend of an array that isn't in C order; empty where only a copy would be, and this is written. One in Fortran order is in C
+        order once it is turned, and that is no copy."""
+        flags, shape = getattr(self.lent, "flags", None), tuple(getattr(self.lent, "shape", ()))
+        fortran = getattr(flags, "f_contiguous", False)
+        if flags is None or self.written and not fortran:
+            return ""
+        turned, copy = f"{self.name}.T" if fortran else f"numpy.ascontiguousarray({self.name}.T)", f"numpy.ascontiguousarray({self.name})"
+        by_rows, by_bins = self.fits(shape), self.fits(shape[::-1])
+        if self.name == "magnitudes" and by_rows:
+            # lent with its own shape, told or not, it may be either; but more than 4,096 are no bins
+            by_rows, by_bins = shape[1] <= _MOST_BINS, shape[0] <= _MOST_BINS
+            if by_rows and by_bins:
+                other = "" if self.written else f"; if it is rows by bins, {copy}"
+                return f": if this array is bins by frames, as librosa's are, lend {turned}{other}"
+        if by_bins and not by_rows:
+            return f": lend {turned}, which is rows first"
+        return "" if self.written else f": lend {copy}"
+
     def fits(self, shape):
         """Whether this is the shape of the rows."""
-        return len(shape) == len(self.table) == 2 and self.table[0] in (None, shape[0]) and self.table[1] == shape[1]
+        return len(shape) == len(self.table) == 2 and all(told in (None, is_) for told, is_ in zip(self.table, shape))
 
     def told(self, shape):
         """What to lend instead."""
@@ -257,9 +275,10 @@ class _Slice:
             return "one dimension"
         rows, width = self.table
         turned = f" (numpy.ascontiguousarray({self.name}.T) has it)" if self.fits(shape[::-1]) else ""
-        return f"the shape ({'rows' if rows is None else rows}, {width}), rows first{turned}, or one dimension"
+        return f"the shape ({'rows' if rows is None else rows}, {'bins' if width is None else width}), rows first{turned}, or one dimension"
 
 
+_MOST_ROWS, _MOST_BINS, _MOST_FEATURE_ROWS = 1_048_576, 4_096, 50_000
 _FLOAT64, _FLOAT32, _UINT32 = ("float64", ("d",), 8), ("float32", ("f",), 4), ("uint32", ("I", "L"), 4)
 
 
@@ -297,6 +316,14 @@ def _shape(call, name, lent, wanted):
     return shape
 
 
+def _in_c_order(lent):
+    """Whether this is a buffer in C order; any other is refused once it is taken."""
+    try:
+        return memoryview(lent).c_contiguous
+    except (TypeError, ValueError, BufferError):
+        return False
+
+
 # bins of the usual transforms: half their length, and one
 _BINS_OF_TRANSFORMS = (257, 513, 1_025, 2_049)
 
@@ -306,33 +333,39 @@ def _magnitudes(call, magnitudes, rows, bins, written=False):
     if (rows is None) != (bins is None):
         raise TypeError(f"{call}: rows and bins go together: say both, or lend an array of two dimensions, say neither, and name what"
                         " follows (rate=48000)")
-    if rows is None:
+    told = rows is not None
+    if not told:
         rows, bins = _shape(call, "magnitudes", magnitudes, "rows and bins")
-    rows, bins = _size("rows", rows), _size("bins", bins)
-    few = rows.value in _BINS_OF_TRANSFORMS and bins.value not in _BINS_OF_TRANSFORMS
-    if few and rows.value < bins.value <= 4_096 and not written:
+    rows, bins = _size("rows", rows, (0, _MOST_ROWS)), _size("bins", bins)
+    unlike = rows.value in _BINS_OF_TRANSFORMS and bins.value not in _BINS_OF_TRANSFORMS and 1 <= bins.value <= _MOST_BINS
+    if unlike and not written and _in_c_order(magnitudes):
         # answered as it is lent: a short track may have as many rows
         warnings.warn(f"{call}: {rows.value} rows of {bins.value} bins: if this array is bins by frames, as librosa's are, lend"
                       " numpy.ascontiguousarray(magnitudes.T)", stacklevel=3)
-    return _Slice("magnitudes", magnitudes, _FLOAT32, written, rows.value, bins.value), rows, bins
+    table = (rows.value, bins.value) if told else (None, None)
+    return _Slice("magnitudes", magnitudes, _FLOAT32, written, *table), rows, bins
 
 
 def _features(call, name, lent, rows, width, written=False):
     """The two parts that features, or their similarity, are; rows as given, or those of the shape."""
-    if rows is None:
-        rows = _shape(call, name, lent, "rows")[0]
-    rows = _size("rows", rows)
-    return _Slice(name, lent, _FLOAT64, written, rows.value, width), rows
+    told = rows is not None
+    rows = _size("rows", rows if told else _shape(call, name, lent, "rows")[0], (0, _MOST_FEATURE_ROWS))
+    return _Slice(name, lent, _FLOAT64, written, rows.value if told else None, width), rows
 
 
-def _whole(name, number, kind):
+# the least and the greatest that calls take, of numbers that mean the same in every call
+_TAKEN = {"rate": (1, 192_000), "bins": (1, _MOST_BINS), "period": (0, 45_000), "whole_lag": (0, 45_000), "length": (1, 2 ** 31)}
+
+
+def _whole(name, number, kind, taken=None):
     """A whole number in its C type; ctypes alone would cut one that doesn't fit."""
     try:
         number, most = operator.index(number), 2 ** (8 * ctypes.sizeof(kind)) - 1
     except TypeError:
         raise TypeError(f"{name} must be a whole number, not {type(number).__name__}") from None
     if not 0 <= number <= most:
-        raise OverflowError(f"{name} is {number}, outside 0 to {most}")
+        least, most = taken or _TAKEN.get(name, (0, most))
+        raise OverflowError(f"{name} is {number:,}, outside {least:,} to {most:,}")
     return _named(name, kind(number))
 
 
@@ -360,8 +393,8 @@ def _bounds(opts):
     return _real("min_bpm", first), _real("max_bpm", second)
 
 
-def _size(name, number):
-    return _whole(name, number, ctypes.c_size_t)
+def _size(name, number, taken=None):
+    return _whole(name, number, ctypes.c_size_t, taken)
 
 
 def _small(name, number):
@@ -469,7 +502,8 @@ def _number(name, least, most):
             return ""
         told = f"{name} {number:,}, {least:,} to {top:,}"
         # an array of two dimensions whose second is the frames
-        turned = name == "bins" and "magnitudes" in n.parts and len(n.parts["magnitudes"][0].shape) == 2 and 1 <= n.rows <= 4_096 < n.bins
+        two = name == "bins" and "magnitudes" in n.parts and len(n.parts["magnitudes"][0].shape) == 2
+        turned = two and 1 <= n.rows <= _MOST_BINS < n.bins
         return told + ("; if this array is bins by frames, lend numpy.ascontiguousarray(magnitudes.T)" if turned else "")
     return 1, look
 
@@ -579,14 +613,14 @@ def _value(name):
     return 4, lambda n: "" if abs(getattr(n, name)) <= _VALUE[0] else f"{name} is {getattr(n, name)}: {_VALUE[1]}"
 
 
-_RATE, _OPTS = _number("rate", 1, 192_000), (_finite("min_bpm"), _finite("max_bpm"))
-_ROWS = (_number("rows", 0, 1_048_576), _number("bins", 1, 4_096), _table("magnitudes", "bins"))
-_FEATURE_ROWS, _LENGTH = _number("rows", 0, 50_000), _number("length", 1, 2 ** 31)
+_RATE, _OPTS = _number("rate", *_TAKEN["rate"]), (_finite("min_bpm"), _finite("max_bpm"))
+_ROWS = (_number("rows", 0, _MOST_ROWS), _number("bins", *_TAKEN["bins"]), _table("magnitudes", "bins"))
+_FEATURE_ROWS, _LENGTH = _number("rows", 0, _MOST_FEATURE_ROWS), _number("length", *_TAKEN["length"])
 _LAG_CURVES = tuple(_room(name, lambda n: n.lags) for name in ("clarity", "weight", "work"))
 
 
 def _frames_of(name):
-    return _at_most(name, 1_048_576)
+    return _at_most(name, _MOST_ROWS)
 
 
 def _track(rows, input_, first):
@@ -615,13 +649,13 @@ _TAKES = {
     "frame_times": (_RATE, _entries("frames", 1_048_575), _room("ms", lambda n: n.frames)),
     "lag_range": (_RATE, *_OPTS),
     "estimate": (_frames_of("envelope"), _RATE, *_OPTS, *_LAG_CURVES, _values("envelope")),
-    "stability_of": (_frames_of("envelope"), _RATE, *_OPTS, _number("whole_lag", 0, 45_000), *_LAG_CURVES, _values("envelope")),
-    "beat_grid": (_frames_of("envelope"), _number("period", 0, 45_000),
+    "stability_of": (_frames_of("envelope"), _RATE, *_OPTS, _number("whole_lag", *_TAKEN["whole_lag"]), *_LAG_CURVES, _values("envelope")),
+    "beat_grid": (_frames_of("envelope"), _number("period", *_TAKEN["period"]),
                   *(_room(name, lambda n: n.envelope) for name in ("score", "back", "beats")), _values("envelope")),
     "downbeats": (_frames_of("envelope"), _entries("beats", 1_048_575), _room("frames", lambda n: n.beats), _values("envelope")),
     "similarity": (_FEATURE_ROWS, _table("features", 16), _room("similarity", lambda n: 17 * n.rows), _values("features")),
     "novelty": (_FEATURE_ROWS, _table("similarity", 17), _room("novelty", lambda n: n.rows), _values("similarity", _SIMILARITY)),
-    "boundaries": (_at_most("novelty", 50_000), _LENGTH, _RATE, _room("rows", lambda n: n.novelty), _room("work", lambda n: n.novelty),
+    "boundaries": (_at_most("novelty", _MOST_FEATURE_ROWS), _LENGTH, _RATE, _room("rows", lambda n: n.novelty), _room("work", lambda n: n.novelty),
                    _values("novelty")),
     "boundary_times": (_LENGTH, _RATE, _entries("rows", 49_999), _room("ms", lambda n: n.rows)),
     "patch_magnitudes": (*_ROWS, _number("start", 0, "rows"), _new_rows("bins"), _room("flux", lambda n: n.rows),
@@ -632,7 +666,7 @@ _TAKES = {
                        _room("similarity", lambda n: 17 * n.rows), _room("novelty", lambda n: n.rows), _values("features"),
                        _values("new_rows"), _values("similarity", _SIMILARITY, lambda n: 17 * n.rows),
                        _values("novelty", slots=lambda n: n.rows)),
-    "room_of": (_number("rows", 0, 1_048_576), _RATE, *_OPTS),
+    "room_of": (_number("rows", 0, _MOST_ROWS), _RATE, *_OPTS),
     "analyse_envelope": (*_track("envelope", (_frames_of("envelope"),), ()), _values("envelope")),
     "analyse_magnitudes": (*_track("rows", _ROWS, ("flux",)), _values("magnitudes", _MAGNITUDE)),
 }
@@ -844,7 +878,7 @@ class Room(NamedTuple):
 def room_of(rows: int, rate: int, opts: Sequence[float] = TempoOpts()) -> Room:
     """The room for a track of at most so many rows."""
     slots = [ctypes.c_size_t() for _ in range(3)]
-    _call("room_of", _size("rows", rows), _small("rate", rate), *_bounds(opts),
+    _call("room_of", _size("rows", rows, (0, _MOST_ROWS)), _small("rate", rate), *_bounds(opts),
           *map(ctypes.byref, slots))
     return Room(*(slot.value for slot in slots))
 
@@ -891,7 +925,11 @@ class Buffers:
     magnitudes or the envelope while a call reads them."""
 
     def __init__(self, rows: int, rate: int, opts: Sequence[float] = TempoOpts()) -> None:
-        self.room = room_of(rows, rate, opts)
+        try:
+            self.room = room_of(rows, rate, opts)
+        except Refused as refused:
+            # told of what the caller made
+            raise Refused("Buffers", refused.number, refused.detail) from None
         rows = self.room.rows
 
         def reals(slots):

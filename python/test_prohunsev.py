@@ -418,6 +418,9 @@ class Refusals(unittest.TestCase):
         self.refuses(1, "rows 1,048,577, 0 to 1,048,576", ph.room_of, 1_048_577, RATE)
         self.refuses(1, "rate 0, 1 to 192,000", ph.room_of, 1, 0)
         self.refuses(1, "min_bpm inf, a finite number", ph.room_of, 1, RATE, (math.inf, 300))
+        self.refuses(1, "rows 1,048,577, 0 to 1,048,576", ph.Buffers, 1_048_577, RATE)
+        self.refuses(1, "rate 0, 1 to 192,000", ph.Buffers, 5, 0)
+        self.refuses(1, "max_bpm nan, a finite number", ph.Buffers, 5, RATE, (30, math.nan))
         buffers, ones = ph.Buffers(10, RATE), singles(1)
         call = buffers.analyse_envelope
         self.refuses(1, "envelope: " + self.MOST, call, self.MANY, RATE)
@@ -455,7 +458,8 @@ class Refusals(unittest.TestCase):
             self.assertEqual(str(caught.exception), "lag_range refused with 1: " + ph.Refused.WHY[1])
 
     def test_every_call_explains(self):
-        self.assertEqual(set(ph._TAKES), {name for name, _ in Declarations().declared()} - {"bar_beat_at"})
+        # those that refuse nothing: a place in the bars, and the library's version
+        self.assertEqual(set(ph._TAKES), {name for name, _ in Declarations().declared()} - {"bar_beat_at", "version"})
 
     README = pathlib.Path(__file__).resolve().parent / "README.md"
 
@@ -633,7 +637,14 @@ class Lending(unittest.TestCase):
         self.wrong(ValueError, "spectral_flux: " + one, lambda m: ph.spectral_flux(m, flux=flux), rows)
         self.wrong(ValueError, "analyse_magnitudes: " + one, lambda m: buffers.analyse_magnitudes(m, rate=RATE), rows)
         self.wrong(ValueError, "features has the shape (32,), so say rows,", lambda m: ph.similarity(m, similarity=band), features)
-        self.wrong(ValueError, "similarity must have the shape (34, 17)", lambda m: ph.novelty(shaped(m, 34, 1), novelty=curve), band)
+        self.wrong(ValueError, "similarity must have the shape (rows, 17), rows first, or one dimension, not the shape (34, 1)",
+                   lambda m: ph.novelty(shaped(m, 34, 1), novelty=curve), band)
+        for width, lent, call in ((16, room(160), lambda m: ph.similarity(m, similarity=room(170))),
+                                  (17, room(170), lambda m: ph.novelty(m, novelty=room(10))),
+                                  (16, room(160), lambda m: ph.patch_features(m, start=0, new_rows=room(16), similarity=room(170), novelty=room(10)))):
+            name = "features" if width == 16 else "similarity"
+            self.wrong(ValueError, f"{name} must have the shape (rows, {width}), rows first (numpy.ascontiguousarray({name}.T) has it), or one"
+                       f" dimension, not the shape ({width}, 10)", call, shaped(lent, width, 10))
         self.wrong(TypeError, "magnitudes must be a contiguous buffer, not list", lambda m: ph.spectral_flux(m, flux=flux), [[1.0]])
         for call, words in (("spectral_flux", {}), ("similarity", {}), ("novelty", {}), ("patch_features", {"start": 0, "new_rows": band}),
                             ("patch_magnitudes", {"start": 0, "new_rows": rows, "flux": flux, "threshold": flux})):
@@ -662,7 +673,8 @@ class Lending(unittest.TestCase):
         def shaped(rows, bins):
             return memoryview(bytes(4 * rows * bins)).cast("f", (rows, bins))
 
-        for rows, bins, warned in ((513, 2_000, True), (257, 300, True), (513, 1_025, False), (2_000, 513, False), (513, 4, False), (512, 600, False)):
+        for rows, bins, warned in ((513, 2_000, True), (257, 300, True), (513, 400, True), (2_049, 1, True), (1_025, 4_096, True), (513, 1_025, False),
+                                   (1_025, 513, False), (2_000, 513, False), (512, 600, False), (4, 513, False)):
             for call in (lambda m: ph.spectral_flux(m, flux=room(rows)), lambda m: ph.spectral_flux(m, rows, bins, room(rows)),
                          lambda m: ph.Buffers(rows, RATE).analyse_magnitudes(m, rate=RATE)):
                 with warnings.catch_warnings(record=True) as caught:
@@ -673,6 +685,11 @@ class Lending(unittest.TestCase):
                     self.assertIn(f"{rows} rows of {bins} bins: if this array is bins by frames, as librosa's are, lend"
                                   " numpy.ascontiguousarray(magnitudes.T)", str(one.message))
                     self.assertEqual(one.filename, __file__)
+        # as the README says it
+        if Refusals.README.is_file():
+            text = " ".join(Refusals.README.read_text().split())
+            numbers = re.search(r"whose first dimension is a transform's bins \(([\d, ]+)\) and whose second isn't", text).group(1)
+            self.assertEqual(tuple(int(number.replace(",", "")) for number in numbers.split(", ")), ph._BINS_OF_TRANSFORMS)
         # more frames than bins may be
         for call in (lambda m: ph.spectral_flux(m, flux=room(513)), lambda m: ph.Buffers(513, RATE).analyse_magnitudes(m, rate=RATE)):
             with self.assertRaises(ph.Refused) as caught:
@@ -685,9 +702,17 @@ class Lending(unittest.TestCase):
         self.assertNotIn("bins", str(caught.exception))
 
     def test_numbers(self):
-        self.wrong(OverflowError, "rate is -1", ph.lag_range, -1)
-        self.wrong(OverflowError, "rate is 4295015296", ph.lag_range, 2 ** 32 + RATE)
-        self.wrong(OverflowError, "rows is", ph.spectral_flux, singles(1), 2 ** 64 + 1, 1, room(1))
+        # what the call takes, not what its C type holds
+        self.wrong(OverflowError, "rate is -1, outside 1 to 192,000", ph.lag_range, -1)
+        self.wrong(OverflowError, "rate is -1, outside 1 to 192,000", ph.Buffers, 5, -1)
+        self.wrong(OverflowError, "rate is 4,295,015,296, outside 1 to 192,000", ph.lag_range, 2 ** 32 + RATE)
+        self.wrong(OverflowError, "rows is 18,446,744,073,709,551,617, outside 0 to 1,048,576", ph.spectral_flux, singles(1), 2 ** 64 + 1, 1, room(1))
+        self.wrong(OverflowError, "rows is -1, outside 0 to 1,048,576", ph.Buffers, -1, RATE)
+        self.wrong(OverflowError, "bins is -1, outside 1 to 4,096", ph.spectral_flux, singles(1), 1, -1, room(1))
+        self.wrong(OverflowError, "rows is -1, outside 0 to 50,000", ph.similarity, room(16), -1, room(17))
+        self.wrong(OverflowError, "period is -1, outside 0 to 45,000", ph.beat_grid, reals(1), -1, room(1), frame_room(1), frame_room(1))
+        self.wrong(OverflowError, "length is -1, outside 1 to 2,147,483,648", ph.boundary_times, frames(1), -1, RATE, room(1))
+        self.wrong(OverflowError, "gap is -1, outside 0 to 18,446,744,073,709,551,615", ph.suppress_close_peaks, frames(1), reals(1, 2), -1, frame_room(1))
         self.wrong(TypeError, "rate must be a whole number, not float", ph.lag_range, 48_000.0)
         self.wrong(TypeError, "time must be a real number, not str", ph.bar_beat_at, "now", reals(), reals())
         self.wrong(TypeError, "median must be a real number, not NoneType", ph.mad_of, reals(1), None, room(1))
@@ -1155,8 +1180,10 @@ class Arrays(unittest.TestCase):
         flux = numpy.empty(6)
         for wrong, hint in (
             (numpy.ones((6, 2)), r"format 'd' with 8 bytes each: lend magnitudes\.astype\('float32'\)"),
-            (numpy.ones((2, 6), numpy.float32).T, r"not C-contiguous: lend numpy\.ascontiguousarray\(magnitudes\)"),
-            (numpy.ones((6, 2), numpy.float32, order="F"), r"not C-contiguous: lend numpy\.ascontiguousarray\(magnitudes\)"),
+            (numpy.ones((2, 6), numpy.float32).T, r"not C-contiguous: if this array is bins by frames, as librosa's are, lend magnitudes\.T;"
+             r" if it is rows by bins, numpy\.ascontiguousarray\(magnitudes\)$"),
+            (numpy.ones((6, 4), numpy.float32)[:, ::2], r"not C-contiguous: if this array is bins by frames, as librosa's are, lend"
+             r" numpy\.ascontiguousarray\(magnitudes\.T\); if it is rows by bins, numpy\.ascontiguousarray\(magnitudes\)$"),
         ):
             for call in (lambda m: ph.spectral_flux(m, 6, 2, flux), lambda m: ph.spectral_flux(m, flux=flux),
                          lambda m: ph.Buffers(6, RATE).analyse_magnitudes(m, rate=RATE)):
@@ -1166,6 +1193,45 @@ class Arrays(unittest.TestCase):
             with self.assertRaises(TypeError) as caught:
                 ph.median_of(numpy.ones(2), wrong.astype(numpy.float32))
             self.assertNotIn("lend", str(caught.exception))
+
+    def test_fortran_order(self):
+        """What librosa makes: bins by frames, in Fortran order. Whatever is told of it, what to lend is rows first, and taken."""
+        def calls(rows, bins):
+            flux, buffers = numpy.empty(8_000), ph.Buffers(8_000, RATE)
+            return (lambda m: ph.spectral_flux(m, rows, bins, flux), lambda m: buffers.analyse_magnitudes(m, rows, bins, rate=RATE))
+
+        only = "not C-contiguous: lend magnitudes.T, which is rows first"
+        both = ("not C-contiguous: if this array is bins by frames, as librosa's are, lend magnitudes.T; if it is rows by bins,"
+                " numpy.ascontiguousarray(magnitudes)")
+        copy = "not C-contiguous: lend numpy.ascontiguousarray(magnitudes)"
+        for shape, told, words in (((513, 8_000), (8_000, 513), only), ((513, 8_000), (None, None), only), ((513, 8_000), (513, 8_000), only),
+                                   ((513, 3_000), (3_000, 513), only), ((513, 3_000), (None, None), both), ((513, 3_000), (513, 3_000), both),
+                                   ((8_000, 513), (8_000, 513), copy), ((8_000, 513), (None, None), copy), ((513, 400), (400, 513), only)):
+            magnitudes = numpy.zeros(shape, numpy.float32, order="F")
+            for call in calls(*told):
+                # one word, and no warning that says another
+                with warnings.catch_warnings(), self.assertRaises(TypeError) as caught:
+                    warnings.simplefilter("error")
+                    call(magnitudes)
+                self.assertTrue(str(caught.exception).endswith(words), (shape, told, str(caught.exception)))
+            right = numpy.ascontiguousarray(magnitudes) if words == copy else magnitudes.T
+            for call in calls(*right.shape) + calls(None, None):
+                call(right)
+        # turned it is no copy, so that what is written may be told too
+        rows, curve = numpy.zeros((4, 9), numpy.float32, order="F"), numpy.zeros(9)
+        for told, words in (((9, 4), "lend magnitudes.T, which is rows first"),
+                            ((None, None), "if this array is bins by frames, as librosa's are, lend magnitudes.T")):
+            with self.assertRaises(TypeError) as caught:
+                ph.patch_magnitudes(rows, *told, start=0, new_rows=numpy.ones((1, 4), numpy.float32), flux=curve, threshold=curve.copy(), work=room(9))
+            self.assertTrue(str(caught.exception).endswith(words), str(caught.exception))
+        ph.patch_magnitudes(rows.T, start=0, new_rows=numpy.ones((1, 4), numpy.float32), flux=curve, threshold=curve.copy(), work=room(9))
+        self.assertEqual(rows[:, 0].tolist(), [1.0] * 4)
+        for features, words in ((numpy.zeros((16, 10), order="F"), "lend features.T, which is rows first"),
+                                (numpy.zeros((10, 16), order="F"), "lend numpy.ascontiguousarray(features)")):
+            for told in (10, None):
+                with self.assertRaises(TypeError) as caught:
+                    ph.similarity(features, told, numpy.empty(170))
+                self.assertTrue(str(caught.exception).endswith(words), str(caught.exception))
 
     def test_rows_of_a_shape(self):
         magnitudes = numpy.zeros((2_000, 4), numpy.float32)

@@ -220,8 +220,15 @@ macro_rules! analyse {
 
 impl Buffers {
     /// Buffers for tracks of at most so many rows at this rate and with these options. Refuses as [`rooms::Track::of`] does.
+    ///
+    /// ```
+    /// # use prohunsev::*;
+    /// let refused = Buffers::for_tracks(5, 0, TempoOpts::new()).unwrap_err();
+    /// assert_eq!(refused.to_string(), "Buffers::for_tracks refused with 1: rate 0, 1 to 192,000");
+    /// ```
     pub fn for_tracks(rows: usize, rate: u32, opts: TempoOpts) -> Result<Buffers, Refused> {
-        Buffers::with_room(rooms::Track::of(rows, rate, opts)?)
+        let room = rooms::Track::of(rows, rate, opts).map_err(|refused| refused.of_call("Buffers::for_tracks"))?;
+        Buffers::with_room(room)
     }
 
     /// Buffers of this room, at most 43,743,040 bytes. Refuses [`OutOfBounds`](Refusal::OutOfBounds) for more than any track can use:
