@@ -17,6 +17,7 @@ import argparse
 import contextlib
 import json
 import os
+import re
 import shutil
 import struct
 import subprocess
@@ -202,6 +203,7 @@ def recording(path):
                 first = (said.read().decode("utf-8", "replace").strip().splitlines() or ["no word of why"])[0]
                 if "matches no streams" in first:
                     raise Trouble("%s: there is no sound in it, by %s" % (name, command[0]))
+                first = re.sub(r"^\[[^]]*@ 0x[0-9a-f]+\] ", "", first)  # which part of ffmpeg says it, and where that lies in memory
                 raise Trouble("%s: %s, and %s can't read it: %s" % (name, what, command[0], first))
         finally:
             process.kill()  # where it has ended already this does nothing

@@ -402,7 +402,7 @@ class Formats(Room):
             os.chmod(self.put(name, script.encode()), 0o755)
             told = json.loads(self.run_tag(other, "--json", "-", env={"PATH": self.folder})[0])
             self.assertEqual(dict(told, song="piece.wav"), answer)
-            self.put(name, b"#!/bin/sh\necho no such codec >&2; echo try another >&2; exit 1\n")
+            self.put(name, b"#!/bin/sh\necho '[mov,mp4 @ 0x55d2109d0900] no such codec' >&2; echo try another >&2; exit 1\n")
             self.assertEqual(self.run_tag(other, status=1, env={"PATH": self.folder})[1],
                              "tag: some song.flac: not a WAV file, and %s can't read it: no such codec\n" % name)
             self.put(name, b"#!/bin/sh\nexec /bin/cat '%s'\n" % self.put("four.wav", riff(2, 1, 44_100, 4, bytes(1 << 20))).encode())
