@@ -150,7 +150,9 @@ def _load():
     """The shared library: PROHUNSEV_LIBRARY, or the first that is found beside this file, in its clone's lib/ (tools/library), where
     tools/callers leaves it, under this Python's prefix, under the user's, or where the loader looks. Another version is an ImportError."""
     here, given = pathlib.Path(__file__).resolve().parent, os.environ.get("PROHUNSEV_LIBRARY")
-    soname = f"libprohunsev.so.{_VERSION // 1_000_000}"
+    major, minor = _VERSION // 1_000_000, _VERSION // 1_000 % 1_000
+    # as tools/library names it: while the major is 0 another minor may have other parameters
+    soname = f"libprohunsev.so.{major}" if major else f"libprohunsev.so.0.{minor}"
     if given:
         places = [pathlib.Path(given)]
     else:

@@ -12,6 +12,7 @@ import prohunsev as ph
 HERE = pathlib.Path(ph.__file__).resolve().parent
 LIBRARY = pathlib.Path(ph._library._name)
 ASKED = "import prohunsev; print(prohunsev._library._name)"
+SONAME = "libprohunsev.so.0.1"
 
 
 def ran(words, **more):
@@ -43,8 +44,8 @@ class Places(unittest.TestCase):
         module.mkdir(parents=True)
         shutil.copy(ph.__file__, module)
         env = {"PYTHONPATH": str(module), "PYTHONUSERBASE": str(self.folder / "user")}
-        if not (pathlib.Path(sys.prefix) / "lib/libprohunsev.so.0").exists():
-            self.found(self.folder / "user/lib/libprohunsev.so.0", **env)
+        if not pathlib.Path(sys.prefix, "lib", SONAME).exists():
+            self.found(self.folder / "user/lib" / SONAME, **env)
         self.found(self.folder / "clone/lib/libprohunsev.so", **env)
         self.found(module / "libprohunsev.so", **env)
         self.found(self.folder / "elsewhere.so", PROHUNSEV_LIBRARY="elsewhere.so", **env)
@@ -53,15 +54,15 @@ class Places(unittest.TestCase):
         module = self.folder / "module"
         module.mkdir()
         shutil.copy(ph.__file__, module)
-        if (pathlib.Path(sys.prefix) / "lib/libprohunsev.so.0").exists():
+        if pathlib.Path(sys.prefix, "lib", SONAME).exists():
             self.skipTest("one is installed under this Python's prefix")
-        shutil.copy(LIBRARY, self.folder / "libprohunsev.so.0")
+        shutil.copy(LIBRARY, self.folder / SONAME)
         tried = self.asked(PYTHONPATH=str(module), LD_LIBRARY_PATH=str(self.folder))
-        self.assertEqual((tried.returncode, tried.stdout.strip(), tried.stderr), (0, "libprohunsev.so.0", ""))
+        self.assertEqual((tried.returncode, tried.stdout.strip(), tried.stderr), (0, SONAME, ""))
 
     def test_none(self):
         shutil.copy(ph.__file__, self.folder)
-        if (pathlib.Path(sys.prefix) / "lib/libprohunsev.so.0").exists():
+        if pathlib.Path(sys.prefix, "lib", SONAME).exists():
             self.skipTest("one is installed under this Python's prefix")
         tried = self.asked()
         self.assertEqual(tried.returncode, 1)
