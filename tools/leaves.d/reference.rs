@@ -1,7 +1,7 @@
 // The leaves by Rust's own: libm's log, log2 and exp, and std's sqrt, round, ceil and total_cmp.
 //
 //   reference inputs N      N inputs, a line of sixteen hexadecimal digits for each: the bits of an f64
-//   reference sample        some hundred inputs, the fixed list of crates/leaves_run/stdin
+//   reference sample        some hundred inputs, the fixed list of crates/run_leaves/stdin
 //   reference answers       for each line of standard input a line: the input, then the bits of log, log2, exp and sqrt, then
 //                           round and ceil as whole numbers and the place in the total order, all in hexadecimal
 //   reference compare A B   counts, per leaf, the inputs at which two lists of answers differ; the last line is the sum

@@ -9,15 +9,15 @@ use lib.Ieee.{Float}
 use Rattle.numbers.specs.Lists.{curve, filled}
 use Rattle.numbers.proofs.Tests.{refused-keeps, passed-does}
 use Rattle.flux.specs.Flux.{fluxAt}
-use Rattle.lags.specs.declared.TempoOpts.{TempoOpts}
+use Rattle.options.specs.declared.TempoOpts.{TempoOpts}
 use Rattle.tempo.specs.Answers.{unused}
 use Rattle.tempo.proofs.Promises.{isFound, tempo-has-lag}
-use Rattle.stability.specs.Windows.{Open}
+use Rattle.numbers.specs.Outcomes.{Open}
 use Rattle.track.specs.declared.Analysis.{Analysis}
 use Rattle.rooms.specs.Rooms.{Results, Spare, magnitudesNumber}
 use Rattle.track_parts.specs.Parts.{onsetsIn}
 use Rattle.track.specs.Analyses.{estimateIn, periodIn, withoutAnalysis, Analysed}
-use Rattle.analysis.specs.Analyses.{AnalysedEnvelope, AnalysedMagnitudes}
+use Rattle.analysis.specs.Analyses.{EnvelopePromise, MagnitudesPromise}
 use Rattle.rooms.specs.Inner.{Ready}
 use Rattle.track_parts.proofs.Lists.{written-part}
 use Rattle.rooms.proofs.Rooms.{told, flux-ready, flux-taken}
@@ -35,7 +35,7 @@ coincide p q = (p .answered ∙ sym (q .answered), p .written ∙ sym (q .writte
 
 pub magnitudes-coincide : {m : List Float} {rows bins rate : ℕ} {o : TempoOpts} {flux : List Float} {was : Results} {lent : Spare}
     {a b : Analysis} {f g : List Float} {x y : Results} {s t : Spare}
-    → AnalysedMagnitudes m rows bins rate o flux was lent a f x s → AnalysedMagnitudes m rows bins rate o flux was lent b g y t → (a ≡ b) × (f ≡ g) × (x ≡ y)
+    → MagnitudesPromise m rows bins rate o flux was lent a f x s → MagnitudesPromise m rows bins rate o flux was lent b g y t → (a ≡ b) × (f ≡ g) × (x ≡ y)
 magnitudes-coincide p q = let c = coincide (p .analysed) (q .analysed) in (c .0, p .fluxes ∙ sym (q .fluxes), c .1)
 
 -- ---- tempo and period
@@ -52,7 +52,7 @@ module _ (m : List Float) (rows bins rate : ℕ) (o : TempoOpts) (flux : List Fl
   number = magnitudesNumber m rows bins rate o flux was lent
 
   pub magnitudes-refused : (n : ℕ) (answer : Analysis) → n ≡ number → (n ≡ 0 → ⊥) → answer ≡ withoutAnalysis n
-      → AnalysedMagnitudes m rows bins rate o flux was lent answer flux was lent
+      → MagnitudesPromise m rows bins rate o flux was lent answer flux was lent
   magnitudes-refused n answer is some e =
       record {
         fluxes = sym (refused-keeps number (filled (fluxAt m bins) flux 0 rows) flux (λ z. some (is ∙ z)));
@@ -67,7 +67,7 @@ module _ (m : List Float) (rows bins rate : ℕ) (o : TempoOpts) (flux : List Fl
     lent-ready = rw lent-flux (flux-ready m rows bins rate o flux was lent (told m rows bins rate o flux was lent (sym is ∙ z)))
 
     pub magnitudes-passed : (answer : Analysis) (after : Results) (left : Spare) → Analysed 0 (take (rows - 0) (drop 0 flux′)) rate o was lent answer after left
-        → AnalysedMagnitudes m rows bins rate o flux was lent answer flux′ after left
+        → MagnitudesPromise m rows bins rate o flux was lent answer flux′ after left
     magnitudes-passed answer after left a =
         record {
           fluxes = f ∙ sym (passed-does number (filled (fluxAt m bins) flux 0 rows) flux (sym is ∙ z));
@@ -77,7 +77,7 @@ module _ (m : List Float) (rows bins rate : ℕ) (o : TempoOpts) (flux : List Fl
 
   -- where nothing is refused, what `analyse_magnitudes` answers and leaves is what `analyse_envelope` does with their flux
   pub flux-is-the-envelope : {answer : Analysis} {flux′ : List Float} {after : Results} {left : Spare} → number ≡ 0
-      → AnalysedMagnitudes m rows bins rate o flux was lent answer flux′ after left
-      → AnalysedEnvelope (curve (fluxAt m bins) rows) rate o was lent answer after left
+      → MagnitudesPromise m rows bins rate o flux was lent answer flux′ after left
+      → EnvelopePromise (curve (fluxAt m bins) rows) rate o was lent answer after left
   flux-is-the-envelope {answer = a} {after = x} {left = s} z p =
       subst (λ (j : ℕ). Analysed j (curve (fluxAt m bins) rows) rate o was lent a x s) (z ∙ sym (flux-taken m rows bins rate o flux was lent z)) (p .analysed)

@@ -7,18 +7,18 @@ use lib.Ieee.{Float}
 use Rattle.numbers.specs.Refusals.{unlessRefused}
 use Rattle.numbers.specs.Lists.{curve, filled}
 use Rattle.flux.specs.Flux.{fluxAt}
-use Rattle.lags.specs.declared.TempoOpts.{TempoOpts}
+use Rattle.options.specs.declared.TempoOpts.{TempoOpts}
 use Rattle.rooms.specs.Rooms.{Results, Spare, envelopeNumber, magnitudesNumber}
 use Rattle.track.specs.declared.Analysis.{Analysis}
 use Rattle.track.specs.Analyses.{Analysed}
 
 -- The promise of `analyse_envelope`.
-abbrev pub AnalysedEnvelope : List Float → (rate : ℕ) → TempoOpts → Results → Spare → Analysis → Results → Spare → Type 0
-AnalysedEnvelope env rate o was lent answer after left =
+abbrev pub EnvelopePromise : List Float → (rate : ℕ) → TempoOpts → Results → Spare → Analysis → Results → Spare → Type 0
+EnvelopePromise env rate o was lent answer after left =
     Analysed (envelopeNumber env rate o was lent) env rate o was lent answer after left
 
 -- The promise of `analyse_magnitudes`: the flux that demand 2 gives, and the analysis of that flux.
-pub record AnalysedMagnitudes
+pub record MagnitudesPromise
     (magnitudes : List Float) (rows bins rate : ℕ) (o : TempoOpts) (flux : List Float) (was : Results) (lent : Spare)
     (answer : Analysis) (flux′ : List Float) (after : Results) (left : Spare) : Type 0 where
   pub fluxes :

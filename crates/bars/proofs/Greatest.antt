@@ -17,7 +17,7 @@ use Rattle.sizes.proofs.Sizes.{most-not-nan, nought-most}
 use Rattle.sizes.proofs.Lists.{values-within, each-at}
 use Rattle.sizes.proofs.Sums.{sum-within}
 use Rattle.sizes.proofs.Order.{lt-is-le, le-self, le-then-le, le-then-lt, not-lt}
-use Rattle.bars.specs.Downbeats.{fluxAt, inPhase, phaseSum, firstGreatest, downbeatPhase}
+use Rattle.bars.specs.Downbeats.{beatFlux, inPhase, phaseSum, firstGreatest, downbeatPhase}
 use Rattle.bars.proofs.Phases.{length-phase}
 
 -- of the first n, k has the greatest sum, and each before it a smaller one
@@ -55,13 +55,13 @@ module _ (sum : ℕ → Float) (m : ℕ) (real : (p : ℕ) → p < m → T (not 
       subst (λ (j : ℕ). First sum j (firstGreatest sum (suc n) c (pick (lt (sum k) (sum n)) n k))) e (first-of (suc n) c _ (omega arith) (one-more n k (omega arith) w))
 
 -- the flux of a list of beats is of size at most 2 ^ 150, as the envelope's is
-flux-within : (envelope : List Float) → Each (Within 150) envelope → (t : ℕ) → Within 150 (fluxAt envelope t)
-unfolding fluxAt
+flux-within : (envelope : List Float) → Each (Within 150) envelope → (t : ℕ) → Within 150 (beatFlux envelope t)
+unfolding beatFlux
 flux-within envelope h t =
     ⊎-elim (λ (g : t < length envelope). each-at t nought h g)
     (λ (g : length envelope ≤ t). subst (Within 150) (sym (List·getD-eq-default envelope nought g)) nought-most) (lt-or-le t (length envelope))
 
-fluxes-within : (envelope : List Float) → Each (Within 150) envelope → (ts : List ℕ) → Each (Within 150) (map (fluxAt envelope) ts)
+fluxes-within : (envelope : List Float) → Each (Within 150) envelope → (ts : List ℕ) → Each (Within 150) (map (beatFlux envelope) ts)
 fluxes-within envelope h [] = none
 fluxes-within envelope h (t ∷ ts) = more (flux-within envelope h t) (fluxes-within envelope h ts)
 
@@ -78,7 +78,7 @@ phase-greatest envelope beats meter fine few some =
     let e : 1 + (meter - 1) ≡ meter = omega arith in
     let real : (p : ℕ) → p < meter → T (not (isNan (sum p))) = λ p q.
     most-not-nan
-    (sum-within 52 150 (lit≤ tt) (lit≤ tt) (omega (arith, few, length-map (fluxAt envelope) (inPhase meter p 0 beats), length-phase meter p 0 beats))
+    (sum-within 52 150 (lit≤ tt) (lit≤ tt) (omega (arith, few, length-map (beatFlux envelope) (inPhase meter p 0 beats), length-phase meter p 0 beats))
     (fluxes-within envelope (values-within envelope fine) (inPhase meter p 0 beats)))
     in
     let one : First sum 1 0 =

@@ -8,7 +8,7 @@ use lib.Dec.{leb, eqb}
 use lib.ListN.{length, getD}
 use lib.Ieee.{Float, lt}
 use Rattle.numbers.specs.Rounded.{nought, pick, sumOf}
-use Rattle.numbers.specs.Limits.{mostRows, mostFrame, between, valueFine}
+use Rattle.numbers.specs.Limits.{mostRows, mostFrame, between, valueFine, frameFine}
 use Rattle.numbers.specs.Refusals.{lowest, unlessRefused}
 use Rattle.numbers.specs.Lists.{listed, every}
 
@@ -22,27 +22,23 @@ commonMeter = 4
 abbrev pub mostMeter : ℕ
 mostMeter = 16
 
--- "Listed frames at most 1,048,575"
-unfoldable pub frameFine : ℕ → Bool
-frameFine frame = leb frame mostFrame
-
 -- number 1: N, each listed beat and the meter are in bounds
-unfoldable pub numbersFine : List Float → List ℕ → (meter : ℕ) → Bool
-numbersFine envelope beats meter = leb (length envelope) mostRows && (every frameFine beats && between 1 mostMeter meter)
+unfoldable pub downbeatNumbersFine : List Float → List ℕ → (meter : ℕ) → Bool
+downbeatNumbersFine envelope beats meter = leb (length envelope) mostRows && (every frameFine beats && between 1 mostMeter meter)
 
 -- number 3: a slot for each beat
-unfoldable pub roomFine : List ℕ → (room : ℕ) → Bool
-roomFine beats room = leb (length beats) room
+unfoldable pub downbeatRoomFine : List ℕ → (room : ℕ) → Bool
+downbeatRoomFine beats room = leb (length beats) room
 
 -- the number; 4 judges the whole envelope
 unfoldable pub downbeatRefusal : List Float → List ℕ → (meter room : ℕ) → ℕ
-downbeatRefusal envelope beats meter room = lowest (numbersFine envelope beats meter) true (roomFine beats room) (every valueFine envelope)
+downbeatRefusal envelope beats meter room = lowest (downbeatNumbersFine envelope beats meter) true (downbeatRoomFine beats room) (every valueFine envelope)
 
 -- ---- what is answered
 
 -- "a beat past the envelope adds 0"
-unfoldable pub fluxAt : List Float → ℕ → Float
-fluxAt envelope frame = getD envelope frame nought
+unfoldable pub beatFlux : List Float → ℕ → Float
+beatFlux envelope frame = getD envelope frame nought
 
 -- the beats whose place in the list, divided by the meter, leaves the phase; `place` is that of the first
 unfoldable pub inPhase : (meter phase place : ℕ) → List ℕ → List ℕ
@@ -53,7 +49,7 @@ inPhase meter phase place (beat ∷ beats) =
 
 -- a phase's flux sum: "an empty phase sums to 0"
 unfoldable pub phaseSum : List Float → List ℕ → (meter phase : ℕ) → Float
-phaseSum envelope beats meter phase = sumOf (map (fluxAt envelope) (inPhase meter phase 0 beats))
+phaseSum envelope beats meter phase = sumOf (map (beatFlux envelope) (inPhase meter phase 0 beats))
 
 -- of `best` and the n phases from `phase` on, the first with the greatest sum
 unfoldable pub firstGreatest : (ℕ → Float) → (phase n best : ℕ) → ℕ
@@ -69,7 +65,7 @@ unfoldable pub downbeatsOf : List Float → List ℕ → (meter : ℕ) → List 
 downbeatsOf envelope beats meter = inPhase meter (downbeatPhase envelope beats meter) 0 beats
 
 -- the promise of `downbeats`: its number, its count, and the lent list afterwards
-pub record Downbeats (envelope : List Float) (beats : List ℕ) (meter : ℕ) (before : List ℕ) (number count : ℕ) (after : List ℕ) : Type 0 where
+pub record DownbeatsPromise (envelope : List Float) (beats : List ℕ) (meter : ℕ) (before : List ℕ) (number count : ℕ) (after : List ℕ) : Type 0 where
   pub number-is : number ≡ downbeatRefusal envelope beats meter (length before)
   pub count-is : count ≡ unlessRefused (downbeatRefusal envelope beats meter (length before)) (length (downbeatsOf envelope beats meter)) 0
   pub frames-are : after ≡ unlessRefused (downbeatRefusal envelope beats meter (length before)) (listed (downbeatsOf envelope beats meter) before) before

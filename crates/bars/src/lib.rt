@@ -5,7 +5,8 @@ ghost use mathlib.Core.Path.{_≡_};
 ghost use Prim.Native.Nat.{_<_, _≤_};
 ghost use lib.ListN.{length};
 ghost use Rattle.numbers.specs.Lists.{every, listed};
-ghost use Rattle.bars.specs.Downbeats.{frameFine, downbeatRefusal, fluxAt, inPhase, phaseSum, downbeatPhase, Downbeats, commonMeter};
+ghost use Rattle.numbers.specs.Limits.{frameFine};
+ghost use Rattle.bars.specs.Downbeats.{downbeatRefusal, beatFlux, inPhase, phaseSum, downbeatPhase, DownbeatsPromise, commonMeter};
 ghost use Rattle.bars.specs.BarBeats.{lastBar, during, passing, barBeatSays, barAndBeat};
 use numbers::Listing;
 
@@ -24,14 +25,14 @@ pub enum BarBeat {
 // Room: one slot for each beat; slots past the count stay. Refuses 1 (N, or a beat above 1,048,575), 3 and 4, and then lists nothing.
 // The beats need not ascend; where flux is negative an empty phase may be the greatest, and then no beat is a downbeat.
 pub fn downbeats(envelope: &[f64], beats: &[u32], frames: &mut [u32]) -> Listing
-    ensures { λ r. ⌜ Downbeats (now (envelope .entry)) (now (beats .entry)) commonMeter (now (frames .entry)) (r .number) (r .count) (now (frames .exit)) ⌝ }
+    ensures { λ r. ⌜ DownbeatsPromise (now (envelope .entry)) (now (beats .entry)) commonMeter (now (frames .entry)) (r .number) (r .count) (now (frames .exit)) ⌝ }
 {
     downbeats_in(envelope, beats, COMMON_METER, frames)
 }
 
 // Inner: the downbeats of bars of `meter` beats; refuses 1 also for a meter outside 1 to 16.
 pub fn downbeats_in(envelope: &[f64], beats: &[u32], meter: usize, frames: &mut [u32]) -> Listing
-    ensures { λ r. ⌜ Downbeats (now (envelope .entry)) (now (beats .entry)) meter (now (frames .entry)) (r .number) (r .count) (now (frames .exit)) ⌝ }
+    ensures { λ r. ⌜ DownbeatsPromise (now (envelope .entry)) (now (beats .entry)) meter (now (frames .entry)) (r .number) (r .count) (now (frames .exit)) ⌝ }
 {
     let no = downbeat_refusal(envelope, beats, meter, frames.len());
     if no != 0 {
@@ -72,7 +73,7 @@ fn downbeat_refusal(envelope: &[f64], beats: &[u32], meter: usize, room: usize) 
     if envelope.len() > numbers::MOST_ROWS {
         return numbers::OUT_OF_BOUNDS;
     }
-    if !frames_fine(beats) {
+    if !lists::all_at_most(beats, numbers::MOST_FRAME) {
         return numbers::OUT_OF_BOUNDS;
     }
     if meter < 1 {
@@ -90,25 +91,8 @@ fn downbeat_refusal(envelope: &[f64], beats: &[u32], meter: usize, room: usize) 
     0
 }
 
-fn frames_fine(frames: &[u32]) -> bool
-    ensures { λ r. ⌜ r ≡ every frameFine (now (frames .entry)) ⌝ }
-{
-    let mut fine = true;
-    let mut i = 0;
-    while i < frames.len() {
-        let frame = frames[i];
-        fine = if frame <= numbers::MOST_FRAME {
-            fine
-        } else {
-            false
-        };
-        i += 1;
-    }
-    fine
-}
-
 fn flux_at(envelope: &[f64], frame: u32) -> f64
-    ensures { λ r. ⌜ r ≡ fluxAt (now (envelope .entry)) frame ⌝ }
+    ensures { λ r. ⌜ r ≡ beatFlux (now (envelope .entry)) frame ⌝ }
 {
     let at = frame as usize;
     if at < envelope.len() {

@@ -9,7 +9,8 @@ use lib.Dec.{eqb}
 use lib.ListN.{length}
 use lib.Ieee.{Float, le}
 use Rattle.numbers.proofs.Tests.{or-left, or-right}
-use Rattle.beats.specs.Envelopes.{flatness, varianceOf, beatless}
+use Rattle.numbers.specs.Rounded.{epsilon}
+use Rattle.beats.specs.Envelopes.{varianceOf, beatless}
 
 some : (n : ℕ) → eqb n 0 ≡ false → 1 ≤ n
 some zero e = absurd (eqb-false 0 0 e refl)
@@ -18,12 +19,12 @@ some (suc n) e = omega arith
 pub record Lively (envelope : List Float) (period : ℕ) : Type 0 where
   pub frames : 1 ≤ length envelope
   pub periods : 1 ≤ period
-  pub varies : le (varianceOf envelope) flatness ≡ false
+  pub varies : le (varianceOf envelope) epsilon ≡ false
 
 pub lively : (envelope : List Float) (period : ℕ) → beatless envelope period ≡ false → Lively envelope period
 unfolding beatless
 lively envelope period e =
-    let flat = le (varianceOf envelope) flatness in
+    let flat = le (varianceOf envelope) epsilon in
     let rest = or-right (eqb (length envelope) 0) (eqb period 0 || flat) e in
     record {
       frames = some (length envelope) (or-left (eqb (length envelope) 0) (eqb period 0 || flat) e);

@@ -10,9 +10,9 @@ use lib.Ieee.{Float, nan}
 use Rattle.numbers.specs.Rounded.{_⊕_}
 use Rattle.numbers.proofs.Tests.{lt-or-le}
 use Rattle.numbers.proofs.Tabs.{length-tab, getD-curve}
-use Rattle.links.specs.declared.Best.{Best}
-use Rattle.links.specs.Extensions.{noLink, extension}
-use Rattle.links.proofs.Extensions.{extension-same, Linked, unlinks, links-to, linked, follows-below}
+use Rattle.lists.specs.declared.Best.{Best}
+use Rattle.beat_links.specs.Extensions.{noLink, extension}
+use Rattle.beat_links.proofs.Extensions.{extension-same, Linked, unlinks, links-to, linked, follows-below}
 use Rattle.beats.specs.Scores.{scores, linkOf, links}
 use Rattle.beats.specs.Grids.{linkAt}
 use Rattle.beats.specs.Inner.{Descends}

@@ -11,10 +11,11 @@ use lib.ListN.{length, getD}
 use lib.Ieee.{Float, nan, binary64, lt, neg, ofBits, fits}
 use lib.Ieee.Fits.{div-fits}
 use lib.Ieee.Scale.{finite}
-use Rattle.numbers.specs.Rounded.{_⊕_, _⊖_, real, nought}
+use Rattle.numbers.specs.Rounded.{_⊕_, _⊖_, real, nought, epsilon, one}
 use Rattle.numbers.specs.Limits.{mostRows, mostPeriod, valueFine}
 use Rattle.numbers.specs.Lists.{every}
 use Rattle.numbers.proofs.Tests.{pick-false}
+use Rattle.lists.specs.Means.{meanOf}
 use Rattle.sizes.specs.Sizes.{AtMost, Within, AtLeast, Plus, isPlus, Held, Each, none, more}
 use Rattle.sizes.proofs.Numbers.{held-multiple}
 use Rattle.sizes.proofs.Sizes.{add-most, most-weaken, most-finite, most-not-nan, nought-most, sub-within, mul-within, div-within, within-weaken}
@@ -24,13 +25,13 @@ use Rattle.sizes.proofs.Least.{real-least, least-above}
 use Rattle.sizes.proofs.Order.{lt-is-le, not-le, lt-then-lt}
 use Rattle.sizes.proofs.Ranges.{le-least}
 use Rattle.sizes.proofs.Signs.{plus-not-nan}
-use Rattle.leaf_sizes.proofs.LogSizes.{log-ratio-most}
+use Rattle.float_sizes.proofs.LogSizes.{log-ratio-most}
 use Rattle.sizes.proofs.Monotone.{add-swap}
 use Rattle.roots.proofs.Roots.{sqrt-least}
-use Rattle.links.specs.declared.Best.{Best}
-use Rattle.links.specs.Extensions.{fourHundred, penalty, extended, extension}
-use Rattle.links.proofs.Extensions.{Linked, unlinks, links-to, linked, follows-below}
-use Rattle.beats.specs.Envelopes.{flatness, one, beatless, meanOf, squareAbout, varianceOf, scaleOf, scaledBy, scaled}
+use Rattle.lists.specs.declared.Best.{Best}
+use Rattle.beat_links.specs.Extensions.{fourHundred, penalty, extended, extension}
+use Rattle.beat_links.proofs.Extensions.{Linked, unlinks, links-to, linked, follows-below}
+use Rattle.beats.specs.Envelopes.{beatless, squareAbout, varianceOf, scaleOf, scaledBy, scaled}
 use Rattle.beats.specs.Scores.{scores}
 use Rattle.beats.specs.Grids.{scoresOf}
 use Rattle.beats.proofs.Beatless.{Lively, lively}
@@ -46,11 +47,11 @@ length-map : {A B : Type 0} (f : A → B) (xs : List A) → length (map f xs) �
 length-map f [] = refl
 length-map f (x ∷ xs) = ap suc (length-map f xs)
 
-flatness-least : AtLeast 1 (2 ^ 52) flatness
+flatness-least : AtLeast 1 (2 ^ 52) epsilon
 unfolding ofBits
 flatness-least = record { size = lit≤ tt }
 
-flatness-plus : Plus flatness
+flatness-plus : Plus epsilon
 unfolding ofBits isPlus
 flatness-plus = record { sign = tt }
 
@@ -86,17 +87,17 @@ module _ (envelope : List Float) (period : ℕ) (fine : every valueFine envelope
   variance-fits = div-fits binary64 _ _
 
   -- a variance above 2 ^ -52
-  variance-above : lt flatness (varianceOf envelope) ≡ true
-  variance-above = not-le (varianceOf envelope) flatness (most-not-nan variance-within) (plus-not-nan flatness-plus) (live .varies)
+  variance-above : lt epsilon (varianceOf envelope) ≡ true
+  variance-above = not-le (varianceOf envelope) epsilon (most-not-nan variance-within) (plus-not-nan flatness-plus) (live .varies)
 
   variance-least : AtLeast 1 (2 ^ 52) (varianceOf envelope)
-  variance-least = le-least (varianceOf envelope) flatness-plus flatness-least (lt-is-le flatness (varianceOf envelope) variance-above)
+  variance-least = le-least (varianceOf envelope) flatness-plus flatness-least (lt-is-le epsilon (varianceOf envelope) variance-above)
 
   scale-within : Within 26 (scaleOf envelope)
   unfolding scaleOf
   scale-within =
       div-within binary64 0 26 (lit≤ tt) one-within
-      (sqrt-least 26 (lit≤ tt) variance-fits (lt-then-lt nought flatness (varianceOf envelope) (least-above (lit< tt) flatness-plus flatness-least) variance-above) variance-least)
+      (sqrt-least 26 (lit≤ tt) variance-fits (lt-then-lt nought epsilon (varianceOf envelope) (least-above (lit< tt) flatness-plus flatness-least) variance-above) variance-least)
 
   pub flux-within : (t : ℕ) → t < length envelope → Within 176 (scaled envelope t)
   unfolding scaledBy

@@ -12,12 +12,13 @@ use lib.Seq.{getD-at}
 use lib.Ieee.{Float}
 use Rattle.numbers.specs.Rounded.{pick}
 use Rattle.numbers.proofs.Tests.{lt-or-le}
-use Rattle.links.specs.declared.Best.{Best}
-use Rattle.links.specs.Extensions.{noLink, greatest}
-use Rattle.links.proofs.Greatest.{best, Outcome, kept, found, outcome}
+use Rattle.lists.specs.declared.Best.{Best}
+use Rattle.lists.specs.Greatest.{greatest, valueAt, firstGreatest}
+use Rattle.beat_links.specs.Extensions.{noLink}
+use Rattle.lists.proofs.Greatest.{best, Outcome, kept, found, outcome}
 use Rattle.beats.specs.Envelopes.{beatless, scaled}
 use Rattle.beats.specs.Scores.{scores, links}
-use Rattle.beats.specs.Grids.{valueAt, linkAt, firstGreatest, walked, beatsTo, grid, scoresOf, linksOf, gridOf}
+use Rattle.beats.specs.Grids.{linkAt, walked, beatsTo, grid, scoresOf, linksOf, gridOf}
 use Rattle.beats.specs.Inner.{Descends}
 use Rattle.beats.proofs.Chains.{links-descend}
 use Rattle.beats.proofs.Walks.{ends, alone, after, beats-few}
@@ -86,7 +87,7 @@ beats-steps link t down = walked-steps link t down (t + 1) t (omega arith) (omeg
 -- ---- the grid
 
 -- the first greatest is one of them
-pub first-below : (values : List Float) (n : ℕ) → 1 ≤ n → firstGreatest values n < n
+pub first-below : (values : List Float) (n : ℕ) → 1 ≤ n → firstGreatest (valueAt values) n < n
 unfolding firstGreatest
 first-below values n h = by (outcome (valueAt values) 1 (n - 1) (best (valueAt values 0) 0))
   where
@@ -96,9 +97,9 @@ first-below values n h = by (outcome (valueAt values) 1 (n - 1) (best (valueAt v
     by (found k e t) = omega (arith, ap (λ (b : Best). b .at) e, t .to)
 
 module _ (period : ℕ) (flux : ℕ → Float) (n : ℕ) (some : 1 ≤ period) (frames : 1 ≤ n) where
-  pub grid-steps : Steps (linkAt (links period flux n)) (grid period flux n) (firstGreatest (scores period flux n) n)
+  pub grid-steps : Steps (linkAt (links period flux n)) (grid period flux n) (firstGreatest (valueAt (scores period flux n)) n)
   unfolding grid
-  grid-steps = beats-steps (linkAt (links period flux n)) (firstGreatest (scores period flux n) n) (links-descend period flux n some _ (first-below (scores period flux n) n frames))
+  grid-steps = beats-steps (linkAt (links period flux n)) (firstGreatest (valueAt (scores period flux n)) n) (links-descend period flux n some _ (first-below (scores period flux n) n frames))
 
   -- every beat is one of the frames
   pub grid-below : (i : ℕ) → i < length (grid period flux n) → getD (grid period flux n) i 0 < n
@@ -113,7 +114,7 @@ module _ (period : ℕ) (flux : ℕ → Float) (n : ℕ) (some : 1 ≤ period) (
       omega (
         arith,
         first,
-        beats-few (linkAt (links period flux n)) (firstGreatest ss n) (links-descend period flux n some (firstGreatest ss n) first) (firstGreatest ss n) (omega arith),
+        beats-few (linkAt (links period flux n)) (firstGreatest (valueAt ss) n) (links-descend period flux n some (firstGreatest (valueAt ss) n) first) (firstGreatest (valueAt ss) n) (omega arith),
       )
 
 -- ---- the grid of an envelope: what other calls ask of a list of beats
@@ -134,9 +135,9 @@ module _ (envelope : List Float) (period : ℕ) where
 
   -- where there are beats, they are steps of its links that end at the first greatest of its scores
   pub envelope-steps : 1 ≤ length (gridOf envelope period)
-      → Steps (linkAt (linksOf envelope period)) (gridOf envelope period) (firstGreatest (scoresOf envelope period) (length envelope))
+      → Steps (linkAt (linksOf envelope period)) (gridOf envelope period) (firstGreatest (valueAt (scoresOf envelope period)) (length envelope))
   envelope-steps =
-      by-grid (λ score link beats. 1 ≤ length beats → Steps (linkAt link) beats (firstGreatest score (length envelope))) (λ h. absurd (not-suc-le-zero h))
+      by-grid (λ score link beats. 1 ≤ length beats → Steps (linkAt link) beats (firstGreatest (valueAt score) (length envelope))) (λ h. absurd (not-suc-le-zero h))
       (λ p n h. grid-steps period (scaled envelope) (length envelope) p n)
 
   -- the first has no link
@@ -150,7 +151,7 @@ module _ (envelope : List Float) (period : ℕ) where
 
   -- the last has the first greatest score
   pub beats-end : (i : ℕ) → suc i ≡ length (gridOf envelope period)
-      → getD (gridOf envelope period) i 0 ≡ firstGreatest (scoresOf envelope period) (length envelope)
+      → getD (gridOf envelope period) i 0 ≡ firstGreatest (valueAt (scoresOf envelope period)) (length envelope)
   beats-end i h = envelope-steps (omega arith) .last i h
 
   -- they are strictly ascending

@@ -11,7 +11,7 @@ use lib.Dec.{eqb}
 use lib.ListN.{length, getD, length-append}
 use Rattle.numbers.specs.Rounded.{pick}
 use Rattle.numbers.proofs.Tests.{which, pick-true, pick-false}
-use Rattle.links.specs.Extensions.{noLink}
+use Rattle.beat_links.specs.Extensions.{noLink}
 use Rattle.beats.specs.Grids.{linkAt, walked, beatsTo}
 use Rattle.beats.specs.Inner.{Descends}
 

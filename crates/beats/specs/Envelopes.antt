@@ -6,19 +6,9 @@ use Prim.Native.Nat.{ℕ}
 use lib.Dec.{eqb}
 use lib.ListN.{length, getD}
 use lib.Ieee.{Float, nan, le}
-use Rattle.numbers.specs.Rounded.{_⊖_, _⊗_, _⊘_, bits, real, sumOf}
+use Rattle.numbers.specs.Rounded.{_⊖_, _⊗_, _⊘_, bits, real, sumOf, epsilon, one}
+use Rattle.lists.specs.Means.{meanOf}
 use Rattle.roots.specs.Roots.{sqrtOf}
-
--- 2 ^ -52, the greatest variance of an envelope that has no beats
-abbrev pub flatness : Float
-flatness = bits 0x3CB0_0000_0000_0000
-
--- 1
-abbrev pub one : Float
-one = bits 0x3FF0_0000_0000_0000
-
-unfoldable pub meanOf : List Float → Float
-meanOf envelope = sumOf envelope ⊘ real (length envelope)
 
 -- the square of a value's distance from the mean
 unfoldable pub squareAbout : (mean v : Float) → Float
@@ -31,7 +21,7 @@ varianceOf envelope = sumOf (map (squareAbout (meanOf envelope)) envelope) ⊘ r
 -- "Empty envelope, period 0, or variance at most 2^-52"
 unfoldable pub beatless : List Float → (period : ℕ) → Bool
 unfolding varianceOf
-beatless envelope period = eqb (length envelope) 0 || (eqb period 0 || le (varianceOf envelope) flatness)
+beatless envelope period = eqb (length envelope) 0 || (eqb period 0 || le (varianceOf envelope) epsilon)
 
 -- 1/sqrt(variance)
 unfoldable pub scaleOf : List Float → Float

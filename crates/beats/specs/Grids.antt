@@ -10,39 +10,31 @@ use Rattle.numbers.specs.Rounded.{pick}
 use Rattle.numbers.specs.Limits.{mostRows, mostPeriod, valueFine}
 use Rattle.numbers.specs.Refusals.{lowest, unlessRefused}
 use Rattle.numbers.specs.Lists.{listed, every}
-use Rattle.links.specs.Extensions.{greatest, noLink}
+use Rattle.lists.specs.Greatest.{valueAt, firstGreatest}
+use Rattle.beat_links.specs.Extensions.{noLink}
 use Rattle.beats.specs.Envelopes.{beatless, scaleOf, scaledBy, scaled}
 use Rattle.beats.specs.Scores.{scores, links}
 
 -- ---- what is refused
 
 -- number 1: N and the period are in bounds
-unfoldable pub numbersFine : List Float → (period : ℕ) → Bool
-numbersFine envelope period = leb (length envelope) mostRows && leb period mostPeriod
+unfoldable pub gridNumbersFine : List Float → (period : ℕ) → Bool
+gridNumbersFine envelope period = leb (length envelope) mostRows && leb period mostPeriod
 
 -- number 3: N slots for scores, links and beats
-unfoldable pub roomFine : List Float → (score back beats : ℕ) → Bool
-roomFine envelope score back beats = leb (length envelope) score && (leb (length envelope) back && leb (length envelope) beats)
+unfoldable pub gridRoomFine : List Float → (score back beats : ℕ) → Bool
+gridRoomFine envelope score back beats = leb (length envelope) score && (leb (length envelope) back && leb (length envelope) beats)
 
 -- the number; 4 judges the whole envelope
 unfoldable pub gridRefusal : List Float → (period score back beats : ℕ) → ℕ
 gridRefusal envelope period score back beats =
-    lowest (numbersFine envelope period) true (roomFine envelope score back beats) (every valueFine envelope)
+    lowest (gridNumbersFine envelope period) true (gridRoomFine envelope score back beats) (every valueFine envelope)
 
 -- ---- what is answered
-
--- a value of a list
-abbrev pub valueAt : List Float → ℕ → Float
-valueAt values t = getD values t nan
 
 -- a link of a list
 abbrev pub linkAt : List ℕ → ℕ → ℕ
 linkAt links t = getD links t noLink
-
--- the first greatest of the first n values, n at least 1
-unfoldable pub firstGreatest : List Float → (n : ℕ) → ℕ
-unfolding greatest
-firstGreatest values n = greatest (valueAt values) 1 (n - 1) (record { value = valueAt values 0; at = 0 }) .at
 
 -- the beats that end at frame t: those that its link ends, and t itself
 unfoldable pub walked : (steps : ℕ) → (link : ℕ → ℕ) → (t : ℕ) → List ℕ
@@ -57,7 +49,7 @@ beatsTo link t = walked (t + 1) link t
 -- "Beats are the links walked back from the first greatest score", for n frames by their scaled flux
 unfoldable pub grid : (period : ℕ) → (ℕ → Float) → (n : ℕ) → List ℕ
 unfolding scores links firstGreatest beatsTo
-grid period flux n = beatsTo (linkAt (links period flux n)) (firstGreatest (scores period flux n) n)
+grid period flux n = beatsTo (linkAt (links period flux n)) (firstGreatest (valueAt (scores period flux n)) n)
 
 -- the scores, the links and the beats of an envelope, none of each where it is beatless
 unfoldable pub scoresOf : List Float → (period : ℕ) → List Float
@@ -73,7 +65,7 @@ unfolding beatless scaledBy scaleOf grid
 gridOf envelope period = pick (beatless envelope period) [] (grid period (scaled envelope) (length envelope))
 
 -- the promise of `beat_grid`: its number, its count, and the three lent lists afterwards
-pub record Gridded (envelope : List Float) (period : ℕ) (score₀ : List Float) (back₀ beats₀ : List ℕ) (number count : ℕ) (score : List Float) (back beats : List ℕ) : Type 0 where
+pub record GridPromise (envelope : List Float) (period : ℕ) (score₀ : List Float) (back₀ beats₀ : List ℕ) (number count : ℕ) (score : List Float) (back beats : List ℕ) : Type 0 where
   pub number-is : number ≡ gridRefusal envelope period (length score₀) (length back₀) (length beats₀)
   pub count-is : count ≡ unlessRefused number (length (gridOf envelope period)) 0
   pub score-is : score ≡ unlessRefused number (listed (scoresOf envelope period) score₀) score₀

@@ -5,7 +5,7 @@ use Prim.Native.Nat.{ℕ, _≤_, _<_}
 use lib.ListN.{length}
 use lib.Ieee.{Float}
 use Rattle.numbers.specs.Lists.{listed}
-use Rattle.links.specs.Extensions.{noLink}
+use Rattle.beat_links.specs.Extensions.{noLink}
 use Rattle.beats.specs.Scores.{scores, links}
 use Rattle.beats.specs.Grids.{grid}
 

@@ -4,7 +4,7 @@ use Prim.Native.Nat.{ℕ, zero, suc}
 use lib.Ieee.{Float}
 use Rattle.numbers.specs.Rounded.{_⊕_}
 use Rattle.numbers.specs.Lists.{curve}
-use Rattle.links.specs.Extensions.{extension}
+use Rattle.beat_links.specs.Extensions.{extension}
 
 -- the scores of the first n frames, grown frame by frame: "score = scaled flux plus it, or plus 0"
 unfoldable pub scores : (period : ℕ) → (ℕ → Float) → (n : ℕ) → List Float

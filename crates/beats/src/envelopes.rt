@@ -1,29 +1,10 @@
-// The envelope's mean and variance.
+// The envelope's variance.
+use lists::float_of;
+use lists::mean_of;
 ghost use mathlib.Core.Path.{_≡_};
-ghost use Rattle.numbers.specs.Rounded.{sumOf};
-ghost use Rattle.beats.specs.Envelopes.{meanOf, varianceOf};
+ghost use Rattle.beats.specs.Envelopes.{varianceOf};
 
-// the greatest variance of an envelope that has no beats, 2 ^ -52
-pub const FLATNESS: f64 = 2.220446049250313e-16;
-
-fn sum_of(xs: &[f64]) -> f64
-    ensures { λ r. ⌜ r ≡ sumOf (now (xs .entry)) ⌝ }
-{
-    let mut sum = 0.0;
-    let mut i = 0;
-    while i < xs.len() {
-        sum = sum + xs[i];
-        i += 1;
-    }
-    sum
-}
-
-fn mean_of(xs: &[f64]) -> f64
-    ensures { λ r. ⌜ r ≡ meanOf (now (xs .entry)) ⌝ }
-{
-    sum_of(xs) / std::num::nearest_u64_to_f64(xs.len() as u64)
-}
-
+// The mean square of the distances from the mean.
 pub fn variance_of(xs: &[f64]) -> f64
     ensures { λ r. ⌜ r ≡ varianceOf (now (xs .entry)) ⌝ }
 {
@@ -35,5 +16,5 @@ pub fn variance_of(xs: &[f64]) -> f64
         sum = sum + apart * apart;
         i += 1;
     }
-    sum / std::num::nearest_u64_to_f64(xs.len() as u64)
+    sum / float_of(xs.len())
 }

@@ -1,13 +1,14 @@
 // The beats: the links walked back from the first greatest score.
 use crate::scores::track;
-use links::NO_LINK;
+use beat_links::NO_LINK;
+use lists::first_greatest;
 ghost use mathlib.Core.Path.{_≡_};
 ghost use Prim.Native.Nat.{_≤_, _<_};
 ghost use lib.ListN.{length};
 ghost use Rattle.numbers.specs.Limits.{mostRows, mostPeriod};
 ghost use Rattle.numbers.specs.Lists.{listed};
 ghost use Rattle.beats.specs.Envelopes.{scaledBy};
-ghost use Rattle.beats.specs.Grids.{linkAt, firstGreatest, beatsTo};
+ghost use Rattle.beats.specs.Grids.{linkAt, beatsTo};
 ghost use Rattle.beats.specs.Inner.{Descends, Laid};
 
 // Writes the score and the link of each frame and lists the beats; answers how many there are.
@@ -28,25 +29,6 @@ pub fn lay_grid(
     let count = count_beats(back, end);
     store_beats(back, end, count, beats);
     count
-}
-
-// The first of the first n frames with the greatest score.
-fn first_greatest(score: &[f64], n: usize) -> usize
-    requires { ⌜ (1 ≤ n) × (n ≤ length (now score)) × (n ≤ mostRows) ⌝ }
-    ensures { λ r. ⌜ (r < n) × (r ≡ firstGreatest (now (score .entry)) n) ⌝ }
-{
-    let mut at = 0;
-    let mut top = score[0];
-    let mut t = 1;
-    while t < n {
-        let s = score[t];
-        if top < s {
-            top = s;
-            at = t;
-        }
-        t += 1;
-    }
-    at
 }
 
 // How many beats end at frame `end`.

@@ -6,7 +6,7 @@ mod grids;
 mod scores;
 
 use numbers::Listing;
-ghost use Rattle.beats.specs.Grids.{gridRefusal, Gridded};
+ghost use Rattle.beats.specs.Grids.{gridRefusal, GridPromise};
 ghost use mathlib.Core.Path.{_≡_};
 
 // Finds the beats of an envelope of onset strength, `period` frames apart more or less, and lists their frames ascending.
@@ -19,7 +19,7 @@ pub fn beat_grid(
     back: &mut [u32],
     beats: &mut [u32],
 ) -> Listing
-    ensures { λ r. ⌜ Gridded (now (envelope .entry)) period (now (score .entry)) (now (back .entry)) (now (beats .entry)) (r .number) (r .count) (now (score .exit)) (now (back .exit)) (now (beats .exit)) ⌝ }
+    ensures { λ r. ⌜ GridPromise (now (envelope .entry)) period (now (score .entry)) (now (back .entry)) (now (beats .entry)) (r .number) (r .count) (now (score .exit)) (now (back .exit)) (now (beats .exit)) ⌝ }
 {
     let no = grid_refusal(envelope, period, score.len(), back.len(), beats.len());
     if no != 0 {
@@ -41,7 +41,7 @@ pub fn beat_grid(
         };
     }
     let variance = envelopes::variance_of(envelope);
-    if variance <= envelopes::FLATNESS {
+    if variance <= numbers::EPSILON {
         return Listing {
             number: 0,
             count: 0,

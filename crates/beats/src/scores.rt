@@ -1,10 +1,10 @@
 // The score and the link of each frame.
-use links::extension_at;
-use links::penalties::fill_penalties;
+use beat_links::extension_at;
+use beat_links::penalties::fill_penalties;
 ghost use Prim.Native.Nat.{_≤_};
 ghost use lib.ListN.{length};
 ghost use Rattle.numbers.specs.Limits.{mostRows, mostPeriod};
-ghost use Rattle.links.specs.Inner.{Penalties};
+ghost use Rattle.beat_links.specs.Inner.{Penalties};
 ghost use Rattle.beats.specs.Envelopes.{scaledBy};
 ghost use Rattle.beats.specs.Inner.{Tracked};
 

@@ -7,26 +7,26 @@ use mathlib.Core.List.{List}
 use lib.ListN.{length, drop}
 use lib.Ieee.{Float}
 use Rattle.median.specs.Answers.{sortedIn}
-use Rattle.lags.specs.declared.TempoOpts.{TempoOpts}
+use Rattle.options.specs.declared.TempoOpts.{TempoOpts}
 use Rattle.lags.specs.Lags.{minLag, maxLag}
 use Rattle.tempo.proofs.Promises as tempo
 use Rattle.stability.specs.Answers.{stabilityRefusal, leftOpen}
 use Rattle.stability.proofs.Promises as stability
 use Rattle.sections.specs.Outcomes.{workedIn}
-use Rattle.patching.specs.Patches.{Patch}
+use Rattle.patches.specs.Patches.{Patch}
 use Rattle.patch_refusal.specs.Tracks as tracks
 use Rattle.patch_magnitudes.specs.Magnitudes as magnitudes
 use Rattle.patch_features.specs.Features as features
-use Rattle.handing.specs.Handed.{Handed}
-use Rattle.handing.specs.Tempos.{TempoLent, ShareLent}
-use Rattle.handing.specs.Grids.{Placed}
-use Rattle.handing.specs.Forms.{SectionsLent}
-use Rattle.capi.specs.Lists.{Listed}
+use Rattle.capi_answers.specs.Handed.{Handed}
+use Rattle.capi_answers.specs.Tempos.{TempoLent, ShareLent}
+use Rattle.capi_answers.specs.Grids.{Placed}
+use Rattle.capi_answers.specs.Forms.{SectionsLent}
+use Rattle.capi.specs.Lists.{ListHanded}
 use Rattle.capi.specs.Medians.{Valued}
-use Rattle.capi.specs.Tempos.{EstimatePromise, StabilityPromise}
-use Rattle.capi.specs.Grids.{BeatsTold}
+use Rattle.capi.specs.Tempos.{PhEstimatePromise, PhStabilityPromise}
+use Rattle.capi.specs.Grids.{PhGridPromise}
 use Rattle.capi.specs.Forms.{BoundariesTold}
-use Rattle.capi.specs.Repairs.{RowsPromise, FeaturesPromise}
+use Rattle.capi.specs.Repairs.{PhRowsPromise, PhFeaturesPromise}
 
 -- the number and what is lent; `ph_lag_range` and `ph_room_of` by itself
 pub handed-unique : {A : Type 0} {number : ℕ} {parts lent₀ : A} {a b : ℕ} {x y : A}
@@ -35,7 +35,7 @@ handed-unique p q = (p .number-is ∙ sym (q .number-is), p .parts-are ∙ sym (
 
 -- `ph_pick_onsets`, `ph_suppress_close_peaks`, `ph_downbeats`
 pub listed-unique : {number : ℕ} {entries was : List ℕ} {count₀ a b : ℕ} {x y : List ℕ} {m n : ℕ}
-    → Listed number entries was count₀ a x m → Listed number entries was count₀ b y n → ((a ≡ b) × (m ≡ n)) × (x ≡ y)
+    → ListHanded number entries was count₀ a x m → ListHanded number entries was count₀ b y n → ((a ≡ b) × (m ≡ n)) × (x ≡ y)
 listed-unique p q = (handed-unique (p .handed) (q .handed), p .frames-are ∙ sym (q .frames-are))
 
 -- `ph_median_of`, `ph_mad_of`
@@ -49,7 +49,7 @@ valued-unique p q = (
 
 pub estimate-unique : {env : List Float} {onsets rate : ℕ} {o : TempoOpts} {clarity weight work : List Float} {lent₀ : TempoLent}
     {a b : ℕ} {c d w v k l : List Float} {x y : TempoLent}
-    → EstimatePromise env onsets rate o clarity weight work lent₀ a c w k x → EstimatePromise env onsets rate o clarity weight work lent₀ b d v l y
+    → PhEstimatePromise env onsets rate o clarity weight work lent₀ a c w k x → PhEstimatePromise env onsets rate o clarity weight work lent₀ b d v l y
     → ((a ≡ b) × (x ≡ y)) × ((c ≡ d) × (w ≡ v) × (k ≡ l))
 estimate-unique p q =
     let same = tempo.coincide (p .slices) (q .slices) in
@@ -57,7 +57,7 @@ estimate-unique p q =
 
 pub stability-unique : {env : List Float} {rate : ℕ} {o : TempoOpts} {whole : ℕ} {clarity weight work : List Float} {lent₀ : ShareLent}
     {a b : ℕ} {c d w v k l : List Float} {x y : ShareLent}
-    → StabilityPromise env rate o whole clarity weight work lent₀ a c w k x → StabilityPromise env rate o whole clarity weight work lent₀ b d v l y
+    → PhStabilityPromise env rate o whole clarity weight work lent₀ a c w k x → PhStabilityPromise env rate o whole clarity weight work lent₀ b d v l y
     → let number = stabilityRefusal env rate o whole (length clarity) (length weight) (length work) in
     let room = leftOpen (length env) (minLag rate o) (maxLag rate o) whole in
     ((a ≡ b) × (x ≡ y)) × (stability.Alike number room c d × stability.Alike number room w v × stability.Alike number room k l)
@@ -75,7 +75,7 @@ placed-unique p q = (
 
 pub beats-unique : {envelope : List Float} {period : ℕ} {score₀ : List Float} {back₀ beats₀ : List ℕ} {count₀ a b : ℕ}
     {s t : List Float} {k l x y : List ℕ} {m n : ℕ}
-    → BeatsTold envelope period score₀ back₀ beats₀ count₀ a s k x m → BeatsTold envelope period score₀ back₀ beats₀ count₀ b t l y n
+    → PhGridPromise envelope period score₀ back₀ beats₀ count₀ a s k x m → PhGridPromise envelope period score₀ back₀ beats₀ count₀ b t l y n
     → ((a ≡ b) × (m ≡ n)) × ((s ≡ t) × (k ≡ l) × (x ≡ y))
 beats-unique p q =
     let one = handed-unique (p .handed) (q .handed) in (
@@ -97,16 +97,16 @@ boundaries-unique p q = (
   (p .rows-are ∙ sym (q .rows-are), p .work-length ∙ sym (q .work-length), p .work-keeps ∙ sym (q .work-keeps)),
 )
 
-pub rows-unique : {rows bins : ℕ} {was : tracks.Track} {patch : Patch} {work : List Float} {lent₀ : List ℕ}
-    {a b : ℕ} {x y : tracks.Track} {u v : List Float} {s t : List ℕ}
-    → RowsPromise rows bins was patch work lent₀ a x u s → RowsPromise rows bins was patch work lent₀ b y v t
-    → let sorted = magnitudes.sortedIn (tracks.numberOf rows bins was patch (length work)) rows patch in
+pub rows-unique : {rows bins : ℕ} {was : tracks.MagnitudeTrack} {patch : Patch} {work : List Float} {lent₀ : List ℕ}
+    {a b : ℕ} {x y : tracks.MagnitudeTrack} {u v : List Float} {s t : List ℕ}
+    → PhRowsPromise rows bins was patch work lent₀ a x u s → PhRowsPromise rows bins was patch work lent₀ b y v t
+    → let sorted = magnitudes.patchSortedIn (tracks.patchNumber rows bins was patch (length work)) rows patch in
     ((a ≡ b) × (s ≡ t)) × ((x ≡ y) × (length u ≡ length v) × (drop sorted u ≡ drop sorted v))
 rows-unique p q = (
   handed-unique (p .handed) (q .handed),
   (p .slices .track-is ∙ sym (q .slices .track-is), p .slices .work-length ∙ sym (q .slices .work-length), p .slices .work-keeps ∙ sym (q .slices .work-keeps)),
 )
 
-pub features-unique : {rows : ℕ} {was : features.Track} {patch : Patch} {lent₀ : List ℕ} {a b : ℕ} {x y : features.Track} {s t : List ℕ}
-    → FeaturesPromise rows was patch lent₀ a x s → FeaturesPromise rows was patch lent₀ b y t → ((a ≡ b) × (s ≡ t)) × (x ≡ y)
+pub features-unique : {rows : ℕ} {was : features.FeatureTrack} {patch : Patch} {lent₀ : List ℕ} {a b : ℕ} {x y : features.FeatureTrack} {s t : List ℕ}
+    → PhFeaturesPromise rows was patch lent₀ a x s → PhFeaturesPromise rows was patch lent₀ b y t → ((a ≡ b) × (s ≡ t)) × (x ≡ y)
 features-unique p q = (handed-unique (p .handed) (q .handed), p .slices .track-is ∙ sym (q .slices .track-is))

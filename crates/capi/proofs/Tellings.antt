@@ -10,19 +10,19 @@ use Rattle.numbers.specs.Rounded.{nought}
 use Rattle.numbers.specs.declared.Listing.{Listing}
 use Rattle.median.specs.Answers.{answered, Answered}
 use Rattle.median.specs.declared.Answer.{Answer}
-use Rattle.onsets.specs.Outcomes.{Lists}
-use Rattle.lags.specs.declared.TempoOpts.{TempoOpts}
+use Rattle.numbers.specs.Outcomes.{ListWritten}
+use Rattle.options.specs.declared.TempoOpts.{TempoOpts}
 use Rattle.tempo.specs.declared.TempoEstimate.{TempoEstimate}
-use Rattle.tempo.specs.Answers.{Estimated}
+use Rattle.tempo.specs.Answers.{EstimatePromise}
 use Rattle.stability.specs.declared.Steadiness.{Steadiness}
-use Rattle.stability.specs.Answers.{Steadied}
-use Rattle.beats.specs.Grids.{gridOf, Gridded}
-use Rattle.bars.specs.Downbeats.{Downbeats, downbeatRefusal, downbeatsOf}
+use Rattle.stability.specs.Answers.{StabilityPromise}
+use Rattle.beats.specs.Grids.{gridOf, GridPromise}
+use Rattle.bars.specs.Downbeats.{DownbeatsPromise, downbeatRefusal, downbeatsOf}
 use Rattle.sections.specs.Boundaries.{sectionsOf}
 use Rattle.sections.specs.Confidence.{confidenceOf}
 use Rattle.sections.specs.Outcomes.{Found}
 use Rattle.sections.specs.declared.Sections.{Sections}
-use Rattle.patching.specs.Patches.{Patch, ranges}
+use Rattle.patches.specs.Patches.{Patch, ranges}
 use Rattle.patch_magnitudes.specs.declared.Patched as rows-done
 use Rattle.patch_refusal.specs.Tracks as tracks
 use Rattle.patch_magnitudes.specs.Magnitudes as magnitudes
@@ -30,29 +30,29 @@ use Rattle.patch_magnitudes.proofs.Outcomes as rows-outcomes
 use Rattle.patch_features.specs.declared.PatchedFeatures as features-done
 use Rattle.patch_features.specs.Features as features
 use Rattle.patch_features.proofs.Outcomes as features-outcomes
-use Rattle.handing.specs.Handed.{Handed}
-use Rattle.handing.specs.Medians.{numberIn, valueIn}
-use Rattle.handing.specs.Tempos.{TempoLent, tempoParts, ShareLent, shareParts}
-use Rattle.handing.specs.Forms.{SectionsLent, sectionsLent, partsIn}
-use Rattle.handing.specs.Repairs.{SlotsHanded}
-use Rattle.handing.proofs.Hands.{handed-on, ranges-handed}
-use Rattle.capi.specs.Lists.{Listed}
+use Rattle.capi_answers.specs.Handed.{Handed}
+use Rattle.capi_answers.specs.Medians.{numberIn, valueIn}
+use Rattle.capi_answers.specs.Tempos.{TempoLent, tempoParts, ShareLent, shareParts}
+use Rattle.capi_answers.specs.Forms.{SectionsLent, sectionsLent, partsIn}
+use Rattle.capi_answers.specs.Repairs.{SlotsHanded}
+use Rattle.capi_answers.proofs.Hands.{handed-on, ranges-handed}
+use Rattle.capi.specs.Lists.{ListHanded}
 use Rattle.capi.specs.Medians.{Valued}
-use Rattle.capi.specs.Tempos.{EstimatePromise, StabilityPromise}
-use Rattle.capi.specs.Grids.{BeatsTold}
+use Rattle.capi.specs.Tempos.{PhEstimatePromise, PhStabilityPromise}
+use Rattle.capi.specs.Grids.{PhGridPromise}
 use Rattle.capi.specs.Forms.{sectionParts, BoundariesTold}
 use Rattle.capi.specs.Repairs as repairs
 
 -- ---- lists
 
 pub listed-told : {number : ℕ} {entries was : List ℕ} {listing : Listing} {after : List ℕ} {count₀ answer count : ℕ}
-    → Lists number entries was listing after → Handed (listing .number) (listing .count) count₀ answer count → Listed number entries was count₀ answer after count
+    → ListWritten number entries was listing after → Handed (listing .number) (listing .count) count₀ answer count → ListHanded number entries was count₀ answer after count
 listed-told {number} {entries} p h =
     record { handed = handed-on number (length entries) 0 (p .number-is) (p .count-is) h; frames-are = p .frames-are }
 
 pub downbeats-told : {envelope : List Float} {beats : List ℕ} {meter : ℕ} {was : List ℕ} {own part : ℕ} {after : List ℕ} {count₀ answer count : ℕ}
-    → Downbeats envelope beats meter was own part after → Handed own part count₀ answer count
-    → Listed (downbeatRefusal envelope beats meter (length was)) (downbeatsOf envelope beats meter) was count₀ answer after count
+    → DownbeatsPromise envelope beats meter was own part after → Handed own part count₀ answer count
+    → ListHanded (downbeatRefusal envelope beats meter (length was)) (downbeatsOf envelope beats meter) was count₀ answer after count
 downbeats-told {envelope} {beats} {meter} {was} p h =
     record {
       handed = handed-on (downbeatRefusal envelope beats meter (length was)) (length (downbeatsOf envelope beats meter)) 0 (p .number-is) (p .count-is) h;
@@ -60,8 +60,8 @@ downbeats-told {envelope} {beats} {meter} {was} p h =
     }
 
 pub beats-told : {envelope : List Float} {period : ℕ} {score₀ : List Float} {back₀ beats₀ : List ℕ} {own part : ℕ} {score : List Float} {back beats : List ℕ} {count₀ answer count : ℕ}
-    → Gridded envelope period score₀ back₀ beats₀ own part score back beats → Handed own part count₀ answer count
-    → BeatsTold envelope period score₀ back₀ beats₀ count₀ answer score back beats count
+    → GridPromise envelope period score₀ back₀ beats₀ own part score back beats → Handed own part count₀ answer count
+    → PhGridPromise envelope period score₀ back₀ beats₀ count₀ answer score back beats count
 beats-told {envelope} {period} {own = own} {part = part} {count₀ = count₀} {answer = answer} {count = count} p h =
     let q : Handed own (length (gridOf envelope period)) count₀ answer count = handed-on own (length (gridOf envelope period)) 0 refl (p .count-is) h in
     record {
@@ -97,14 +97,14 @@ value-told {number} {v} {own = own} {value₀ = value₀} {answer = answer} {val
 
 pub estimate-told : {env : List Float} {onsets rate : ℕ} {o : TempoOpts} {clarity weight work : List Float} {own : TempoEstimate} {clarity′ weight′ work′ : List Float}
     {lent₀ : TempoLent} {answer : ℕ} {lent : TempoLent}
-    → Estimated env onsets rate o clarity weight work own clarity′ weight′ work′ → Handed (own .number) (tempoParts own) lent₀ answer lent
-    → EstimatePromise env onsets rate o clarity weight work lent₀ answer clarity′ weight′ work′ lent
+    → EstimatePromise env onsets rate o clarity weight work own clarity′ weight′ work′ → Handed (own .number) (tempoParts own) lent₀ answer lent
+    → PhEstimatePromise env onsets rate o clarity weight work lent₀ answer clarity′ weight′ work′ lent
 estimate-told p h = rw (← p .answered) (record { handed = h; slices = p })
 
 pub stability-told : {env : List Float} {rate : ℕ} {o : TempoOpts} {whole : ℕ} {clarity weight work : List Float} {own : Steadiness} {clarity′ weight′ work′ : List Float}
     {lent₀ : ShareLent} {answer : ℕ} {lent : ShareLent}
-    → Steadied env rate o whole clarity weight work own clarity′ weight′ work′ → Handed (own .number) (shareParts (own .stability)) lent₀ answer lent
-    → StabilityPromise env rate o whole clarity weight work lent₀ answer clarity′ weight′ work′ lent
+    → StabilityPromise env rate o whole clarity weight work own clarity′ weight′ work′ → Handed (own .number) (shareParts (own .stability)) lent₀ answer lent
+    → PhStabilityPromise env rate o whole clarity weight work lent₀ answer clarity′ weight′ work′ lent
 stability-told p h = rw (← p .answered) (record { handed = h; slices = p })
 
 -- ---- sections
@@ -133,12 +133,12 @@ boundaries-told {number} {novelty} {bounds} {own = own} p h =
 
 -- the four numbers that are lent, and what they then hold
 module _ {p q r s answer : ℕ} {lent : List ℕ} where
-  pub rows-told : {rows bins : ℕ} {was : tracks.Track} {patch : Patch} {work : List Float} {own : rows-done.Patched} {now : tracks.Track} {work′ : List Float}
-      → magnitudes.Patches rows bins was patch work own now work′ → SlotsHanded (magnitudes.patchedSays own) (ranges p q r s) answer lent
-      → repairs.RowsPromise rows bins was patch work (ranges p q r s) answer now work′ lent
+  pub rows-told : {rows bins : ℕ} {was : tracks.MagnitudeTrack} {patch : Patch} {work : List Float} {own : rows-done.Patched} {now : tracks.MagnitudeTrack} {work′ : List Float}
+      → magnitudes.PatchMagnitudesPromise rows bins was patch work own now work′ → SlotsHanded (magnitudes.patchedSays own) (ranges p q r s) answer lent
+      → repairs.PhRowsPromise rows bins was patch work (ranges p q r s) answer now work′ lent
   rows-told {rows} {bins} {was} {patch} {work} done h =
       record {
-        handed = ranges-handed (tracks.numberOf rows bins was patch (length work)) (patch .new) _ _ _ _ _ _ _ _ (done .answer-is) h;
+        handed = ranges-handed (tracks.patchNumber rows bins was patch (length work)) (patch .new) _ _ _ _ _ _ _ _ (done .answer-is) h;
         slices =
             record {
               answer-is = rows-outcomes.answered-says _ rows bins patch;
@@ -148,11 +148,11 @@ module _ {p q r s answer : ℕ} {lent : List ℕ} where
             };
       }
 
-  pub features-told : {rows : ℕ} {was : features.Track} {patch : Patch} {own : features-done.PatchedFeatures} {now : features.Track}
-      → features.Patches rows was patch own now → SlotsHanded (features.patchedFeaturesSays own) (ranges p q r s) answer lent
-      → repairs.FeaturesPromise rows was patch (ranges p q r s) answer now lent
+  pub features-told : {rows : ℕ} {was : features.FeatureTrack} {patch : Patch} {own : features-done.PatchedFeatures} {now : features.FeatureTrack}
+      → features.PatchFeaturesPromise rows was patch own now → SlotsHanded (features.patchedFeaturesSays own) (ranges p q r s) answer lent
+      → repairs.PhFeaturesPromise rows was patch (ranges p q r s) answer now lent
   features-told {rows} {was} {patch} done h =
       record {
-        handed = ranges-handed (features.numberOf rows was patch) (patch .new) _ _ _ _ _ _ _ _ (done .answer-is) h;
+        handed = ranges-handed (features.featurePatchNumber rows was patch) (patch .new) _ _ _ _ _ _ _ _ (done .answer-is) h;
         slices = record { answer-is = features-outcomes.answered-says _ rows patch; track-is = done .track-is };
       }

@@ -7,16 +7,16 @@ use lib.Ieee.{Float}
 use Rattle.numbers.specs.Lists.{curve}
 use Rattle.numbers.specs.Refusals.{unlessRefused}
 use Rattle.flux.specs.Flux.{fluxAt}
-use Rattle.lags.specs.declared.TempoOpts.{TempoOpts}
+use Rattle.options.specs.declared.TempoOpts.{TempoOpts}
 use Rattle.track.specs.declared.Analysis.{Analysis}
 use Rattle.rooms.specs.Rooms.{Results, Spare}
 use Rattle.track.specs.Analyses.{analysisOf, withoutAnalysis, openLags, openWork, Analysed}
-use Rattle.analysis.specs.Analyses.{AnalysedEnvelope, AnalysedMagnitudes}
+use Rattle.analysis.specs.Analyses.{EnvelopePromise, MagnitudesPromise}
 use Rattle.analysis.proofs.Promises.{open-coincide}
-use Rattle.handing.specs.Handed.{Handed}
-use Rattle.handing.specs.Tracks.{TrackLent, trackParts}
-use Rattle.handing.proofs.Hands.{handed-on}
-use Rattle.capi.specs.Tracks.{TrackTold, EnvelopePromise, FluxTold, MagnitudesPromise}
+use Rattle.capi_answers.specs.Handed.{Handed}
+use Rattle.capi_answers.specs.Tracks.{TrackLent, trackParts}
+use Rattle.capi_answers.proofs.Hands.{handed-on}
+use Rattle.capi.specs.Tracks.{TrackTold, PhEnvelopePromise, FluxTold, PhMagnitudesPromise}
 use Rattle.capi.proofs.Outcomes.{handed-unique}
 
 -- the number of an analysis is the one that it is told by
@@ -51,16 +51,16 @@ track-told {number} {env} {rate} {o} p h =
 -- of the calls for C, whose options are those of two numbers
 pub envelope-told : {env : List Float} {rate : ℕ} {o o′ : TempoOpts} {was : Results} {spare : Spare} {own : Analysis} {after : Results} {left : Spare}
     {lent₀ : TrackLent} {answer : ℕ} {lent : TrackLent}
-    → o ≡ o′ → AnalysedEnvelope env rate o was spare own after left → Handed (own .number) (trackParts own) lent₀ answer lent
-    → EnvelopePromise env rate o′ was spare lent₀ answer after left lent
+    → o ≡ o′ → EnvelopePromise env rate o was spare own after left → Handed (own .number) (trackParts own) lent₀ answer lent
+    → PhEnvelopePromise env rate o′ was spare lent₀ answer after left lent
 envelope-told e p h = rw e at (track-told p h)
 
 pub magnitudes-told : {magnitudes : List Float} {rows bins rate : ℕ} {o o′ : TempoOpts} {flux : List Float} {was : Results} {spare : Spare} {own : Analysis} {flux′ : List Float}
     {after : Results} {left : Spare} {lent₀ : TrackLent} {answer : ℕ} {lent : TrackLent}
-    → o ≡ o′ → AnalysedMagnitudes magnitudes rows bins rate o flux was spare own flux′ after left → Handed (own .number) (trackParts own) lent₀ answer lent
-    → MagnitudesPromise magnitudes rows bins rate o′ flux was spare lent₀ answer flux′ after left lent
+    → o ≡ o′ → MagnitudesPromise magnitudes rows bins rate o flux was spare own flux′ after left → Handed (own .number) (trackParts own) lent₀ answer lent
+    → PhMagnitudesPromise magnitudes rows bins rate o′ flux was spare lent₀ answer flux′ after left lent
 magnitudes-told {magnitudes} {rows} {bins} {rate} {o} {o′} {flux} {was} {spare} {own} {flux′} {after} {left} {lent₀} {answer} {lent} e p h =
-    let told : MagnitudesPromise magnitudes rows bins rate o flux was spare lent₀ answer flux′ after left lent = record { fluxes = p .fluxes; track = track-told (p .analysed) h } in
+    let told : PhMagnitudesPromise magnitudes rows bins rate o flux was spare lent₀ answer flux′ after left lent = record { fluxes = p .fluxes; track = track-told (p .analysed) h } in
     rw e at told
 
 -- Two outcomes of an analysis of `env` with this number are one: what is lent to work in too, past the slots that are left open.

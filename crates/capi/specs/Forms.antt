@@ -9,8 +9,8 @@ use Rattle.numbers.specs.Refusals.{unlessRefused}
 use Rattle.sections.specs.Boundaries.{sectionsOf, boundariesOf, boundariesRefusal}
 use Rattle.sections.specs.Confidence.{confidenceOf}
 use Rattle.sections.specs.Outcomes.{workedIn}
-use Rattle.handing.specs.Handed.{Handed}
-use Rattle.handing.specs.Forms.{SectionsLent, sectionsLent}
+use Rattle.capi_answers.specs.Handed.{Handed}
+use Rattle.capi_answers.specs.Forms.{SectionsLent, sectionsLent}
 
 -- what the lent numbers of `ph_boundaries` hold of a novelty curve with these boundaries
 abbrev pub sectionParts : (novelty : List Float) (bounds : List ℕ) → SectionsLent
@@ -26,7 +26,7 @@ pub record BoundariesTold
   pub work-keeps : drop (workedIn number (length novelty)) work′ ≡ drop (workedIn number (length novelty)) work
 
 -- what `ph_boundaries` promises
-abbrev pub BoundariesPromise : (novelty : List Float) (samples rate maxSections : ℕ) (rows : List ℕ) (work : List Float) (lent₀ : SectionsLent)
+abbrev pub PhBoundariesPromise : (novelty : List Float) (samples rate maxSections : ℕ) (rows : List ℕ) (work : List Float) (lent₀ : SectionsLent)
     (answer : ℕ) (rows′ : List ℕ) (work′ : List Float) (lent : SectionsLent) → Type 0
-BoundariesPromise novelty samples rate maxSections rows work =
+PhBoundariesPromise novelty samples rate maxSections rows work =
     BoundariesTold (boundariesRefusal novelty samples rate (length rows) (length work)) novelty (boundariesOf novelty samples rate maxSections) rows work

@@ -4,11 +4,11 @@ use mathlib.Core.List.{List}
 use lib.ListN.{length}
 use lib.Ieee.{Float}
 use Rattle.numbers.specs.Refusals.{unlessRefused}
-use Rattle.beats.specs.Grids.{gridOf, gridRefusal, Gridded}
-use Rattle.handing.specs.Handed.{Handed}
+use Rattle.beats.specs.Grids.{gridOf, gridRefusal, GridPromise}
+use Rattle.capi_answers.specs.Handed.{Handed}
 
 -- What `ph_beat_grid` promises: the lent count is how many beats there are, and the slices are as `beat_grid` leaves them.
-pub record BeatsTold
+pub record PhGridPromise
     (envelope : List Float) (period : ℕ) (score₀ : List Float) (back₀ beats₀ : List ℕ) (count₀ answer : ℕ) (score : List Float) (back beats : List ℕ) (count : ℕ) : Type 0 where
   pub handed : Handed (gridRefusal envelope period (length score₀) (length back₀) (length beats₀)) (length (gridOf envelope period)) count₀ answer count
-  pub slices : Gridded envelope period score₀ back₀ beats₀ answer (unlessRefused answer (length (gridOf envelope period)) 0) score back beats
+  pub slices : GridPromise envelope period score₀ back₀ beats₀ answer (unlessRefused answer (length (gridOf envelope period)) 0) score back beats

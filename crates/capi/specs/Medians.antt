@@ -3,7 +3,7 @@ use Prim.Native.Nat.{ℕ}
 use mathlib.Core.List.{List}
 use lib.Ieee.{Float}
 use Rattle.median.specs.Answers.{answered, Answered}
-use Rattle.handing.specs.Handed.{Handed}
+use Rattle.capi_answers.specs.Handed.{Handed}
 
 -- What both promise: the lent number is the value, and the work slice is as the proved call leaves it.
 pub record Valued (number : ℕ) (v : Float) (xs was : List Float) (value₀ : Float) (answer : ℕ) (work : List Float) (value : Float) : Type 0 where

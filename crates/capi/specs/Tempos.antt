@@ -3,24 +3,24 @@ use Prim.Native.Nat.{ℕ}
 use mathlib.Core.List.{List}
 use lib.ListN.{length}
 use lib.Ieee.{Float}
-use Rattle.lags.specs.declared.TempoOpts.{TempoOpts}
+use Rattle.options.specs.declared.TempoOpts.{TempoOpts}
 use Rattle.tempo.specs.declared.TempoEstimate.{TempoEstimate}
-use Rattle.tempo.specs.Answers.{estimateOf, Estimated}
+use Rattle.tempo.specs.Answers.{estimateOf, EstimatePromise}
 use Rattle.stability.specs.declared.Steadiness.{Steadiness}
-use Rattle.stability.specs.Answers.{steadinessOf, Steadied}
-use Rattle.handing.specs.Handed.{Handed}
-use Rattle.handing.specs.Tempos.{TempoLent, tempoParts, ShareLent, shareParts}
+use Rattle.stability.specs.Answers.{steadinessOf, StabilityPromise}
+use Rattle.capi_answers.specs.Handed.{Handed}
+use Rattle.capi_answers.specs.Tempos.{TempoLent, tempoParts, ShareLent, shareParts}
 
 -- what `ph_estimate` promises, where `estimate` gives the answer `told`: the lent numbers are its parts, and the slices are as that call leaves them
 pub record EstimateTold
     (told : TempoEstimate) (env : List Float) (onsets rate : ℕ) (o : TempoOpts) (clarity weight work : List Float) (lent₀ : TempoLent)
     (answer : ℕ) (clarity′ weight′ work′ : List Float) (lent : TempoLent) : Type 0 where
   pub handed : Handed (told .number) (tempoParts told) lent₀ answer lent
-  pub slices : Estimated env onsets rate o clarity weight work told clarity′ weight′ work′
+  pub slices : EstimatePromise env onsets rate o clarity weight work told clarity′ weight′ work′
 
-abbrev pub EstimatePromise : (env : List Float) (onsets rate : ℕ) (o : TempoOpts) (clarity weight work : List Float) (lent₀ : TempoLent)
+abbrev pub PhEstimatePromise : (env : List Float) (onsets rate : ℕ) (o : TempoOpts) (clarity weight work : List Float) (lent₀ : TempoLent)
     (answer : ℕ) (clarity′ weight′ work′ : List Float) (lent : TempoLent) → Type 0
-EstimatePromise env onsets rate o clarity weight work =
+PhEstimatePromise env onsets rate o clarity weight work =
     EstimateTold (estimateOf env onsets rate o (length clarity) (length weight) (length work)) env onsets rate o clarity weight work
 
 -- what `ph_stability_of` promises, where `stability_of` gives the answer `told`, in the same words
@@ -28,9 +28,9 @@ pub record StabilityTold
     (told : Steadiness) (env : List Float) (rate : ℕ) (o : TempoOpts) (whole : ℕ) (clarity weight work : List Float) (lent₀ : ShareLent)
     (answer : ℕ) (clarity′ weight′ work′ : List Float) (lent : ShareLent) : Type 0 where
   pub handed : Handed (told .number) (shareParts (told .stability)) lent₀ answer lent
-  pub slices : Steadied env rate o whole clarity weight work told clarity′ weight′ work′
+  pub slices : StabilityPromise env rate o whole clarity weight work told clarity′ weight′ work′
 
-abbrev pub StabilityPromise : (env : List Float) (rate : ℕ) (o : TempoOpts) (whole : ℕ) (clarity weight work : List Float) (lent₀ : ShareLent)
+abbrev pub PhStabilityPromise : (env : List Float) (rate : ℕ) (o : TempoOpts) (whole : ℕ) (clarity weight work : List Float) (lent₀ : ShareLent)
     (answer : ℕ) (clarity′ weight′ work′ : List Float) (lent : ShareLent) → Type 0
-StabilityPromise env rate o whole clarity weight work =
+PhStabilityPromise env rate o whole clarity weight work =
     StabilityTold (steadinessOf env rate o whole (length clarity) (length weight) (length work)) env rate o whole clarity weight work

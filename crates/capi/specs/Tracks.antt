@@ -6,11 +6,11 @@ use lib.Ieee.{Float}
 use Rattle.numbers.specs.Lists.{curve, filled}
 use Rattle.numbers.specs.Refusals.{unlessRefused}
 use Rattle.flux.specs.Flux.{fluxAt}
-use Rattle.lags.specs.declared.TempoOpts.{TempoOpts}
+use Rattle.options.specs.declared.TempoOpts.{TempoOpts}
 use Rattle.rooms.specs.Rooms.{Results, Spare, envelopeNumber, magnitudesNumber}
 use Rattle.track.specs.Analyses.{analysisOf, withoutAnalysis, Analysed}
-use Rattle.handing.specs.Handed.{Handed}
-use Rattle.handing.specs.Tracks.{TrackLent, trackParts}
+use Rattle.capi_answers.specs.Handed.{Handed}
+use Rattle.capi_answers.specs.Tracks.{TrackLent, trackParts}
 
 -- An analysis of `env` with this number, as `Analysed` of crate track has it: the lent numbers hold the parts of its answer, and the slices
 -- are as that call leaves them.
@@ -21,9 +21,9 @@ pub record TrackTold
   pub slices : Analysed number env rate o was spare (unlessRefused number (analysisOf env rate o) (withoutAnalysis number)) after left
 
 -- what `ph_analyse_envelope` promises
-abbrev pub EnvelopePromise : (env : List Float) (rate : ℕ) (o : TempoOpts) (was : Results) (spare : Spare) (lent₀ : TrackLent)
+abbrev pub PhEnvelopePromise : (env : List Float) (rate : ℕ) (o : TempoOpts) (was : Results) (spare : Spare) (lent₀ : TrackLent)
     (answer : ℕ) (after : Results) (left : Spare) (lent : TrackLent) → Type 0
-EnvelopePromise env rate o was spare = TrackTold (envelopeNumber env rate o was spare) env rate o was spare
+PhEnvelopePromise env rate o was spare = TrackTold (envelopeNumber env rate o was spare) env rate o was spare
 
 -- what `ph_analyse_magnitudes` promises: the flux, and the analysis of it
 pub record FluxTold
@@ -32,7 +32,7 @@ pub record FluxTold
   pub fluxes : flux′ ≡ unlessRefused number (filled (fluxAt magnitudes bins) flux 0 rows) flux
   pub track : TrackTold number (curve (fluxAt magnitudes bins) rows) rate o was spare lent₀ answer after left lent
 
-abbrev pub MagnitudesPromise : (magnitudes : List Float) (rows bins rate : ℕ) (o : TempoOpts) (flux : List Float) (was : Results) (spare : Spare) (lent₀ : TrackLent)
+abbrev pub PhMagnitudesPromise : (magnitudes : List Float) (rows bins rate : ℕ) (o : TempoOpts) (flux : List Float) (was : Results) (spare : Spare) (lent₀ : TrackLent)
     (answer : ℕ) (flux′ : List Float) (after : Results) (left : Spare) (lent : TrackLent) → Type 0
-MagnitudesPromise magnitudes rows bins rate o flux was spare =
+PhMagnitudesPromise magnitudes rows bins rate o flux was spare =
     FluxTold (magnitudesNumber magnitudes rows bins rate o flux was spare) magnitudes rows bins rate o flux was spare

@@ -1,15 +1,15 @@
 // The calls of crates similarities, novelties and sections, for C.
-use handing::forms::put_sections;
-ghost use Rattle.similarities.specs.Similarity.{SimilarityDone};
-ghost use Rattle.novelties.specs.Novelty.{NoveltyDone};
-ghost use Rattle.sections.specs.Outcomes.{TimesPromise};
-ghost use Rattle.handing.specs.Forms.{sectionsLent};
-ghost use Rattle.capi.specs.Forms.{BoundariesPromise};
+use capi_answers::forms::put_sections;
+ghost use Rattle.similarities.specs.Similarity.{SimilarityPromise};
+ghost use Rattle.novelties.specs.Novelty.{NoveltyPromise};
+ghost use Rattle.sections.specs.Outcomes.{RowTimesPromise};
+ghost use Rattle.capi_answers.specs.Forms.{sectionsLent};
+ghost use Rattle.capi.specs.Forms.{PhBoundariesPromise};
 
 // `similarities::similarity`, for C.
 #[no_mangle]
 pub extern "C" fn ph_similarity(features: &[f64], rows: usize, similarity: &mut [f64]) -> u32
-    ensures { λ r. ⌜ SimilarityDone (now (features .entry)) rows (now (similarity .entry)) r (now (similarity .exit)) ⌝ }
+    ensures { λ r. ⌜ SimilarityPromise (now (features .entry)) rows (now (similarity .entry)) r (now (similarity .exit)) ⌝ }
 {
     similarities::similarity(features, rows, similarity)
 }
@@ -17,7 +17,7 @@ pub extern "C" fn ph_similarity(features: &[f64], rows: usize, similarity: &mut 
 // `novelties::novelty`, for C.
 #[no_mangle]
 pub extern "C" fn ph_novelty(similarity: &[f64], rows: usize, novelty: &mut [f64]) -> u32
-    ensures { λ r. ⌜ NoveltyDone (now (similarity .entry)) rows (now (novelty .entry)) r (now (novelty .exit)) ⌝ }
+    ensures { λ r. ⌜ NoveltyPromise (now (similarity .entry)) rows (now (novelty .entry)) r (now (novelty .exit)) ⌝ }
 {
     novelties::novelty(similarity, rows, novelty)
 }
@@ -36,7 +36,7 @@ pub extern "C" fn ph_boundaries(
     confidence: &mut f64,
 ) -> u32
     ensures { λ r. ⌜
-        BoundariesPromise (now (novelty .entry)) length rate «max_sections»
+        PhBoundariesPromise (now (novelty .entry)) length rate «max_sections»
         (now (rows .entry)) (now (work .entry)) (sectionsLent (now (sections .entry)) (now (count .entry)) (now (confidence .entry)))
         r (now (rows .exit)) (now (work .exit)) (sectionsLent (now (sections .exit)) (now (count .exit)) (now (confidence .exit)))
         ⌝ }
@@ -48,7 +48,7 @@ pub extern "C" fn ph_boundaries(
 // `sections::boundary_times`, for C.
 #[no_mangle]
 pub extern "C" fn ph_boundary_times(rows: &[u32], length: u64, rate: u32, ms: &mut [f64]) -> u32
-    ensures { λ r. ⌜ TimesPromise (now (rows .entry)) length rate (now (ms .entry)) r (now (ms .exit)) ⌝ }
+    ensures { λ r. ⌜ RowTimesPromise (now (rows .entry)) length rate (now (ms .entry)) r (now (ms .exit)) ⌝ }
 {
     sections::boundary_times(rows, length, rate, ms)
 }

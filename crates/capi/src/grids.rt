@@ -1,12 +1,12 @@
 // `beat_grid`, `downbeats` and `bar_beat_at`, for C.
-use handing::counts::counted;
-use handing::grids::put_place;
+use capi_answers::counts::counted;
+use capi_answers::grids::put_place;
 ghost use lib.ListN.{length};
 ghost use Rattle.bars.specs.Downbeats.{downbeatRefusal, downbeatsOf, commonMeter};
 ghost use Rattle.bars.specs.BarBeats.{barAndBeat};
-ghost use Rattle.handing.specs.Grids.{Placed};
-ghost use Rattle.capi.specs.Lists.{Listed};
-ghost use Rattle.capi.specs.Grids.{BeatsTold};
+ghost use Rattle.capi_answers.specs.Grids.{Placed};
+ghost use Rattle.capi.specs.Lists.{ListHanded};
+ghost use Rattle.capi.specs.Grids.{PhGridPromise};
 
 // `beats::beat_grid`, for C.
 #[no_mangle]
@@ -19,7 +19,7 @@ pub extern "C" fn ph_beat_grid(
     count: &mut usize,
 ) -> u32
     ensures { λ r. ⌜
-        BeatsTold (now (envelope .entry)) period
+        PhGridPromise (now (envelope .entry)) period
         (now (score .entry)) (now (back .entry)) (now (beats .entry)) (now (count .entry))
         r (now (score .exit)) (now (back .exit)) (now (beats .exit)) (now (count .exit))
         ⌝ }
@@ -39,7 +39,7 @@ pub extern "C" fn ph_downbeats(
     count: &mut usize,
 ) -> u32
     ensures { λ r. ⌜
-        Listed (downbeatRefusal (now (envelope .entry)) (now (beats .entry)) commonMeter (length (now (frames .entry))))
+        ListHanded (downbeatRefusal (now (envelope .entry)) (now (beats .entry)) commonMeter (length (now (frames .entry))))
         (downbeatsOf (now (envelope .entry)) (now (beats .entry)) commonMeter)
         (now (frames .entry)) (now (count .entry))
         r (now (frames .exit)) (now (count .exit))

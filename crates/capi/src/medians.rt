@@ -1,5 +1,5 @@
 // `median_of` and `mad_of`, for C.
-use handing::medians::told;
+use capi_answers::medians::told;
 ghost use lib.ListN.{length};
 ghost use Rattle.median.specs.Median.{medianOf, madOf};
 ghost use Rattle.median.specs.Answers.{medianRefusal, madRefusal};

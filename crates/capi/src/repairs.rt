@@ -1,8 +1,8 @@
 // `patch_magnitudes` and `patch_features`, for C.
-use handing::repairs::put_features;
-use handing::repairs::put_rows;
-ghost use Rattle.patching.specs.Patches.{patchOf, ranges};
-ghost use Rattle.capi.specs.Repairs.{rowsLent, RowsPromise, featuresLent, FeaturesPromise};
+use capi_answers::repairs::put_features;
+use capi_answers::repairs::put_rows;
+ghost use Rattle.patches.specs.Patches.{patchOf, ranges};
+ghost use Rattle.capi.specs.Repairs.{rowsLent, PhRowsPromise, featuresLent, PhFeaturesPromise};
 
 // `patch_magnitudes::patch_magnitudes`, for C.
 #[no_mangle]
@@ -21,7 +21,7 @@ pub extern "C" fn ph_patch_magnitudes(
     threshold_past: &mut usize,
 ) -> u32
     ensures { λ r. ⌜
-        RowsPromise rows bins
+        PhRowsPromise rows bins
         (rowsLent (now (magnitudes .entry)) (now (flux .entry)) (now (threshold .entry))) (patchOf start (now («new_rows» .entry))) (now (work .entry))
         (ranges (now («flux_first» .entry)) (now («flux_past» .entry)) (now («threshold_first» .entry)) (now («threshold_past» .entry)))
         r (rowsLent (now (magnitudes .exit)) (now (flux .exit)) (now (threshold .exit))) (now (work .exit))
@@ -62,7 +62,7 @@ pub extern "C" fn ph_patch_features(
     novelty_past: &mut usize,
 ) -> u32
     ensures { λ r. ⌜
-        FeaturesPromise rows
+        PhFeaturesPromise rows
         (featuresLent (now (features .entry)) (now (similarity .entry)) (now (novelty .entry))) (patchOf start (now («new_rows» .entry)))
         (ranges (now («similarity_first» .entry)) (now («similarity_past» .entry)) (now («novelty_first» .entry)) (now («novelty_past» .entry)))
         r (featuresLent (now (features .exit)) (now (similarity .exit)) (now (novelty .exit)))

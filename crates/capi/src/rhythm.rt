@@ -1,14 +1,14 @@
 // The calls of crates flux, threshold and onsets, for C.
-use handing::counts::counted;
+use capi_answers::counts::counted;
 ghost use mathlib.Core.List.{map};
 ghost use lib.ListN.{length};
 ghost use Rattle.numbers.specs.Lists.{filled, listed};
 ghost use Rattle.numbers.specs.Outcomes.{Written};
 ghost use Rattle.flux.specs.Flux.{fluxAt, fluxRefusal};
-ghost use Rattle.threshold.specs.Threshold.{Thresholds};
+ghost use Rattle.threshold.specs.Threshold.{ThresholdPromise};
 ghost use Rattle.onsets.specs.Peaks.{suppressed, suppressionRefusal};
 ghost use Rattle.onsets.specs.Onsets.{onsetsOf, onsetsRefusal, frameTime, timesRefusal};
-ghost use Rattle.capi.specs.Lists.{Listed};
+ghost use Rattle.capi.specs.Lists.{ListHanded};
 
 // `flux::spectral_flux`, for C.
 #[no_mangle]
@@ -30,7 +30,7 @@ pub extern "C" fn ph_adaptive_threshold(
     threshold: &mut [f64],
     work: &mut [f64],
 ) -> u32
-    ensures { λ r. ⌜ Thresholds (now (flux .entry)) (now (threshold .entry)) (now (work .entry)) r (now (threshold .exit)) (now (work .exit)) ⌝ }
+    ensures { λ r. ⌜ ThresholdPromise (now (flux .entry)) (now (threshold .entry)) (now (work .entry)) r (now (threshold .exit)) (now (work .exit)) ⌝ }
 {
     threshold::adaptive_threshold(flux, threshold, work)
 }
@@ -44,7 +44,7 @@ pub extern "C" fn ph_pick_onsets(
     frames: &mut [u32],
     count: &mut usize,
 ) -> u32
-    ensures { λ r. ⌜ Listed (onsetsRefusal (now (flux .entry)) (now (threshold .entry)) rate (length (now (frames .entry)))) (onsetsOf (now (flux .entry)) (now (threshold .entry)) rate) (now (frames .entry)) (now (count .entry)) r (now (frames .exit)) (now (count .exit)) ⌝ }
+    ensures { λ r. ⌜ ListHanded (onsetsRefusal (now (flux .entry)) (now (threshold .entry)) rate (length (now (frames .entry)))) (onsetsOf (now (flux .entry)) (now (threshold .entry)) rate) (now (frames .entry)) (now (count .entry)) r (now (frames .exit)) (now (count .exit)) ⌝ }
 {
     counted(onsets::pick_onsets(flux, threshold, rate, frames), count)
 }
@@ -58,7 +58,7 @@ pub extern "C" fn ph_suppress_close_peaks(
     frames: &mut [u32],
     count: &mut usize,
 ) -> u32
-    ensures { λ r. ⌜ Listed (suppressionRefusal (now (peaks .entry)) (now (curve .entry)) (length (now (frames .entry)))) (suppressed (now (curve .entry)) gap (now (peaks .entry))) (now (frames .entry)) (now (count .entry)) r (now (frames .exit)) (now (count .exit)) ⌝ }
+    ensures { λ r. ⌜ ListHanded (suppressionRefusal (now (peaks .entry)) (now (curve .entry)) (length (now (frames .entry)))) (suppressed (now (curve .entry)) gap (now (peaks .entry))) (now (frames .entry)) (now (count .entry)) r (now (frames .exit)) (now (count .exit)) ⌝ }
 {
     counted(
         onsets::peaks::suppress_close_peaks(peaks, curve, gap, frames),

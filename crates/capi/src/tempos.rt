@@ -1,13 +1,13 @@
 // `lag_range`, `estimate` and `stability_of`, for C.
-use handing::tempos::put_estimate;
-use handing::tempos::put_range;
-use handing::tempos::put_steadiness;
-use lags::TempoOpts;
-ghost use Rattle.lags.specs.Options.{optionsOf};
+use capi_answers::tempos::put_estimate;
+use capi_answers::tempos::put_range;
+use capi_answers::tempos::put_steadiness;
+use options::TempoOpts;
+ghost use Rattle.options.specs.Options.{optionsOf};
 ghost use Rattle.lags.specs.Lags.{lagRange};
-ghost use Rattle.handing.specs.Handed.{Handed};
-ghost use Rattle.handing.specs.Tempos.{lagsLent, lagParts, tempoLent, shareLent};
-ghost use Rattle.capi.specs.Tempos.{EstimatePromise, StabilityPromise};
+ghost use Rattle.capi_answers.specs.Handed.{Handed};
+ghost use Rattle.capi_answers.specs.Tempos.{lagsLent, lagParts, tempoLent, shareLent};
+ghost use Rattle.capi.specs.Tempos.{PhEstimatePromise, PhStabilityPromise};
 
 // `lags::lag_range`, for C.
 #[no_mangle]
@@ -45,7 +45,7 @@ pub extern "C" fn ph_estimate(
     saliences: &mut [f64; 3],
     count: &mut usize,
 ) -> u32
-    ensures { λ r. ⌜ EstimatePromise (now (envelope .entry)) onsets rate (optionsOf «min_bpm» «max_bpm») (now («clarity_curve» .entry)) (now («weight_curve» .entry)) (now (work .entry)) (tempoLent (now (found .entry)) (now (bpm .entry)) (now (clarity .entry)) (now (lags .entry)) (now (saliences .entry)) (now (count .entry))) r (now («clarity_curve» .exit)) (now («weight_curve» .exit)) (now (work .exit)) (tempoLent (now (found .exit)) (now (bpm .exit)) (now (clarity .exit)) (now (lags .exit)) (now (saliences .exit)) (now (count .exit))) ⌝ }
+    ensures { λ r. ⌜ PhEstimatePromise (now (envelope .entry)) onsets rate (optionsOf «min_bpm» «max_bpm») (now («clarity_curve» .entry)) (now («weight_curve» .entry)) (now (work .entry)) (tempoLent (now (found .entry)) (now (bpm .entry)) (now (clarity .entry)) (now (lags .entry)) (now (saliences .entry)) (now (count .entry))) r (now («clarity_curve» .exit)) (now («weight_curve» .exit)) (now (work .exit)) (tempoLent (now (found .exit)) (now (bpm .exit)) (now (clarity .exit)) (now (lags .exit)) (now (saliences .exit)) (now (count .exit))) ⌝ }
 {
     let answer = tempo::estimate(
         envelope,
@@ -75,7 +75,7 @@ pub extern "C" fn ph_stability_of(
     agreeing: &mut usize,
     windows: &mut usize,
 ) -> u32
-    ensures { λ r. ⌜ StabilityPromise (now (envelope .entry)) rate (optionsOf «min_bpm» «max_bpm») «whole_lag» (now («clarity_curve» .entry)) (now («weight_curve» .entry)) (now (work .entry)) (shareLent (now (found .entry)) (now (fraction .entry)) (now (agreeing .entry)) (now (windows .entry))) r (now («clarity_curve» .exit)) (now («weight_curve» .exit)) (now (work .exit)) (shareLent (now (found .exit)) (now (fraction .exit)) (now (agreeing .exit)) (now (windows .exit))) ⌝ }
+    ensures { λ r. ⌜ PhStabilityPromise (now (envelope .entry)) rate (optionsOf «min_bpm» «max_bpm») «whole_lag» (now («clarity_curve» .entry)) (now («weight_curve» .entry)) (now (work .entry)) (shareLent (now (found .entry)) (now (fraction .entry)) (now (agreeing .entry)) (now (windows .entry))) r (now («clarity_curve» .exit)) (now («weight_curve» .exit)) (now (work .exit)) (shareLent (now (found .exit)) (now (fraction .exit)) (now (agreeing .exit)) (now (windows .exit))) ⌝ }
 {
     let answer = stability::stability_of(
         envelope,

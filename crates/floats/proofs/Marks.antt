@@ -4,8 +4,8 @@ use mathlib.Core.Path.{_≡_, refl}
 use mathlib.Core.List.{List, [], _∷_, map}
 use Prim.Native.Nat.{ℕ}
 use lib.Ieee.{Float, binary64, add, sub, mul, div, neg, lt, ne, ofBits, toBits, ofInt, toUnsigned}
-use Rattle.numbers.specs.Rounded.{bits, nought}
-use Rattle.floats.specs.Logs.{one, logOf, log2Of}
+use Rattle.numbers.specs.Rounded.{bits, nought, one}
+use Rattle.floats.specs.Logs.{logOf, log2Of}
 use Rattle.floats.specs.Exps.{expOf}
 use Rattle.floats.specs.Wholes.{roundOf, ceilOf}
 

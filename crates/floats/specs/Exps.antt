@@ -8,8 +8,8 @@ use Prim.Native.Nat.{ℕ, _+_, _-_, _*_, _/_, _%_}
 use mathlib.Core.Bool.{Bool}
 use lib.Dec.{leb, ltb}
 use lib.Ieee.{Float, binary64, neg, lt, ne, toBits, toUnsigned}
-use Rattle.numbers.specs.Rounded.{_⊕_, _⊖_, _⊗_, _⊘_, bits, real, nought, pick}
-use Rattle.floats.specs.Logs.{half, one, two, ln2hi, ln2lo}
+use Rattle.numbers.specs.Rounded.{_⊕_, _⊖_, _⊗_, _⊘_, bits, real, nought, pick, one, half}
+use Rattle.floats.specs.Logs.{two, ln2hi, ln2lo}
 
 -- ---- constants
 

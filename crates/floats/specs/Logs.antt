@@ -8,17 +8,9 @@ use Prim.Native.Nat.{ℕ, _+_, _-_, _*_, _/_, _%_}
 use mathlib.Core.Bool.{Bool, not, _&&_}
 use lib.Dec.{eqb, leb, ltb}
 use lib.Ieee.{Float, binary64, neg, toBits}
-use Rattle.numbers.specs.Rounded.{_⊕_, _⊖_, _⊗_, _⊘_, bits, real, nought, pick}
+use Rattle.numbers.specs.Rounded.{_⊕_, _⊖_, _⊗_, _⊘_, bits, real, nought, pick, one, half}
 
 -- ---- constants
-
--- 0.5
-abbrev pub half : Float
-half = bits 0x3FE0_0000_0000_0000
-
--- 1
-abbrev pub one : Float
-one = bits 0x3FF0_0000_0000_0000
 
 -- 2
 abbrev pub two : Float

@@ -23,7 +23,7 @@ use Rattle.sizes.proofs.Sums.{sum-within}
 use Rattle.sizes.proofs.Tests.{within-value}
 use Rattle.sizes.specs.Sizes.{Within, Each, none, more}
 use Rattle.flux_rows.proofs.Rises.{part-more}
-use Rattle.flux_rows.specs.Rises.{rises, partBins, partOf, restOf}
+use Rattle.flux_rows.specs.Rises.{rises, partBins, risePart, riseRest}
 use Rattle.flux.specs.Flux.{fluxAt, fluxRefusal}
 
 -- ---- a slot
@@ -41,13 +41,13 @@ unfolding fluxAt sumFrom
 flux-first s b = refl
 
 -- slot t is the sum of all its row's bins, and a part of them more takes it on
-pub rest-all : (s : List Float) (b t : ℕ) → 1 ≤ t → sumOf (restOf s b t 0) ≡ fluxAt s b t
+pub rest-all : (s : List Float) (b t : ℕ) → 1 ≤ t → sumOf (riseRest s b t 0) ≡ fluxAt s b t
 rest-all s b t h = sym (flux-from s b (t - 1) t (omega arith))
 
 pub rest-more : (s : List Float) (n b t i : ℕ) (acc next : Float) {whole : Float} → length s ≡ n * b → 1 ≤ t → t < n → i + partBins ≤ b
-    → next ≡ sumFrom acc (partOf s b t i) → sumFrom acc (restOf s b t i) ≡ whole → sumFrom next (restOf s b t (i + partBins)) ≡ whole
+    → next ≡ sumFrom acc (risePart s b t i) → sumFrom acc (riseRest s b t i) ≡ whole → sumFrom next (riseRest s b t (i + partBins)) ≡ whole
 rest-more s n b t i acc next l h k m e r =
-    part-more acc next (row s b (t - 1)) (row s b t) (partOf s b t i) i partBins (omega (arith, length-row s n b (t - 1) l (omega arith))) (omega (arith, length-row s n b t l k)) refl e r
+    part-more acc next (row s b (t - 1)) (row s b t) (risePart s b t i) i partBins (omega (arith, length-row s n b (t - 1) l (omega arith))) (omega (arith, length-row s n b t l k)) refl e r
 
 -- a slot whose row, and the row before it, are the same in both slabs is the same
 pub flux-same : (s s′ : List Float) (b t : ℕ) → row s′ b (t - 1) ≡ row s b (t - 1) → row s′ b t ≡ row s b t → fluxAt s′ b t ≡ fluxAt s b t

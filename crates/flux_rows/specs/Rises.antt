@@ -24,8 +24,8 @@ abbrev pub partBins : ℕ
 partBins = 32
 
 -- the positive parts of a part of row t, and of all bins from bin i on
-abbrev pub partOf : List Float → (bins t i : ℕ) → List Float
-partOf magnitudes bins t i = tab (riseAt (row magnitudes bins (t - 1)) (row magnitudes bins t)) i partBins
+abbrev pub risePart : List Float → (bins t i : ℕ) → List Float
+risePart magnitudes bins t i = tab (riseAt (row magnitudes bins (t - 1)) (row magnitudes bins t)) i partBins
 
-abbrev pub restOf : List Float → (bins t i : ℕ) → List Float
-restOf magnitudes bins t i = rises (drop i (row magnitudes bins (t - 1))) (drop i (row magnitudes bins t))
+abbrev pub riseRest : List Float → (bins t i : ℕ) → List Float
+riseRest magnitudes bins t i = rises (drop i (row magnitudes bins (t - 1))) (drop i (row magnitudes bins t))

@@ -10,7 +10,7 @@ ghost use lib.Ieee.{nan};
 ghost use Rattle.numbers.specs.Rounded.{positivePart, sumFrom};
 ghost use Rattle.numbers.specs.Limits.{magnitudeFine};
 ghost use Rattle.numbers.specs.Lists.{tab, row, every};
-ghost use Rattle.flux_rows.specs.Rises.{rises, riseAt, partBins, partOf, restOf};
+ghost use Rattle.flux_rows.specs.Rises.{rises, riseAt, partBins, risePart, riseRest};
 
 // Inner: as many bins of a row as are taken at a time.
 pub const PART: usize = 32;
@@ -48,7 +48,7 @@ pub fn rise_part(
     requires { ⌜ every magnitudeFine (now slab) ≡ true ⌝ }
     requires { ⌜ (1 ≤ t) × (t + 3 * apart < rows) × (from + partBins ≤ bins) ⌝ }
     requires { ⌜ (length (now a) ≡ partBins) × (length (now b) ≡ partBins) × (length (now c) ≡ partBins) × (length (now d) ≡ partBins) ⌝ }
-    ensures { λ z. ⌜ (z .a ≡ sumFrom (f .a) (partOf (now (slab .entry)) bins t from)) × (z .b ≡ sumFrom (f .b) (partOf (now (slab .entry)) bins (t + apart) from)) × (z .c ≡ sumFrom (f .c) (partOf (now (slab .entry)) bins (t + 2 * apart) from)) × (z .d ≡ sumFrom (f .d) (partOf (now (slab .entry)) bins (t + 3 * apart) from)) ⌝ }
+    ensures { λ z. ⌜ (z .a ≡ sumFrom (f .a) (risePart (now (slab .entry)) bins t from)) × (z .b ≡ sumFrom (f .b) (risePart (now (slab .entry)) bins (t + apart) from)) × (z .c ≡ sumFrom (f .c) (risePart (now (slab .entry)) bins (t + 2 * apart) from)) × (z .d ≡ sumFrom (f .d) (risePart (now (slab .entry)) bins (t + 3 * apart) from)) ⌝ }
 {
     lift_at(slab, rows, bins, t, from, a);
     lift_at(slab, rows, bins, t + apart, from, b);
@@ -70,7 +70,7 @@ pub fn rise_rest(
     requires { ⌜ length (now slab) ≡ rows * bins ⌝ }
     requires { ⌜ every magnitudeFine (now slab) ≡ true ⌝ }
     requires { ⌜ (1 ≤ t) × (t + 3 * apart < rows) × (from ≤ bins) ⌝ }
-    ensures { λ z. ⌜ (z .a ≡ sumFrom (f .a) (restOf (now (slab .entry)) bins t from)) × (z .b ≡ sumFrom (f .b) (restOf (now (slab .entry)) bins (t + apart) from)) × (z .c ≡ sumFrom (f .c) (restOf (now (slab .entry)) bins (t + 2 * apart) from)) × (z .d ≡ sumFrom (f .d) (restOf (now (slab .entry)) bins (t + 3 * apart) from)) ⌝ }
+    ensures { λ z. ⌜ (z .a ≡ sumFrom (f .a) (riseRest (now (slab .entry)) bins t from)) × (z .b ≡ sumFrom (f .b) (riseRest (now (slab .entry)) bins (t + apart) from)) × (z .c ≡ sumFrom (f .c) (riseRest (now (slab .entry)) bins (t + 2 * apart) from)) × (z .d ≡ sumFrom (f .d) (riseRest (now (slab .entry)) bins (t + 3 * apart) from)) ⌝ }
 {
     Four {
         a: rise_at(slab, rows, bins, t, from, f.a),
@@ -85,7 +85,7 @@ pub fn rise_at(slab: &[f32], rows: usize, bins: usize, t: usize, from: usize, su
     requires { ⌜ length (now slab) ≡ rows * bins ⌝ }
     requires { ⌜ every magnitudeFine (now slab) ≡ true ⌝ }
     requires { ⌜ (1 ≤ t) × (t < rows) × (from ≤ bins) ⌝ }
-    ensures { λ r. ⌜ r ≡ sumFrom sum (restOf (now (slab .entry)) bins t from) ⌝ }
+    ensures { λ r. ⌜ r ≡ sumFrom sum (riseRest (now (slab .entry)) bins t from) ⌝ }
 {
     let prev = row_at(slab, rows, bins, t - 1);
     let cur = row_at(slab, rows, bins, t);

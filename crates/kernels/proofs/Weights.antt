@@ -10,7 +10,7 @@ use native.Mathlib.Omega.{arith}
 use lib.ListN.{getD}
 use lib.Dec.{T}
 use lib.Ieee.{Float, nan, ofBits, toBits, ofInt, toUnsigned, add, sub, mul, div, neg, le, lt, ne, sum, round, units, size, span, climb, odd, ofFields}
-use Rattle.numbers.specs.Rounded.{_⊗_, bits, pick}
+use Rattle.numbers.specs.Rounded.{_⊗_, bits, pick, one}
 use Rattle.numbers.specs.Limits.{similarityFine}
 use Rattle.numbers.specs.Lists.{curve, every}
 use Rattle.numbers.proofs.Tabs.{getD-curve, length-tab, tab-ext}
@@ -18,7 +18,7 @@ use Rattle.numbers.proofs.Everys.{every-at}
 use Rattle.numbers.proofs.Tests.{lt-or-le, and-left, and-right}
 use Rattle.sizes.proofs.Order.{true→T}
 use Rattle.floats.specs.Exps.{expOf, expAt, expSized, foldsOf, expBy, expLess, expNear, scaleUp, scaleDown, timesUp, timesDown}
-use Rattle.kernels.specs.Kernel.{places, away, one, alike, signAt, weightOf, kernelAt, kernelTable}
+use Rattle.kernels.specs.Kernel.{places, away, alike, signAt, weightOf, kernelAt, kernelTable}
 use Rattle.kernels.proofs.Tables.{sameFloat, float-is}
 
 -- the rule at each entry

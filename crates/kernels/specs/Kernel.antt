@@ -7,7 +7,7 @@ use mathlib.Core.Bool.{Bool, Bool·beq}
 use mathlib.Core.List.{List}
 use lib.Dec.{ltb}
 use lib.Ieee.{Float, neg}
-use Rattle.numbers.specs.Rounded.{_⊗_, _⊘_, bits, real, pick}
+use Rattle.numbers.specs.Rounded.{_⊗_, _⊘_, bits, real, pick, one}
 use Rattle.numbers.specs.Lists.{curve}
 use Rattle.floats.specs.Exps.{expOf}
 
@@ -22,10 +22,6 @@ middle = 8
 -- the size of the offset at place p
 abbrev pub away : ℕ → ℕ
 away p = (p - middle) + (middle - p)
-
--- 1
-abbrev pub one : Float
-one = bits 0x3FF0_0000_0000_0000
 
 -- 32
 abbrev pub taper : Float

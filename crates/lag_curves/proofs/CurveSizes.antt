@@ -10,10 +10,11 @@ use native.Mathlib.Omega.{arith}
 use lib.Dec.{lit<, lit≤}
 use lib.Ieee.{Float, nan, binary64, lt, le, ofBits}
 use lib.ListN.{length}
-use Rattle.numbers.specs.Rounded.{_⊗_, _⊘_, real, nought}
+use Rattle.numbers.specs.Rounded.{_⊗_, _⊘_, real, nought, epsilon, one}
 use Rattle.numbers.specs.Limits.{mostRows, valueFine}
 use Rattle.numbers.specs.Lists.{curve, every}
 use Rattle.numbers.proofs.Tabs.{length-tab}
+use Rattle.lists.specs.Means.{meanOf}
 use Rattle.sizes.specs.Sizes.{Within, AtLeast, isPlus, Plus}
 use Rattle.sizes.proofs.Numbers.{held-power, held-multiple, held-part}
 use Rattle.sizes.proofs.Sizes.{most-not-nan, sub-within, mul-within, div-most, div-within, real-most}
@@ -22,11 +23,10 @@ use Rattle.sizes.proofs.Lists.{each-at, each-tab, values-within}
 use Rattle.sizes.proofs.Sums.{sum-most, sum-within}
 use Rattle.sizes.proofs.Order.{lt-is-le}
 use Rattle.sizes.proofs.Ranges.{le-least, held-low, held-high}
-use Rattle.lags.specs.Lags.{one}
-use Rattle.lag_sums.specs.Sums.{meanOf, centred, productAt, lagSum, energyOf, leastEnergy}
+use Rattle.lag_sums.specs.Sums.{centred, productAt, lagSum, energyOf}
 use Rattle.lag_curves.specs.Curves.{clarityAt}
 
-least-size : Plus leastEnergy × AtLeast 1 (2 ^ 52) leastEnergy
+least-size : Plus epsilon × AtLeast 1 (2 ^ 52) epsilon
 unfolding ofBits isPlus
 least-size = (record { sign = tt }, record { size = lit≤ tt })
 
@@ -68,9 +68,9 @@ module _ (env : List Float) (fine : every valueFine env ≡ true) (few : length 
     energy-within = lag-sum-within 0
 
     -- clarity lies within 0..1
-    module _ (ac0 : Float) (enough : lt leastEnergy ac0 ≡ true) (lag : ℕ) (inside : lag < length env) where
+    module _ (ac0 : Float) (enough : lt epsilon ac0 ≡ true) (lag : ℕ) (inside : lag < length env) where
       energy-least : AtLeast 1 (2 ^ 52) ac0
-      energy-least = le-least ac0 (least-size .0) (least-size .1) (lt-is-le leastEnergy ac0 enough)
+      energy-least = le-least ac0 (least-size .0) (least-size .1) (lt-is-le epsilon ac0 enough)
 
       quotient-within : Within 394 (lagSum env mean lag ⊗ real (length env) ⊘ (ac0 ⊗ real (length env - lag)))
       quotient-within =

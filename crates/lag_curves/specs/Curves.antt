@@ -3,10 +3,10 @@ use Prim.Native.Nat.{ℕ, _+_, _-_}
 use mathlib.Core.List.{List}
 use lib.ListN.{length, getD}
 use lib.Ieee.{Float, nan, neg}
-use Rattle.numbers.specs.Rounded.{_⊗_, _⊘_, bits, real, nought, held}
+use Rattle.numbers.specs.Rounded.{_⊗_, _⊘_, bits, real, nought, held, one, half}
 use Rattle.floats.specs.Logs.{log2Of}
 use Rattle.floats.specs.Exps.{expOf}
-use Rattle.lags.specs.Lags.{one, bpmAt}
+use Rattle.lags.specs.Lags.{bpmAt}
 use Rattle.lag_sums.specs.Sums.{lagSum}
 
 -- "Clarity at a lag: (sum·n)/(ac0·(n-lag)) .. held to 0..1", where the envelope has n slots
@@ -19,20 +19,16 @@ unfolding lagSum clarityOf
 clarityAt env mean ac0 lag = clarityOf (lagSum env mean lag) ac0 (length env) lag
 
 -- 120, the tempo that is preferred
-abbrev pub centre : Float
-centre = bits 0x405E_0000_0000_0000
+abbrev pub likeliest : Float
+likeliest = bits 0x405E_0000_0000_0000
 
 -- 1.3, the width of the preference, in octaves
-abbrev pub width : Float
-width = bits 0x3FF4_CCCC_CCCC_CCCD
-
--- 0.5
-abbrev pub half : Float
-half = bits 0x3FE0_0000_0000_0000
+abbrev pub likelyWidth : Float
+likelyWidth = bits 0x3FF4_CCCC_CCCC_CCCD
 
 -- "exp(-0.5·z·z), z = log2(bpm/120)/1.3"
 unfoldable pub priorOf : Float → Float
-priorOf bpm = let z = log2Of (bpm ⊘ centre) ⊘ width in expOf (neg half ⊗ z ⊗ z)
+priorOf bpm = let z = log2Of (bpm ⊘ likeliest) ⊘ likelyWidth in expOf (neg half ⊗ z ⊗ z)
 
 -- "with bpm = f·60/lag"
 unfoldable pub priorAt : ℕ → ℕ → Float

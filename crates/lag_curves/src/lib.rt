@@ -10,15 +10,15 @@ use lag_sums::abreast::eight_sums;
 use lag_sums::lag_rest;
 use lag_sums::lag_sum;
 use lags::bpm_at;
-use lags::float_of;
+use lists::float_of;
 use numbers::least;
 ghost use mathlib.Core.Path.{_≡_};
 ghost use Prim.Native.Nat.{_+_, _≤_, _<_};
 ghost use lib.ListN.{length};
-ghost use Rattle.numbers.specs.Rounded.{nought, held};
+ghost use Rattle.numbers.specs.Rounded.{nought, held, one};
 ghost use Rattle.numbers.specs.Limits.{mostPeriod};
 ghost use Rattle.numbers.specs.Lists.{filled};
-ghost use Rattle.lags.specs.Lags.{one, lagRoom};
+ghost use Rattle.lags.specs.Lags.{lagRoom};
 ghost use Rattle.lag_sums.specs.Lanes.{eightSums};
 ghost use Rattle.lag_curves.specs.Curves.{
   clarityOf,

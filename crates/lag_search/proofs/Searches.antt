@@ -10,8 +10,10 @@ use lib.Ieee.{Float, le}
 use Rattle.numbers.specs.Lists.{curve, filled}
 use Rattle.numbers.proofs.Tests.{pick-true, pick-false}
 use Rattle.numbers.proofs.Tabs.{length-tab, filled-whole}
+use Rattle.numbers.specs.Rounded.{epsilon}
+use Rattle.lists.specs.Means.{meanOf}
 use Rattle.lags.specs.Lags.{lagRoom}
-use Rattle.lag_sums.specs.Sums.{meanOf, energyOf, leastEnergy}
+use Rattle.lag_sums.specs.Sums.{energyOf}
 use Rattle.lag_curves.specs.Curves.{clarityFrom, weightFrom}
 use Rattle.lag_search.specs.Search.{flat, clarityRule, weightRule, winnerLag, winningLag, Searched}
 
@@ -26,11 +28,11 @@ module _ (env : List Float) (rate minLag maxLag : ℕ) (mean ac0 : Float) (m : m
   ac0-is : ac0 ≡ energyOf env (meanOf env)
   ac0-is = a ∙ ap (energyOf env) m
 
-  flat-is : (b : Bool) → le ac0 leastEnergy ≡ b → flat env ≡ b
+  flat-is : (b : Bool) → le ac0 epsilon ≡ b → flat env ≡ b
   unfolding flat
-  flat-is b e = ap (λ (x : Float). le x leastEnergy) (sym ac0-is) ∙ e
+  flat-is b e = ap (λ (x : Float). le x epsilon) (sym ac0-is) ∙ e
 
-  pub searched-flat : (clarity weight : List Float) → le ac0 leastEnergy ≡ true → Searched env rate minLag maxLag clarity weight 0 clarity weight
+  pub searched-flat : (clarity weight : List Float) → le ac0 epsilon ≡ true → Searched env rate minLag maxLag clarity weight 0 clarity weight
   unfolding winningLag
   searched-flat clarity weight e =
       let f = flat-is true e in
@@ -40,7 +42,7 @@ module _ (env : List Float) (rate minLag maxLag : ℕ) (mean ac0 : Float) (m : m
         weights = sym (pick-true (flat env) _ _ f);
       }
 
-  module _ (clarity weight clarity′ weight′ : List Float) (lag : ℕ) (e : le ac0 leastEnergy ≡ false)
+  module _ (clarity weight clarity′ weight′ : List Float) (lag : ℕ) (e : le ac0 epsilon ≡ false)
       (c : clarity′ ≡ filled (clarityFrom env mean ac0 minLag) clarity 0 (lagRoom minLag maxLag))
       (w : weight′ ≡ filled (weightFrom env mean ac0 rate minLag) weight 0 (lagRoom minLag maxLag)) where
     clarity-is : clarity′ ≡ filled (clarityRule env minLag) clarity 0 (lagRoom minLag maxLag)

@@ -11,8 +11,8 @@ use lib.Ieee.{Float, nan, isNan, lt}
 use Rattle.numbers.specs.Rounded.{nought}
 use Rattle.numbers.proofs.Tests.{which, true-not-false, pick-true, pick-false}
 use Rattle.sizes.proofs.Order.{lt-then-le}
-use Rattle.candidates.specs.Candidates.{winnerOf}
-use Rattle.candidates.proofs.Winners.{winner-is-first-greatest}
+use Rattle.lag_candidates.specs.Candidates.{winnerOf}
+use Rattle.lag_candidates.proofs.Winners.{winner-is-first-greatest}
 use Rattle.lag_search.specs.Search.{winnerAbove, winnerLag}
 
 module _ (ws : List Float) (numbers : (j : ℕ) → j < length ws → T (not (isNan (getD ws j nan)))) where

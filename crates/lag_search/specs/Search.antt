@@ -5,12 +5,13 @@ use mathlib.Core.List.{List}
 use mathlib.Core.Path.{_≡_}
 use lib.ListN.{getD}
 use lib.Ieee.{Float, nan, lt, le}
-use Rattle.numbers.specs.Rounded.{nought, pick}
+use Rattle.numbers.specs.Rounded.{nought, pick, epsilon}
 use Rattle.numbers.specs.Lists.{curve, filled}
+use Rattle.lists.specs.Means.{meanOf}
 use Rattle.lags.specs.Lags.{lagRoom}
-use Rattle.lag_sums.specs.Sums.{meanOf, energyOf, leastEnergy}
+use Rattle.lag_sums.specs.Sums.{energyOf}
 use Rattle.lag_curves.specs.Curves.{clarityFrom, weightFrom}
-use Rattle.candidates.specs.Candidates.{winnerOf}
+use Rattle.lag_candidates.specs.Candidates.{winnerOf}
 
 -- "the sum of squares about the mean ac0"
 abbrev pub ac0Of : List Float → Float
@@ -19,7 +20,7 @@ ac0Of env = energyOf env (meanOf env)
 -- it "is at most 2^-52"
 unfoldable pub flat : List Float → Bool
 unfolding meanOf energyOf
-flat env = le (ac0Of env) leastEnergy
+flat env = le (ac0Of env) epsilon
 
 -- the rules of an envelope's lag curves
 abbrev pub clarityRule : List Float → (minLag : ℕ) → ℕ → Float

@@ -1,20 +1,18 @@
 // The search of an envelope for the lag that wins.
 //
 // Document 01, Tempo and candidates. The Rust: tempo.rs `pick_tempo_peaks`, as far as the winner.
-use candidates::winner_of;
+use lag_candidates::winner_of;
 use lag_curves::fill_lag_curves;
 use lag_sums::energy_of;
-use lag_sums::mean_of;
-use lags::room_of;
+use lists::mean_of;
+use numbers::EPSILON;
+use lags::lag_slots;
 ghost use mathlib.Core.Path.{_≡_};
 ghost use Prim.Native.Nat.{ℕ, _+_, _≤_, _<_};
 ghost use lib.ListN.{length};
 ghost use Rattle.numbers.specs.Limits.{mostPeriod};
 ghost use Rattle.lags.specs.Lags.{lagRoom};
 ghost use Rattle.lag_search.specs.Search.{winnerLag, Searched};
-
-// 2^-52: an envelope whose sum of squares about the mean is no more is flat
-pub const LEAST_ENERGY: f64 = 0.0000000000000002220446049250313080847263336181640625;
 
 // Inner: the lag of the first greatest weight, or 0 where it isn't above 0.
 pub fn lag_of_winner(weight: &[f64], min_lag: usize) -> usize
@@ -43,10 +41,10 @@ pub fn winning_lag(
 {
     let mean = mean_of(envelope);
     let ac0 = energy_of(envelope, mean);
-    if ac0 <= LEAST_ENERGY {
+    if ac0 <= EPSILON {
         return 0;
     }
     fill_lag_curves(envelope, mean, ac0, rate, min_lag, max_lag, clarity, weight);
-    let room = room_of(min_lag, max_lag);
+    let room = lag_slots(min_lag, max_lag);
     lag_of_winner(&weight[0..room], min_lag)
 }

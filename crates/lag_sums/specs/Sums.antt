@@ -6,10 +6,6 @@ use lib.Ieee.{Float, nan}
 use Rattle.numbers.specs.Rounded.{_⊖_, _⊗_, _⊘_, bits, real, sumOf}
 use Rattle.numbers.specs.Lists.{curve}
 
--- the mean of an envelope
-unfoldable pub meanOf : List Float → Float
-meanOf env = sumOf env ⊘ real (length env)
-
 -- the slot at t less the mean
 abbrev pub centred : List Float → Float → ℕ → Float
 centred env mean t = getD env t nan ⊖ mean
@@ -27,7 +23,3 @@ lagSum env mean lag = sumOf (curve (productAt env mean lag) (length env - lag))
 unfoldable pub energyOf : List Float → Float → Float
 unfolding lagSum
 energyOf env mean = lagSum env mean 0
-
--- 2^-52, the difference of 1 and the next float: "No tempo if .. the sum of squares about the mean ac0 is at most 2^-52"
-abbrev pub leastEnergy : Float
-leastEnergy = bits 0x3CB0_0000_0000_0000

@@ -2,28 +2,14 @@
 //
 // Document 01, Tempo and candidates. The Rust: tempo.rs `pick_tempo_peaks`. A centred value has no room of its own: it is computed again
 // where it is used.
-use lags::float_of;
 ghost use mathlib.Core.Path.{_≡_};
 ghost use Prim.Native.Nat.{_+_, _≤_};
 ghost use lib.ListN.{length};
 ghost use Rattle.numbers.specs.Rounded.{sumOf};
 ghost use Rattle.numbers.specs.Lists.{curve};
-ghost use Rattle.lag_sums.specs.Sums.{meanOf, productAt, lagSum, energyOf};
+ghost use Rattle.lag_sums.specs.Sums.{productAt, lagSum, energyOf};
 
 pub mod abreast;
-
-// Inner: the mean of an envelope.
-pub fn mean_of(envelope: &[f64]) -> f64
-    ensures { λ r. ⌜ r ≡ meanOf (now (envelope .entry)) ⌝ }
-{
-    let mut sum = 0.0;
-    let mut i = 0;
-    while i < envelope.len() {
-        sum = sum + envelope[i];
-        i += 1;
-    }
-    sum / float_of(envelope.len())
-}
 
 // Inner: the sum of centred products a lag apart from time `from` on, where `sum` has those before it.
 pub fn lag_rest(envelope: &[f64], mean: f64, lag: usize, from: usize, sum: f64) -> f64

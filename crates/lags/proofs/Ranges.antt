@@ -8,7 +8,7 @@ use borrow.Author.Tests.{leb-true}
 use lib.Dec.{T, leb, lit<, lit≤}
 use lib.Ieee.{Float, nan, inf, fin, binary64, isNan, lt, le, add, ofBits}
 use lib.Ieee.Scale.{finite}
-use Rattle.numbers.specs.Rounded.{_⊕_, pick}
+use Rattle.numbers.specs.Rounded.{_⊕_, pick, one, hop}
 use Rattle.numbers.specs.Limits.{mostRate, mostPeriod, rateFine}
 use Rattle.numbers.proofs.Tests.{and-left, and-right, pick-true, pick-false}
 use Rattle.sizes.specs.Sizes.{sizeUpTo, AtMost, AtLeast, isPlus, Plus}
@@ -19,9 +19,9 @@ use Rattle.sizes.proofs.Ranges.{le-least}
 use Rattle.sizes.proofs.Monotone.{add-mono-left}
 use Rattle.floats.specs.Wholes.{roundOf}
 use Rattle.floats.proofs.WholeNumbers.{round-most}
-use Rattle.lags.specs.declared.TempoOpts.{TempoOpts}
+use Rattle.options.specs.declared.TempoOpts.{TempoOpts}
 use Rattle.lags.specs.declared.LagRange.{LagRange}
-use Rattle.lags.specs.Lags.{one, sixty, hop, upperBound, lowerBound, noLess, lowBpm, highBpm, framesPerMinute, minuteOver, minLag, maxLag, boundsFine, lagRange}
+use Rattle.lags.specs.Lags.{sixty, upperBound, lowerBound, noLess, lowBpm, highBpm, framesPerMinute, minuteOver, minLag, maxLag, boundsFine, lagRange}
 
 -- ---- the bounds in beats a minute
 

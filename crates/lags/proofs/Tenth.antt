@@ -19,7 +19,7 @@ use Rattle.numbers.specs.Rounded.{_⊖_, _⊘_, real, pick}
 use Rattle.numbers.specs.Limits.{mostPeriod}
 use Rattle.sizes.proofs.Sizes.{real-value}
 use Rattle.sizes.proofs.Order.{lt-then-le, le-back, lt-real}
-use Rattle.lags.specs.Pairs.{distance, tenth, apart}
+use Rattle.lags.specs.Pairs.{lagDistance, tenth, apart}
 
 -- |lag - a|
 abbrev pub gap : ℕ → ℕ → ℕ
@@ -51,7 +51,7 @@ less-whole (fin false m e) (fin false n d) a b l k p q =
     (ap (λ (z : ℕ). z * down e) (sym (mul-one (n * up d)) ∙ q .1) ∙ mul-assoc b (down d) (down e) ∙ ap (λ (z : ℕ). b * z) (mul-comm (down d) (down e)))
     l k
 
-distance-whole : (lag a : ℕ) → lag ≤ 2 ^ 53 → a ≤ 2 ^ 53 → HasValue (distance (real lag) (real a)) false (gap lag a) 1
+distance-whole : (lag a : ℕ) → lag ≤ 2 ^ 53 → a ≤ 2 ^ 53 → HasValue (lagDistance (real lag) (real a)) false (gap lag a) 1
 distance-whole lag a h k = rw (lt-real lag a h k) (go (ltb lag a) refl)
   where
     go : (b : Bool) → ltb lag a ≡ b → HasValue (pick b (real a ⊖ real lag) (real lag ⊖ real a)) false (gap lag a) 1
@@ -125,5 +125,5 @@ unfolding apart
 apart-is lag a h l k =
     let L : lag ≤ 2 ^ 53 = omega arith in
     let K : a ≤ 2 ^ 53 = omega arith in
-    ap (lt tenth) (over-whole (distance (real lag) (real a)) (real a) (gap lag a) a h (distance-whole lag a L K) (real-value a K))
+    ap (lt tenth) (over-whole (lagDistance (real lag) (real a)) (real a) (gap lag a) a h (distance-whole lag a L K) (real-value a K))
     ∙ tenth-round (gap lag a) a h k

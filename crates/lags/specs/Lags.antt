@@ -3,24 +3,16 @@ use Prim.Native.Nat.{ℕ, _+_, _-_, max}
 use mathlib.Core.Bool.{Bool, _&&_}
 use lib.Ieee.{Float, lt, le}
 use lib.Ieee.Scale.{finite}
-use Rattle.numbers.specs.Rounded.{_⊕_, _⊗_, _⊘_, bits, real, pick}
+use Rattle.numbers.specs.Rounded.{_⊕_, _⊗_, _⊘_, bits, real, pick, one, hop}
 use Rattle.numbers.specs.Limits.{rateFine}
 use Rattle.numbers.specs.Refusals.{outOfBounds}
 use Rattle.floats.specs.Wholes.{roundOf}
-use Rattle.lags.specs.declared.TempoOpts.{TempoOpts}
+use Rattle.options.specs.declared.TempoOpts.{TempoOpts}
 use Rattle.lags.specs.declared.LagRange.{LagRange}
-
--- 1
-abbrev pub one : Float
-one = bits 0x3FF0_0000_0000_0000
 
 -- 60, seconds of a minute
 abbrev pub sixty : Float
 sixty = bits 0x404E_0000_0000_0000
-
--- 256, samples from one frame to the next
-abbrev pub hop : Float
-hop = bits 0x4070_0000_0000_0000
 
 -- "Swap if reversed": the lower and the upper bound. They are compared as IEEE 754 does, so that a NaN would swap them.
 unfoldable pub lowerBound : TempoOpts → Float

@@ -1,3 +1,2 @@
-pub mod Options
 pub mod Lags
 pub mod Pairs

@@ -6,8 +6,8 @@ use lib.Ieee.{Float, lt, le}
 use Rattle.numbers.specs.Rounded.{_⊖_, _⊗_, _⊘_, bits, real, pick}
 
 -- |x - y|: the larger less the smaller, rounded once
-abbrev pub distance : Float → Float → Float
-distance x y = pick (lt x y) (y ⊖ x) (x ⊖ y)
+abbrev pub lagDistance : Float → Float → Float
+lagDistance x y = pick (lt x y) (y ⊖ x) (x ⊖ y)
 
 -- 0.10
 abbrev pub tenth : Float
@@ -15,7 +15,7 @@ tenth = bits 0x3FB9_9999_9999_999A
 
 -- "its lag differs from each accepted lag a by more than a tenth of a"
 unfoldable pub apart : (lag a : ℕ) → Bool
-apart lag a = lt tenth (distance (real lag) (real a) ⊘ real a)
+apart lag a = lt tenth (lagDistance (real lag) (real a) ⊘ real a)
 
 -- 0.05
 abbrev pub twentieth : Float
@@ -33,7 +33,7 @@ folds =
 
 -- the lag, times the fold, "differs from the whole lag by at most 0.05 of it"
 unfoldable pub foldFits : (whole lag : ℕ) → Float → Bool
-foldFits whole lag fold = le (distance (real lag ⊗ fold) (real whole) ⊘ real whole) twentieth
+foldFits whole lag fold = le (lagDistance (real lag ⊗ fold) (real whole) ⊘ real whole) twentieth
 
 -- some entry passes the test: the search is left at the first that does
 unfoldable pub some : {A : Type 0} → (A → Bool) → List A → Bool

@@ -1,17 +1,18 @@
-// Tempo, the lags: the options, the lags that their bounds stand for, and which lags are distinct or agree.
+// Tempo, the lags: those that two bounds in beats a minute stand for, and which lags are distinct or agree.
 //
-// Document 01, Tempo and candidates. The Rust: tempo.rs `TempoOpts`, and what `pick_tempo_peaks` and `stability_of` are made of.
+// Document 01, Tempo and candidates. The Rust: tempo.rs, what `pick_tempo_peaks` and `stability_of` are made of.
 use floats::wholes::round_of;
+use lists::float_of;
 use numbers::OUT_OF_BOUNDS;
 use numbers::greatest;
 use numbers::rate_fine;
+use options::TempoOpts;
 ghost use mathlib.Core.Path.{_≡_};
 ghost use Prim.Native.Nat.{_≤_};
 ghost use lib.Ieee.Scale.{finite};
 ghost use Rattle.numbers.specs.Rounded.{real};
 ghost use Rattle.numbers.specs.Limits.{mostPeriod};
 ghost use Rattle.floats.specs.Wholes.{roundOf};
-ghost use Rattle.lags.specs.Options.{defaultOptions, optionsOf, withMinBpm, withMaxBpm};
 ghost use Rattle.lags.specs.Lags.{
   noLess,
   lowBpm,
@@ -24,49 +25,6 @@ ghost use Rattle.lags.specs.Lags.{
 };
 
 pub mod pairs;
-
-// The bounds of the tempo search, in beats a minute.
-pub struct TempoOpts {
-    pub min_bpm: f64,
-    pub max_bpm: f64,
-}
-
-impl TempoOpts {
-    // a slow ballad heard in half time
-    pub const DEFAULT_MIN_BPM: f64 = 30.0;
-    // a dance track heard in double time
-    pub const DEFAULT_MAX_BPM: f64 = 300.0;
-
-    // The defaults, 30 to 300. Setters may follow: `TempoOpts::new().with_max_bpm(200.0)`.
-    pub fn new() -> TempoOpts
-        ensures { λ r. ⌜ r ≡ defaultOptions ⌝ }
-    {
-        TempoOpts::between(TempoOpts::DEFAULT_MIN_BPM, TempoOpts::DEFAULT_MAX_BPM)
-    }
-
-    // The options with both bounds given, in either order. Refuses nothing: the calls that are lent the options do.
-    pub fn between(min_bpm: f64, max_bpm: f64) -> TempoOpts
-        ensures { λ r. ⌜ r ≡ optionsOf «min_bpm» «max_bpm» ⌝ }
-    {
-        TempoOpts { min_bpm, max_bpm }
-    }
-
-    // The same options with another lower bound.
-    pub fn with_min_bpm(mut self, bpm: f64) -> TempoOpts
-        ensures { λ r. ⌜ r ≡ withMinBpm bpm self ⌝ }
-    {
-        self.min_bpm = bpm;
-        self
-    }
-
-    // The same options with another upper bound.
-    pub fn with_max_bpm(mut self, bpm: f64) -> TempoOpts
-        ensures { λ r. ⌜ r ≡ withMaxBpm bpm self ⌝ }
-    {
-        self.max_bpm = bpm;
-        self
-    }
-}
 
 // The answer of `lag_range`: its number, and the least and the greatest lag, in frames (0 where it refuses).
 pub struct LagRange {
@@ -103,13 +61,6 @@ fn high_bpm(opts: TempoOpts) -> f64
     no_less(least, opts.min_bpm)
 }
 
-// Inner: a count as a float.
-pub fn float_of(n: usize) -> f64
-    ensures { λ r. ⌜ r ≡ real n ⌝ }
-{
-    std::num::nearest_u64_to_f64(n as u64)
-}
-
 // f·60/x, the lag of a tempo x or the tempo of a lag x, at the frame rate f of a sample rate
 fn minute_over(rate: u32, x: f64) -> f64
     ensures { λ r. ⌜ r ≡ minuteOver rate x ⌝ }
@@ -139,7 +90,7 @@ pub fn bounds_fine(rate: u32, opts: TempoOpts) -> bool
 }
 
 // Inner: the slots of each lag curve, one for each lag of the range.
-pub fn room_of(min_lag: usize, max_lag: usize) -> usize
+pub fn lag_slots(min_lag: usize, max_lag: usize) -> usize
     requires { ⌜ («min_lag» ≤ «max_lag») × («max_lag» ≤ mostPeriod) ⌝ }
     ensures { λ r. ⌜ r ≡ lagRoom «min_lag» «max_lag» ⌝ }
 {

@@ -3,11 +3,11 @@
 // Document 01, Tempo and candidates. The Rust: tempo.rs `pick_tempo_peaks` ("distinct") and the test in `lags_agree_mod_octave`.
 use crate::float_of;
 ghost use mathlib.Core.Path.{_≡_};
-ghost use Rattle.lags.specs.Pairs.{distance, apart, foldFits};
+ghost use Rattle.lags.specs.Pairs.{lagDistance, apart, foldFits};
 
 // |x - y|
 fn distance_of(x: f64, y: f64) -> f64
-    ensures { λ r. ⌜ r ≡ distance x y ⌝ }
+    ensures { λ r. ⌜ r ≡ lagDistance x y ⌝ }
 {
     if x < y { y - x } else { x - y }
 }

@@ -14,12 +14,13 @@ use lib.Dec.{T, ltb, leb, eqb}
 use lib.Ieee.{Float, nan, binary64, fits}
 use borrow.Author.Tests.{leb-true, leb-false, eqb-true, eqb-false, lt-ltb, le-ltb}
 use Rattle.numbers.proofs.Tests.{which, lt-or-le}
+use Rattle.numbers.specs.Lists.{oneIf}
 use Rattle.sizes.specs.Sizes.{Each, none, more}
 use Rattle.sizes.proofs.Lists.{each-at, each-by, each-map}
 use Rattle.floats.specs.TotalOrder.{key}
 use Rattle.floats.proofs.TotalOrder.{key-inj}
 use Rattle.median.specs.Median.{insert, sort, medianOf}
-use Rattle.median.specs.Ranks.{keyAt, one, below, Same, Split, Ordered}
+use Rattle.median.specs.Ranks.{keyAt, below, Same, Split, Ordered}
 
 -- two numbers are the same or not
 pub same-or-not : (i j : ℕ) → (i ≡ j) ⊎ (i ≢ j)
@@ -27,13 +28,13 @@ same-or-not i j = ⊎-elim (λ e. inl (eqb-true i j e)) (λ e. inr (eqb-false i 
 
 -- ---- one entry's part in a count
 
-one-lt : (x : Float) (k : ℕ) → key x < k → one (ltb (key x) k) ≡ 1
+one-lt : (x : Float) (k : ℕ) → key x < k → oneIf (ltb (key x) k) ≡ 1
 one-lt x k h = rw (lt-ltb (key x) k h)
 
-one-ge : (x : Float) (k : ℕ) → k ≤ key x → one (ltb (key x) k) ≡ 0
+one-ge : (x : Float) (k : ℕ) → k ≤ key x → oneIf (ltb (key x) k) ≡ 0
 one-ge x k h = rw (le-ltb (key x) k h)
 
-one-le : (b : Bool) → one b ≤ 1
+one-le : (b : Bool) → oneIf b ≤ 1
 one-le true = le-refl 1
 one-le false = zero-le
 
@@ -79,7 +80,7 @@ same-trans a b = record { len = a .len ∙ b .len; counts = λ k. a .counts k �
 
 -- ---- the sort: the same entries, in order
 
-pub below-insert : (k : ℕ) (x : Float) (ys : List Float) → below k (insert x ys) ≡ one (ltb (key x) k) + below k ys
+pub below-insert : (k : ℕ) (x : Float) (ys : List Float) → below k (insert x ys) ≡ oneIf (ltb (key x) k) + below k ys
 unfolding below insert
 below-insert k x [] = refl
 below-insert k x (y ∷ ys) = ⊎-elim
@@ -100,7 +101,7 @@ unfolding below sort
 same-sort [] = record { len = refl; counts = λ k. refl }
 same-sort (x ∷ xs) = record {
   len = length-insert x (sort xs) ∙ ap suc (same-sort xs .len);
-  counts = λ k. below-insert k x (sort xs) ∙ ap (λ (n : ℕ). one (ltb (key x) k) + n) (same-sort xs .counts k);
+  counts = λ k. below-insert k x (sort xs) ∙ ap (λ (n : ℕ). oneIf (ltb (key x) k) + n) (same-sort xs .counts k);
 }
 
 insert-each : {P : Float → Type 0} (x : Float) (ys : List Float) → P x → Each P ys → Each P (insert x ys)

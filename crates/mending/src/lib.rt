@@ -10,7 +10,7 @@ ghost use Rattle.numbers.specs.Limits.{mostRows, magnitudeFine};
 ghost use Rattle.numbers.specs.Lists.{filled, every};
 ghost use Rattle.flux.specs.Flux.{fluxAt};
 ghost use Rattle.threshold.specs.Threshold.{reach, thresholdAt, windowRoom};
-ghost use Rattle.patching.specs.Patches.{patchOf, edited};
+ghost use Rattle.patches.specs.Patches.{patchOf, edited};
 
 // Slots of a curve, the first and the past-last.
 pub struct Slots {
@@ -36,7 +36,7 @@ pub fn mend_flux(
     ensures { λ _. ⌜ now (magnitudes .exit) ≡ edited bins (now (magnitudes .entry)) (patchOf start (now (new .entry))) ⌝ }
     ensures { λ r. ⌜ now (flux .exit) ≡ filled (fluxAt (now (magnitudes .exit)) bins) (now (flux .entry)) start r ⌝ }
 {
-    patching::copy_magnitudes(magnitudes, start * bins, new);
+    patches::copy_magnitudes(magnitudes, start * bins, new);
     let past = start + count;
     let flux_past = numbers::least(past + 1, rows);
     flux::fill_flux(magnitudes, rows, bins, start, flux_past, flux);

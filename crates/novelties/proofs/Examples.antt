@@ -3,9 +3,9 @@ use mathlib.Core.Path.{_≡_, refl}
 use mathlib.Core.List.{_∷_}
 use lib.ListN.{replicate}
 use lib.Ieee.{ofBits, toBits, ofInt, toUnsigned, add, sub, mul, div, neg, lt, ne, sum, round, units, size, span, climb, odd, ofFields}
-use Rattle.numbers.specs.Rounded.{nought}
+use Rattle.numbers.specs.Rounded.{nought, one}
 use Rattle.floats.specs.Exps.{expOf, expAt, expSized, foldsOf, expBy, expLess, expNear, scaleUp, scaleDown, timesUp, timesDown}
-use Rattle.kernels.specs.Kernel.{one, weightOf, signAt, kernelAt}
+use Rattle.kernels.specs.Kernel.{weightOf, signAt, kernelAt}
 use Rattle.novelties.specs.Novelty.{slotOf, likeness, addTerm, turns, addRow, noveltyAt}
 
 -- one row, like itself: its novelty is 1

@@ -13,7 +13,7 @@ use Rattle.numbers.proofs.Tests.{lt-or-le}
 use Rattle.numbers.proofs.Tabs.{length-filled, getD-filled-low, getD-filled-in, filled-ext, filled-join}
 use Rattle.kernels.specs.Kernel.{kernelAt}
 use Rattle.novelties.specs.Novelty.{slotOf, likeness, addTerm, addRow, noveltyAt}
-use Rattle.novelties.specs.Lanes.{apart, Gathered, nearSlot, nearTerm, nearRow, laneWhole, laneFrom}
+use Rattle.novelties.specs.Lanes.{laidApart, Gathered, nearSlot, nearTerm, nearRow, laneWhole, laneFrom}
 use Rattle.novelties.proofs.Terms.{turns-same, slot-rising, slot-falling, is-inside, term-added}
 
 -- slots i up to e more of a curve, from lanes that hold those of a block from slot s on
@@ -30,10 +30,10 @@ lanes-join f values d a s i e h k l m n same =
 
 -- those of one distance more
 pub gathered-more : (similarity near next : List Float) (first n : ℕ) → n < 16 → Gathered similarity first n near
-    → next ≡ filled (apart similarity first n) near (n * 40) (n * 40 + 39) → Gathered similarity first (n + 1) next
-unfolding apart
+    → next ≡ filled (laidApart similarity first n) near (n * 40) (n * 40 + 39) → Gathered similarity first (n + 1) next
+unfolding laidApart
 gathered-more similarity near next first n h g e =
-    let f : ℕ → Float = apart similarity first n in
+    let f : ℕ → Float = laidApart similarity first n in
     let m : length near ≡ 640 = g .whole in
     record {
       whole = ap length e ∙ length-filled f near (n * 40) (n * 40 + 39) (omega arith) (omega arith) ∙ m;

@@ -12,8 +12,8 @@ use Rattle.novelties.specs.Novelty.{turns}
 -- ---- the similarities of thirty-nine rows, forty slots to each distance
 
 -- those of rows d apart, the first of which stands at slot first + d, laid out from slot 40 * d on
-unfoldable pub apart : (similarity : List Float) (first d k : ℕ) → Float
-apart similarity first d k = getD similarity (first + d + bandWidth * (k - d * 40)) nan
+unfoldable pub laidApart : (similarity : List Float) (first d k : ℕ) → Float
+laidApart similarity first d k = getD similarity (first + d + bandWidth * (k - d * 40)) nan
 
 -- those of fewer than n apart are laid out
 pub record Gathered (similarity : List Float) (first n : ℕ) (near : List Float) : Type 0 where

@@ -57,6 +57,6 @@ noveltyNumber similarity rows room =
     lowest (leb rows mostFeatures) (eqb (length similarity) (rows * bandWidth)) (leb rows room) (every similarityFine similarity)
 
 -- what `novelty` does: the number, and each lent slot afterwards
-pub record NoveltyDone (similarity : List Float) (rows : ℕ) (was : List Float) (number : ℕ) (novelty : List Float) : Type 0 where
+pub record NoveltyPromise (similarity : List Float) (rows : ℕ) (was : List Float) (number : ℕ) (novelty : List Float) : Type 0 where
   pub answer : number ≡ noveltyNumber similarity rows (length was)
   pub slots : novelty ≡ unlessRefused (noveltyNumber similarity rows (length was)) (filled (noveltyAt similarity rows) was 0 rows) was

@@ -18,8 +18,8 @@ ghost use lib.ListN.{length, getD};
 ghost use lib.Ieee.{nan};
 ghost use Rattle.numbers.specs.Lists.{filled};
 ghost use Rattle.kernels.specs.Kernel.{kernelTable};
-ghost use Rattle.novelties.specs.Novelty.{slotOf, addTerm, addRow, noveltyAt, noveltyNumber, NoveltyDone};
-ghost use Rattle.novelties.specs.Lanes.{nearSlot, apart, Gathered, laneTerm, laneRow, laneWhole, laneFrom};
+ghost use Rattle.novelties.specs.Novelty.{slotOf, addTerm, addRow, noveltyAt, noveltyNumber, NoveltyPromise};
+ghost use Rattle.novelties.specs.Lanes.{nearSlot, laidApart, Gathered, laneTerm, laneRow, laneWhole, laneFrom};
 
 // the number that novelty gives
 fn novelty_number(similarity: &[f64], rows: usize, room: usize) -> u32
@@ -44,7 +44,7 @@ fn novelty_number(similarity: &[f64], rows: usize, room: usize) -> u32
 // Refuses 1 to 4 and then writes nothing: 1 for more than 50,000 rows, 2 for another length of the similarity, 3 for fewer than rows slots of
 // novelty, 4 for a similarity that isn't within -1 to 1.
 pub fn novelty(similarity: &[f64], rows: usize, novelty: &mut [f64]) -> u32
-    ensures { λ r. ⌜ NoveltyDone (now (similarity .entry)) rows (now (novelty .entry)) r (now (novelty .exit)) ⌝ }
+    ensures { λ r. ⌜ NoveltyPromise (now (similarity .entry)) rows (now (novelty .entry)) r (now (novelty .exit)) ⌝ }
 {
     let number = novelty_number(similarity, rows, novelty.len());
     if number != 0 {
@@ -145,7 +145,7 @@ fn fill_plain(
 // slot 40 * d on; the first of the thirty-nine rows has its similarities from slot `first` on.
 fn gather_apart(similarity: &[f64], first: usize, d: usize, near: &mut [f64; 640])
     requires { ⌜ (d < 16) × (first + d + 646 < length (now similarity)) × (length (now near) ≡ 640) ⌝ }
-    ensures { λ _. ⌜ now (near .exit) ≡ filled (apart (now (similarity .entry)) first d) (now (near .entry)) (d * 40) (d * 40 + 39) ⌝ }
+    ensures { λ _. ⌜ now (near .exit) ≡ filled (laidApart (now (similarity .entry)) first d) (now (near .entry)) (d * 40) (d * 40 + 39) ⌝ }
 {
     let mut r = 0;
     while r < 39 {

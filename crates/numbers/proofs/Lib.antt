@@ -1,5 +1,7 @@
 -- The laws that other crates cite.
 pub mod Tests
+pub mod Firsts
+pub mod Slabs
 pub mod Tabs
 pub mod Everys
 pub mod Overs

@@ -1,9 +1,10 @@
 -- Document 01, "Bounds and numbers of refusal": each bound once, under a name.
-use Prim.Native.Nat.{ℕ}
+use Prim.Native.Nat.{ℕ, _*_}
 use mathlib.Core.Bool.{Bool, _&&_}
-use lib.Dec.{leb}
+use lib.Dec.{leb, eqb}
 use lib.Ieee.{Float, binary32, le, neg, ofBits}
 use Rattle.numbers.specs.Rounded.{bits}
+use Rattle.numbers.specs.declared.Slab.{Slab}
 
 -- samples a second
 abbrev pub mostRate : ℕ
@@ -37,9 +38,25 @@ mostLength = 2147483648
 abbrev pub mostFrame : ℕ
 mostFrame = 1048575
 
+-- a listed row of a feature curve, one less than the feature rows
+abbrev pub mostListedRow : ℕ
+mostListedRow = 49999
+
 -- lo ≤ n ≤ hi
 abbrev pub between : ℕ → ℕ → ℕ → Bool
 between lo hi n = leb lo n && leb n hi
+
+-- n ≤ most
+abbrev pub atMost : (most n : ℕ) → Bool
+atMost most n = leb n most
+
+-- "Listed frames at most 1,048,575"
+abbrev pub frameFine : ℕ → Bool
+frameFine = atMost mostFrame
+
+-- a listed row is one of at most 50,000
+abbrev pub rowFine : ℕ → Bool
+rowFine = atMost mostListedRow
 
 -- "Sample rate 1 to 192,000"
 abbrev pub rateFine : ℕ → Bool
@@ -71,3 +88,21 @@ valueFine x = sized valueTop x
 -- "a lent similarity isn't within -1 to 1"
 unfoldable pub similarityFine : Float → Bool
 similarityFine x = sized similarityTop x
+
+-- ---- a slab of magnitudes: so many rows of so many bins
+
+-- the shape with these numbers
+abbrev pub slabOf : (rows bins : ℕ) → Slab
+slabOf rows bins = record { rows = rows; bins = bins }
+
+-- number 1 else: rows 0 to 1,048,576, bins 1 to 4,096
+unfoldable pub slabFine : Slab → Bool
+slabFine slab = leb (slab .rows) mostRows && between 1 mostBins (slab .bins)
+
+-- the magnitudes of all rows
+abbrev pub slabSlots : Slab → ℕ
+slabSlots slab = slab .rows * slab .bins
+
+-- number 2 else: "a lent input's length isn't rows times width"
+abbrev pub slabWhole : Slab → (slots : ℕ) → Bool
+slabWhole slab slots = eqb slots (slabSlots slab)

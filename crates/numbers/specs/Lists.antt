@@ -1,7 +1,8 @@
 -- Document 01, "After an answer, curves hold their definitions, lists hold their entries first, and later slots are unchanged":
 -- the vocabulary of lists that every contract is written in.
 use Prim.Native.Nat.{ℕ, zero, suc, _+_, _-_, _*_, min}
-use mathlib.Core.Bool.{Bool, true, _&&_}
+use mathlib.Core.Bool.{Bool, true, false, _&&_}
+use lib.Dec.{leb}
 use mathlib.Core.List.{List, [], _∷_, _++_}
 use lib.ListN.{length, take, drop}
 use lib.Seq.{paste}
@@ -40,3 +41,13 @@ module _ {A : Type 0} where
   -- slots t - w to t + w of a curve, cut at its ends
   unfoldable pub around : ℕ → List A → ℕ → List A
   around w c t = drop (t - w) (take (min (t + w + 1) (length c)) c)
+
+-- 1 where the test holds
+abbrev pub oneIf : Bool → ℕ
+oneIf true = 1
+oneIf false = 0
+
+-- strictly ascending, from `low` on
+unfoldable pub ascending : (low : ℕ) → List ℕ → Bool
+ascending low [] = true
+ascending low (x ∷ xs) = leb low x && ascending (x + 1) xs

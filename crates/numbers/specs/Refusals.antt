@@ -1,6 +1,7 @@
 -- Document 01, the table of refusals: "The lowest number that applies is given. A refusal changes nothing lent."
 use Prim.Native.Nat.{ℕ, zero, suc}
 use mathlib.Core.Bool.{Bool, true, false}
+use mathlib.Core.List.{List, [], _∷_}
 
 -- "a number is outside the bounds above (the size of lent values is number 4's), a patch's start exceeds its row count, a median's
 -- list is empty, or a lent peak list isn't strictly ascending or points past its curve"
@@ -29,11 +30,20 @@ abbrev pub unless : Bool → ℕ → ℕ → ℕ
 unless true k rest = rest
 unless false k rest = k
 
--- the lowest number that applies: 1 unless each number is in bounds, 2 unless the lengths are whole, 3 unless the room
--- suffices, 4 unless the values are fine, 0 where none applies
+-- a row of a call's table: a test, and the number that refuses where it fails
+abbrev pub Row : Type 0
+Row = Bool × ℕ
+
+-- the number of the first row whose test fails, 0 where each holds: a call's order is the order of its list
+abbrev pub firstOf : List Row → ℕ
+firstOf [] = 0
+firstOf (r ∷ rs) = unless (r .0) (r .1) (firstOf rs)
+
+-- "The lowest number that applies", which is the list in ascending order: 1 unless each number is in bounds, 2 unless the lengths are whole,
+-- 3 unless the room suffices, 4 unless the values are fine, 0 where none applies
 abbrev pub lowest : (bounds lengths room values : Bool) → ℕ
 lowest bounds lengths room values =
-    unless bounds outOfBounds (unless lengths wrongLength (unless room tooLittleRoom (unless values wrongValue 0)))
+    firstOf ((bounds, outOfBounds) ∷ (lengths, wrongLength) ∷ (room, tooLittleRoom) ∷ (values, wrongValue) ∷ [])
 
 -- what is done where the number is 0, and what was there where it is another
 abbrev pub unlessRefused : {A : Type 0} → ℕ → A → A → A

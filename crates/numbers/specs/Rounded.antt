@@ -35,6 +35,26 @@ real n = ofInt binary64 (pos n)
 abbrev pub nought : Float
 nought = bits 0
 
+-- 1
+abbrev pub one : Float
+one = bits 0x3FF0_0000_0000_0000
+
+-- 0.5
+abbrev pub half : Float
+half = bits 0x3FE0_0000_0000_0000
+
+-- 1000, milliseconds of a second
+abbrev pub thousand : Float
+thousand = bits 0x408F_4000_0000_0000
+
+-- 256, the samples from a frame to the next
+abbrev pub hop : Float
+hop = bits 0x4070_0000_0000_0000
+
+-- 2^-52, the difference of 1 and the next float: an energy or a variance of at most so much is none
+abbrev pub epsilon : Float
+epsilon = bits 0x3CB0_0000_0000_0000
+
 -- a choice by a test
 abbrev pub pick : {A : Type 0} → Bool → A → A → A
 pick true a b = a

@@ -2,10 +2,10 @@
 //
 // Inner calls: the crates above share them, and no caller of the library needs them. None refuses anything.
 ghost use mathlib.Core.Path.{_≡_};
-ghost use mathlib.Core.Bool.{_&&_};
+ghost use mathlib.Core.Bool.{true, _&&_};
 ghost use Prim.Native.Nat.{_-_, min, max};
 ghost use lib.ListN.{length};
-ghost use Rattle.numbers.specs.Limits.{sized, magnitudeFine, valueFine, similarityFine, rateFine};
+ghost use Rattle.numbers.specs.Limits.{sized, magnitudeFine, valueFine, similarityFine, rateFine, slabFine, slabWhole};
 ghost use Rattle.numbers.specs.Lists.{every};
 
 // samples a second
@@ -24,6 +24,10 @@ pub const FEATURE_WIDTH: usize = 16;
 pub const MOST_LENGTH: u64 = 2_147_483_648;
 // a listed frame
 pub const MOST_FRAME: u32 = 1_048_575;
+// a listed row of a feature curve
+pub const MOST_LISTED_ROW: u32 = 49_999;
+// 2^-52: an energy or a variance of at most so much is none
+pub const EPSILON: f64 = 0.0000000000000002220446049250313080847263336181640625;
 // the size of a value of an envelope, curve, median or feature row, 2 ^ 150
 const VALUE_TOP: f64 = 1427247692705959881058285969449495136382746624.0;
 // the size of a similarity
@@ -39,6 +43,12 @@ pub const TOO_LITTLE_ROOM: u32 = 3;
 pub const WRONG_VALUE: u32 = 4;
 
 pub const MALFORMED: u32 = 5;
+
+// The shape of a slab of magnitudes: so many rows of so many bins, one row behind the other.
+pub struct Slab {
+    pub rows: usize,
+    pub bins: usize,
+}
 
 // What a call that lists frames or rows answers: its number, and how many entries it listed (0 where it refuses).
 pub struct Listing {
@@ -72,6 +82,23 @@ pub fn rate_fine(rate: u32) -> bool
     ensures { λ r. ⌜ r ≡ rateFine rate ⌝ }
 {
     1 <= rate && rate <= MOST_RATE
+}
+
+// Inner: whether the shape of a slab is in bounds: rows 0 to 1,048,576, bins 1 to 4,096.
+pub fn slab_fine(slab: Slab) -> bool
+    ensures { λ r. ⌜ r ≡ slabFine slab ⌝ }
+{
+    let rows = slab.rows;
+    let bins = slab.bins;
+    rows <= MOST_ROWS && (1 <= bins && bins <= MOST_BINS)
+}
+
+// Inner: whether so many slots are the slab's rows times its bins.
+pub fn slab_whole(slab: Slab, slots: usize) -> bool
+    requires { ⌜ slabFine slab ≡ true ⌝ }
+    ensures { λ r. ⌜ r ≡ slabWhole slab slots ⌝ }
+{
+    slots == slab.rows * slab.bins
 }
 
 // Inner: whether a magnitude is finite and of size at most 2 ^ 126.
@@ -108,7 +135,11 @@ fn runs_fine(a: &[f32], b: &[f32], c: &[f32], d: &[f32]) -> bool
     requires { ⌜ length (now b) ≡ length (now a) ⌝ }
     requires { ⌜ length (now c) ≡ length (now a) ⌝ }
     requires { ⌜ length (now d) ≡ length (now a) ⌝ }
-    ensures { λ r. ⌜ r ≡ (every magnitudeFine (now (a .entry)) && (every magnitudeFine (now (b .entry)) && (every magnitudeFine (now (c .entry)) && every magnitudeFine (now (d .entry))))) ⌝ }
+    ensures { λ r. ⌜
+        r ≡
+        (every magnitudeFine (now (a .entry))
+        && (every magnitudeFine (now (b .entry)) && (every magnitudeFine (now (c .entry)) && every magnitudeFine (now (d .entry)))))
+        ⌝ }
 {
     let mut fine = true;
     let mut i = 0;
@@ -157,7 +188,11 @@ fn runs_sized(a: &[f64], b: &[f64], c: &[f64], d: &[f64], top: f64) -> bool
     requires { ⌜ length (now b) ≡ length (now a) ⌝ }
     requires { ⌜ length (now c) ≡ length (now a) ⌝ }
     requires { ⌜ length (now d) ≡ length (now a) ⌝ }
-    ensures { λ r. ⌜ r ≡ (every (sized top) (now (a .entry)) && (every (sized top) (now (b .entry)) && (every (sized top) (now (c .entry)) && every (sized top) (now (d .entry))))) ⌝ }
+    ensures { λ r. ⌜
+        r ≡
+        (every (sized top) (now (a .entry))
+        && (every (sized top) (now (b .entry)) && (every (sized top) (now (c .entry)) && every (sized top) (now (d .entry)))))
+        ⌝ }
 {
     let mut fine = true;
     let mut i = 0;

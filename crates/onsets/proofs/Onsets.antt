@@ -13,14 +13,14 @@ use lib.Seq.{ext-getD}
 use Rattle.numbers.proofs.Everys.{every-at}
 use Rattle.numbers.proofs.Tabs.{length-tab, getD-curve, filled-whole}
 use Rattle.numbers.proofs.Tests.{and-left, and-right, and-both, lowest-zero, lowest-0}
-use Rattle.numbers.specs.Limits.{mostRows, mostFrame, rateFine, valueFine}
-use Rattle.numbers.specs.Lists.{every, curve, filled, listed}
+use Rattle.numbers.specs.Limits.{mostRows, mostFrame, rateFine, valueFine, frameFine}
+use Rattle.numbers.specs.Lists.{every, curve, filled, listed, ascending}
 use Rattle.flux.proofs.Fluxes.{FluxFine, flux-curve-within, flux-curve-fine}
 use Rattle.flux.specs.Flux.{fluxAt}
 use Rattle.threshold.proofs.Thresholds.{threshold-curve-fine}
 use Rattle.threshold.specs.Threshold.{thresholdAt, windowRoom, thresholdRefusal}
-use Rattle.onsets.specs.Onsets.{frameFine, gapOf, onsetsOf, onsetsRefusal, timesRefusal}
-use Rattle.onsets.specs.Peaks.{at, peaksOf, ascending, pointInto}
+use Rattle.onsets.specs.Onsets.{gapOf, onsetsOf, onsetsRefusal, timesRefusal}
+use Rattle.onsets.specs.Peaks.{at, peaksOf, pointInto}
 use Rattle.onsets.proofs.Picks.{ascending-from, peaks-ascend, peaks-inside, peaks-length, suppressed-ascends, suppressed-every, suppressed-length}
 
 -- a test that follows from another

@@ -6,11 +6,11 @@ use lib.ListN.{length}
 use Rattle.numbers.proofs.Tests.{refused-keeps, passed-does}
 use Rattle.numbers.specs.Lists.{listed}
 use Rattle.numbers.specs.declared.Listing.{Listing}
-use Rattle.onsets.specs.Outcomes.{Lists}
+use Rattle.numbers.specs.Outcomes.{ListWritten}
 use Rattle.onsets.specs.Steps.{Picked}
 
 module _ (number : ℕ) (entries was : List ℕ) where
-  pub lists-refused : (answer : Listing) → answer .number ≡ number → (answer .number ≡ 0 → ⊥) → answer .count ≡ 0 → Lists number entries was answer was
+  pub lists-refused : (answer : Listing) → answer .number ≡ number → (answer .number ≡ 0 → ⊥) → answer .count ≡ 0 → ListWritten number entries was answer was
   lists-refused answer e h n =
       let no : number ≡ 0 → ⊥ = λ z. h (e ∙ z) in
       record {
@@ -19,7 +19,7 @@ module _ (number : ℕ) (entries was : List ℕ) where
         frames-are = sym (refused-keeps number (listed entries was) was no);
       }
 
-  pub lists-done : (answer : Listing) (after : List ℕ) → number ≡ 0 → answer .number ≡ 0 → Picked entries was (answer .count) after → Lists number entries was answer after
+  pub lists-done : (answer : Listing) (after : List ℕ) → number ≡ 0 → answer .number ≡ 0 → Picked entries was (answer .count) after → ListWritten number entries was answer after
   lists-done answer after z e p =
       record {
         number-is = e ∙ sym z;
@@ -28,6 +28,6 @@ module _ (number : ℕ) (entries was : List ℕ) where
       }
 
   -- any two outcomes coincide
-  pub lists-unique : {a b : Listing} {x y : List ℕ} → Lists number entries was a x → Lists number entries was b y
+  pub lists-unique : {a b : Listing} {x y : List ℕ} → ListWritten number entries was a x → ListWritten number entries was b y
       → (a .number ≡ b .number) × (a .count ≡ b .count) × (x ≡ y)
   lists-unique p q = (p .number-is ∙ sym (q .number-is), p .count-is ∙ sym (q .count-is), p .frames-are ∙ sym (q .frames-are))

@@ -15,9 +15,9 @@ use Rattle.numbers.proofs.Everys.{every-tab}
 use Rattle.numbers.proofs.Tabs.{length-tab}
 use Rattle.numbers.proofs.Tests.{and-left, and-right, and-both, lowest-zero}
 use Rattle.numbers.specs.Limits.{mostRows, valueFine}
-use Rattle.numbers.specs.Lists.{tab, every}
+use Rattle.numbers.specs.Lists.{tab, every, ascending}
 use Rattle.numbers.specs.Rounded.{pick}
-use Rattle.onsets.specs.Peaks.{at, isPeak, those, peaksOf, joins, better, bests, suppressed, ascending, pointInto, suppressionRefusal}
+use Rattle.onsets.specs.Peaks.{at, isPeak, those, peaksOf, joins, better, bests, suppressed, pointInto, suppressionRefusal}
 
 -- what holds of both holds of the one that is picked
 by-pick : {A : Type 0} (P : A → Type 0) (b : Bool) {x y : A} → P x → P y → P (pick b x y)

@@ -11,12 +11,12 @@ use lib.ListN.{length, getD, drop, set, length-append, length-drop}
 use lib.Seq.{append-snoc, drop-cons}
 use Rattle.numbers.proofs.Tabs.{listed-none, listed-more}
 use Rattle.numbers.proofs.Tests.{true-not-false}
-use Rattle.numbers.specs.Lists.{tab, listed}
+use Rattle.numbers.specs.Lists.{tab, listed, oneIf}
 use Rattle.onsets.specs.Peaks.{isPeak, those, peaksOf, joins, better, bests, suppressed}
-use Rattle.onsets.specs.Steps.{one, following, Going, Stepped, Closed}
+use Rattle.onsets.specs.Steps.{following, Going, Stepped, Closed}
 use Rattle.onsets.specs.declared.peaks.Group.{Group}
 
-one-most : (b : Bool) → one b ≤ 1
+one-most : (b : Bool) → oneIf b ≤ 1
 one-most true = le-refl 1
 one-most false = omega arith
 
@@ -95,7 +95,7 @@ module _ (curve : List Float) (gap : ℕ) where
   stepped-close g g′ t frames o j room o′ e n =
       record {
         best-at = omega arith;
-        counted = let a : one (g .opened) ≡ 1 = ap one o in omega (arith, one-most (g′ .opened));
+        counted = let a : oneIf (g .opened) ≡ 1 = ap oneIf o in omega (arith, one-most (g′ .opened));
         goes = λ whole ps was G. record {
           kept = G .kept ++ (g .best ∷ []);
           all =
@@ -151,7 +151,7 @@ pub record Picking (curve : List Float) (threshold : ℕ → Float) (gap t : ℕ
   pub from : 1 ≤ t
   pub past : t ≤ length curve - 2 + 1
   pub best-at : group .best < t
-  pub counted : group .count + one (group .opened) < t
+  pub counted : group .count + oneIf (group .opened) < t
   pub as-long : length frames ≡ length was
   pub going : Going curve gap (suppressed curve gap (peaksOf curve threshold))
       (those (λ t. isPeak curve (threshold t) t) (tab (λ t. t) t (length curve - 1 - t))) was group frames
@@ -165,7 +165,7 @@ module _ (curve : List Float) (threshold : ℕ → Float) (gap : ℕ) where
         from = le-refl 1;
         past = omega arith;
         best-at = omega arith;
-        counted = let a : one (g .opened) ≡ 0 = ap one o in omega arith;
+        counted = let a : oneIf (g .opened) ≡ 0 = ap oneIf o in omega arith;
         as-long = refl;
         going = rw (← e) (going-start curve gap (those (λ t. isPeak curve (threshold t) t) (tab (λ t. t) 1 (length curve - 2))) was g o n);
       }

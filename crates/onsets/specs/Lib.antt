@@ -1,4 +1,3 @@
-pub mod Outcomes
 pub mod Peaks
 pub mod Onsets
 pub mod Steps

@@ -5,8 +5,8 @@ use mathlib.Core.List.{List}
 use lib.Dec.{leb, eqb}
 use lib.ListN.{length}
 use lib.Ieee.{Float}
-use Rattle.numbers.specs.Rounded.{_⊕_, _⊗_, _⊘_, bits, real}
-use Rattle.numbers.specs.Limits.{mostRows, mostFrame, rateFine, valueFine}
+use Rattle.numbers.specs.Rounded.{_⊕_, _⊗_, _⊘_, bits, real, hop, thousand}
+use Rattle.numbers.specs.Limits.{mostRows, mostFrame, rateFine, valueFine, frameFine}
 use Rattle.numbers.specs.Refusals.{lowest}
 use Rattle.numbers.specs.Lists.{every}
 use Rattle.floats.specs.Wholes.{ceilOf}
@@ -15,14 +15,6 @@ use Rattle.onsets.specs.Peaks.{at, peaksOf, suppressed}
 -- 30, the milliseconds between onsets
 abbrev pub gapMs : Float
 gapMs = bits 0x403E_0000_0000_0000
-
--- 1000
-abbrev pub thousand : Float
-thousand = bits 0x408F_4000_0000_0000
-
--- 256, the samples from a frame to the next
-abbrev pub hop : Float
-hop = bits 0x4070_0000_0000_0000
 
 -- 512, the samples from a frame's start to its centre
 abbrev pub centre : Float
@@ -48,10 +40,6 @@ unfoldable pub onsetsRefusal : (flux threshold : List Float) → (rate room : �
 onsetsRefusal flux threshold rate room =
     lowest (leb (length flux) mostRows && rateFine rate) (eqb (length threshold) (length flux)) (leb (length flux) room)
     (every valueFine flux && every valueFine threshold)
-
--- a frame that may be listed
-abbrev pub frameFine : ℕ → Bool
-frameFine frame = leb frame mostFrame
 
 -- 1: the rate is fine and each frame at most 1,048,575. 3: room for each frame.
 unfoldable pub timesRefusal : (frames : List ℕ) → (rate room : ℕ) → ℕ

@@ -8,7 +8,7 @@ use lib.Ieee.{Float, nan, lt, le}
 use Rattle.numbers.specs.Rounded.{pick}
 use Rattle.numbers.specs.Limits.{mostRows, valueFine}
 use Rattle.numbers.specs.Refusals.{lowest}
-use Rattle.numbers.specs.Lists.{tab, every}
+use Rattle.numbers.specs.Lists.{tab, every, ascending}
 
 -- slot t of a curve
 abbrev pub at : List Float → ℕ → Float
@@ -52,11 +52,6 @@ suppressed curve gap [] = []
 suppressed curve gap (peak ∷ peaks) = bests curve gap peak peaks
 
 -- ---- refusal
-
--- strictly ascending, from `low` on
-unfoldable pub ascending : (low : ℕ) → List ℕ → Bool
-ascending low [] = true
-ascending low (x ∷ xs) = leb low x && ascending (x + 1) xs
 
 -- no entry points past a curve of n slots
 abbrev pub pointInto : ℕ → List ℕ → Bool

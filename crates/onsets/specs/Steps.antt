@@ -6,7 +6,7 @@ use mathlib.Core.List.{List, [], _∷_, _++_}
 use lib.ListN.{length}
 use lib.Ieee.{Float}
 use Rattle.numbers.specs.Rounded.{pick}
-use Rattle.numbers.specs.Lists.{listed}
+use Rattle.numbers.specs.Lists.{listed, oneIf}
 use Rattle.onsets.specs.Peaks.{bests, suppressed}
 use Rattle.onsets.specs.declared.peaks.Group.{Group}
 
@@ -14,11 +14,6 @@ use Rattle.onsets.specs.declared.peaks.Group.{Group}
 pub record Picked (entries was : List ℕ) (count : ℕ) (after : List ℕ) : Type 0 where
   pub count-is : count ≡ length entries
   pub frames-are : after ≡ listed entries was
-
--- how many groups are open
-abbrev pub one : Bool → ℕ
-one true = 1
-one false = 0
 
 -- what is still to be kept, of the open group, if one is open, and of the peaks that follow
 unfoldable pub following : List Float → (gap : ℕ) → (opened : Bool) → (best : ℕ) → List ℕ → List ℕ
@@ -35,7 +30,7 @@ pub record Going (curve : List Float) (gap : ℕ) (whole peaks was : List ℕ) (
 -- A step past slot t, which is a peak or is not: where the loop has come to it, it has then come past it.
 pub record Stepped (curve : List Float) (gap t : ℕ) (peak : Bool) (group : Group) (frames : List ℕ) (group′ : Group) (frames′ : List ℕ) : Type 0 where
   pub best-at : group′ .best ≤ t
-  pub counted : group′ .count + one (group′ .opened) ≤ group .count + one (group .opened) + 1
+  pub counted : group′ .count + oneIf (group′ .opened) ≤ group .count + oneIf (group .opened) + 1
   pub goes : (whole peaks was : List ℕ)
       → Going curve gap whole (pick peak (t ∷ peaks) peaks) was group frames → Going curve gap whole peaks was group′ frames′
 

@@ -9,9 +9,9 @@ ghost use mathlib.Core.List.{map};
 ghost use Prim.Native.Nat.{_≤_};
 ghost use lib.ListN.{length};
 ghost use Rattle.numbers.specs.Lists.{listed, every};
-ghost use Rattle.numbers.specs.Outcomes.{Written};
-ghost use Rattle.onsets.specs.Outcomes.{Lists};
-ghost use Rattle.onsets.specs.Onsets.{gapOf, onsetsOf, frameTime, frameFine, onsetsRefusal, timesRefusal};
+ghost use Rattle.numbers.specs.Outcomes.{Written, ListWritten};
+ghost use Rattle.numbers.specs.Limits.{frameFine};
+ghost use Rattle.onsets.specs.Onsets.{gapOf, onsetsOf, frameTime, onsetsRefusal, timesRefusal};
 
 // the least time between two onsets, in milliseconds
 const MIN_GAP_MS: f64 = 30.0;
@@ -24,7 +24,7 @@ const CENTRE: f64 = 512.0;
 // Refuses: 1 a flux longer than 1,048,576 or a rate outside 1 to 192,000; 2 a threshold of another length; 3 frames shorter than
 // flux; 4 a value of either that isn't finite or is of size above 2^150. Slots past the count stay, all of them at a refusal.
 pub fn pick_onsets(flux: &[f64], threshold: &[f64], rate: u32, frames: &mut [u32]) -> Listing
-    ensures { λ r. ⌜ Lists (onsetsRefusal (now (flux .entry)) (now (threshold .entry)) rate (length (now (frames .entry)))) (onsetsOf (now (flux .entry)) (now (threshold .entry)) rate) (now (frames .entry)) r (now (frames .exit)) ⌝ }
+    ensures { λ r. ⌜ ListWritten (onsetsRefusal (now (flux .entry)) (now (threshold .entry)) rate (length (now (frames .entry)))) (onsetsOf (now (flux .entry)) (now (threshold .entry)) rate) (now (frames .entry)) r (now (frames .exit)) ⌝ }
 {
     let number = onsets_refusal(flux, threshold, rate, frames.len());
     if number != 0 {
@@ -86,26 +86,13 @@ fn times_refusal(frames: &[u32], rate: u32, room: usize) -> u32
     if !numbers::rate_fine(rate) {
         return numbers::OUT_OF_BOUNDS;
     }
-    if !frames_fine(frames) {
+    if !lists::all_at_most(frames, numbers::MOST_FRAME) {
         return numbers::OUT_OF_BOUNDS;
     }
     if room < frames.len() {
         return numbers::TOO_LITTLE_ROOM;
     }
     0
-}
-
-fn frames_fine(list: &[u32]) -> bool
-    ensures { λ r. ⌜ r ≡ every frameFine (now (list .entry)) ⌝ }
-{
-    let mut i = 0;
-    while i < list.len() {
-        if list[i] > numbers::MOST_FRAME {
-            return false;
-        }
-        i += 1;
-    }
-    true
 }
 
 fn write_times(frames: &[u32], rate: u32, ms: &mut [f64])

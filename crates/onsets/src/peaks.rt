@@ -10,16 +10,16 @@ ghost use Prim.Native.Nat.{ℕ, _+_, _≤_, _<_};
 ghost use lib.ListN.{length};
 ghost use lib.Ieee.{Float};
 ghost use Rattle.numbers.specs.Limits.{mostRows};
-ghost use Rattle.numbers.specs.Lists.{listed};
-ghost use Rattle.onsets.specs.Outcomes.{Lists};
-ghost use Rattle.onsets.specs.Peaks.{at, isPeak, those, peaksOf, suppressed, ascending, pointInto, suppressionRefusal};
-ghost use Rattle.onsets.specs.Steps.{one, Picked, Stepped, Closed};
+ghost use Rattle.numbers.specs.Lists.{listed, oneIf, ascending};
+ghost use Rattle.numbers.specs.Outcomes.{ListWritten};
+ghost use Rattle.onsets.specs.Peaks.{at, isPeak, those, peaksOf, suppressed, pointInto, suppressionRefusal};
+ghost use Rattle.onsets.specs.Steps.{Picked, Stepped, Closed};
 
 // Lists the best of each group of peaks: a peak joins a group while it is at most gap past its best. Room: one slot for each peak.
 // Refuses: 1 a curve longer than 1,048,576, or peaks that aren't strictly ascending or point past the curve; 3 frames shorter than
 // peaks; 4 a curve value that isn't finite or is of size above 2^150. Slots past the count stay, all of them at a refusal.
 pub fn suppress_close_peaks(peaks: &[u32], curve: &[f64], gap: usize, frames: &mut [u32]) -> Listing
-    ensures { λ r. ⌜ Lists (suppressionRefusal (now (peaks .entry)) (now (curve .entry)) (length (now (frames .entry)))) (suppressed (now (curve .entry)) gap (now (peaks .entry))) (now (frames .entry)) r (now (frames .exit)) ⌝ }
+    ensures { λ r. ⌜ ListWritten (suppressionRefusal (now (peaks .entry)) (now (curve .entry)) (length (now (frames .entry)))) (suppressed (now (curve .entry)) gap (now (peaks .entry))) (now (frames .entry)) r (now (frames .exit)) ⌝ }
 {
     let number = refusal(peaks, curve, frames.len());
     if number != 0 {
@@ -184,7 +184,7 @@ fn join(group: Group, curve: &[f64], gap: usize, peak: usize, frames: &mut [u32]
 
 // The last group's best is listed.
 fn close(group: Group, frames: &mut [u32]) -> usize
-    requires { ⌜ (group .best < 4294967296) × (group .count + one (group .opened) ≤ length (now frames)) ⌝ }
+    requires { ⌜ (group .best < 4294967296) × (group .count + oneIf (group .opened) ≤ length (now frames)) ⌝ }
     ensures { λ r. ⌜ Closed group (now (frames .entry)) r (now (frames .exit)) ⌝ }
 {
     let count = group.count;

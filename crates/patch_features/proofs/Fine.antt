@@ -15,14 +15,14 @@ use Rattle.numbers.proofs.Tabs.{length-tab}
 use Rattle.numbers.proofs.Tests.{and-left, and-right}
 use Rattle.numbers.specs.Limits.{valueFine, similarityFine}
 use Rattle.numbers.specs.Lists.{every}
-use Rattle.numbers.specs.Rounded.{_⊕_, _⊗_, nought, pick}
+use Rattle.numbers.specs.Rounded.{_⊕_, _⊗_, nought, pick, one}
 use Rattle.sizes.proofs.Sizes.{add-most, mul-most, nought-most, pick-most, most-weaken}
 use Rattle.sizes.proofs.Tests.{similarity-most, within-value}
 use Rattle.sizes.specs.Sizes.{AtMost, Held}
 use Rattle.kernels.proofs.Weights.{weight-fine}
 use Rattle.row_pairs.proofs.Fine.{similarities-fine}
 use Rattle.novelties.proofs.Terms.{inside-is, slot-below}
-use Rattle.kernels.specs.Kernel.{away, alike, one, signAt, weightOf, kernelAt}
+use Rattle.kernels.specs.Kernel.{away, alike, signAt, weightOf, kernelAt}
 use Rattle.novelties.specs.Novelty.{slotOf, likeness, inside, turns, addTerm, addRow, noveltyAt}
 use Rattle.row_pairs.specs.Pairs.{similarityAt}
 use Rattle.patch_features.specs.Features.{pairs}

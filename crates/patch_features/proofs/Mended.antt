@@ -14,14 +14,14 @@ use Rattle.numbers.proofs.Tests.{which, pick-true, pick-false}
 use Rattle.numbers.specs.Limits.{featureWidth}
 use Rattle.numbers.specs.Lists.{curve, filled}
 use Rattle.numbers.specs.Rounded.{pick}
-use Rattle.patching.proofs.Parts.{take-filled, drop-filled}
-use Rattle.patching.specs.Patches.{Patch, pastRow, edited}
+use Rattle.patches.proofs.Parts.{take-filled, drop-filled}
+use Rattle.patches.specs.Patches.{Patch, pastRow, edited}
 use Rattle.row_pairs.proofs.Local.{similarity-over}
 use Rattle.novelties.proofs.Local.{novelty-kept}
 use Rattle.novelties.specs.Novelty.{noveltyAt}
 use Rattle.row_pairs.specs.Pairs.{similarityAt}
 use Rattle.patch_features.specs.Features.{
-  Track,
+  FeatureTrack,
   pairs,
   firstPair,
   similarityFirst,
@@ -33,7 +33,7 @@ use Rattle.patch_features.specs.Features.{
   mendedSimilarity,
   mendedNovelty,
 }
-use Rattle.patch_features.specs.Runs.{similarityCurve, noveltyCurve, Fresh}
+use Rattle.patch_features.specs.Runs.{similarityCurve, noveltyCurve, FreshFeatures}
 use Rattle.patch_features.proofs.Asked.{Asked}
 use Rattle.patch_features.proofs.Touched.{own-touched, outside-untouched, untouched-rows, pair-untouched}
 
@@ -67,7 +67,7 @@ mended-joined features rows a b lent mid now first h l e m n = rw (n, m, e) (men
 
 -- ---- one patch
 
-module _ (rows : ℕ) (was : Track) (patch : Patch) (asked : Asked rows was patch) where
+module _ (rows : ℕ) (was : FeatureTrack) (patch : Patch) (asked : Asked rows was patch) where
   abbrev rowsNow : List Float
   rowsNow = edited featureWidth (was .features) patch
 
@@ -138,7 +138,7 @@ module _ (rows : ℕ) (was : Track) (patch : Patch) (asked : Asked rows was patc
       ⊎-elim (λ (u : i < noveltyFirst patch). kept (inl (omega arith))) (λ (u : noveltyPast rows patch ≤ i). kept (inr (omega arith)))
 
   -- the mended novelty of a fresh one
-  pub novelty-mends : Fresh rows was → take rows (mendedNovelty rows was patch) ≡ noveltyCurve rows rowsNow
+  pub novelty-mends : FreshFeatures rows was → take rows (mendedNovelty rows was patch) ≡ noveltyCurve rows rowsNow
   unfolding mendedNovelty noveltyCurve
   novelty-mends fresh =
       take-filled (noveltyAt (take (pairs rows) (mendedSimilarity rows was patch)) rows) (was .novelty) rows (noveltyFirst patch) (noveltyPast rows patch)

@@ -12,20 +12,20 @@ use Rattle.numbers.specs.Limits.{mostFeatures, featureWidth, valueFine, similar
 use Rattle.numbers.specs.Lists.{filled, every}
 use Rattle.numbers.specs.Refusals.{lowest, unlessRefused}
 use Rattle.numbers.specs.Rounded.{pick}
-use Rattle.patching.specs.Patches.{Patch, pastRow, wholeRows, edited, unlessEmpty, ranges, rangesNamed, returned}
+use Rattle.patches.specs.PatchFeaturesPromise.{Patch, pastRow, wholeRows, edited, unlessEmpty, ranges, rangesNamed, returned}
 use Rattle.row_pairs.specs.Pairs.{bandWidth, similarityAt}
 use Rattle.novelties.specs.Novelty.{noveltyAt}
 use Rattle.patch_features.specs.declared.PatchedFeatures.{PatchedFeatures}
 use Rattle.patch_features.specs.declared.PatchedFeatures.the-variants.{Refused, Wrote}
 
 -- what is lent and kept: the features, row behind row, and their two curves
-pub record Track : Type 0 where
+pub record FeatureTrack : Type 0 where
   pub features : List Float
   pub similarity : List Float
   pub novelty : List Float
 
-abbrev pub track : (features similarity novelty : List Float) → Track
-track features similarity novelty = record { features = features; similarity = similarity; novelty = novelty }
+abbrev pub featureTrack : (features similarity novelty : List Float) → FeatureTrack
+featureTrack features similarity novelty = record { features = features; similarity = similarity; novelty = novelty }
 
 -- how many rows after its own a similarity reaches
 abbrev pub band : ℕ
@@ -74,40 +74,40 @@ touched a b k = replaced a b (k / bandWidth) || replaced a b (k / bandWidth + k 
 unfoldable pub mendedAt : (features : List Float) → (rows a b : ℕ) → (lent : List Float) → ℕ → Float
 mendedAt features rows a b lent k = pick (touched a b k) (similarityAt features rows k) (getD lent k nan)
 
-unfoldable pub mendedSimilarity : (rows : ℕ) → Track → Patch → List Float
+unfoldable pub mendedSimilarity : (rows : ℕ) → FeatureTrack → Patch → List Float
 mendedSimilarity rows was patch =
     filled (mendedAt (edited featureWidth (was .features) patch) rows (patch .start) (pastRow featureWidth patch) (was .similarity)) (was .similarity)
     (similarityFirst patch) (similarityPast patch)
 
 -- the novelty curve with its slots written "from the lent similarity" as it then stands, of which the first 17 F slots are the curve
-unfoldable pub mendedNovelty : (rows : ℕ) → Track → Patch → List Float
+unfoldable pub mendedNovelty : (rows : ℕ) → FeatureTrack → Patch → List Float
 mendedNovelty rows was patch =
     filled (noveltyAt (take (pairs rows) (mendedSimilarity rows was patch)) rows) (was .novelty) (noveltyFirst patch) (noveltyPast rows patch)
 
 -- what a patch that has rows makes of the track
-unfoldable pub mended : (rows : ℕ) → Track → Patch → Track
-mended rows was patch = track (edited featureWidth (was .features) patch) (mendedSimilarity rows was patch) (mendedNovelty rows was patch)
+unfoldable pub mendedFeatures : (rows : ℕ) → FeatureTrack → Patch → FeatureTrack
+mendedFeatures rows was patch = featureTrack (edited featureWidth (was .features) patch) (mendedSimilarity rows was patch) (mendedNovelty rows was patch)
 
 -- ---- refusal
 
 -- number 1 else: rows 0 to 50,000, a start of at most the row count
-unfoldable pub boundsFine : (rows start : ℕ) → Bool
-boundsFine rows start = leb rows mostFeatures && leb start rows
+unfoldable pub featurePatchBounds : (rows start : ℕ) → Bool
+featurePatchBounds rows start = leb rows mostFeatures && leb start rows
 
 -- number 3 else: "A lent curve too short is number 3 here, never 2"
-unfoldable pub roomFine : (rows similarity novelty : ℕ) → Bool
-roomFine rows similarity novelty = leb (pairs rows) similarity && leb rows novelty
+unfoldable pub featurePatchRoom : (rows similarity novelty : ℕ) → Bool
+featurePatchRoom rows similarity novelty = leb (pairs rows) similarity && leb rows novelty
 
 -- number 4 else: "old and new rows and .. each lent curve's slots up to its formula; slots beyond are not read"
-unfoldable pub valuesFine : (rows : ℕ) → Track → (new : List Float) → Bool
-valuesFine rows was new =
+unfoldable pub featurePatchValues : (rows : ℕ) → FeatureTrack → (new : List Float) → Bool
+featurePatchValues rows was new =
     every valueFine (was .features)
     && (every valueFine new && (every similarityFine (take (pairs rows) (was .similarity)) && every valueFine (take rows (was .novelty))))
 
-unfoldable pub numberOf : (rows : ℕ) → Track → Patch → ℕ
-numberOf rows was patch =
-    lowest (boundsFine rows (patch .start)) (wholeRows (length (was .features)) rows featureWidth (patch .start) (length (patch .new)))
-    (roomFine rows (length (was .similarity)) (length (was .novelty))) (valuesFine rows was (patch .new))
+unfoldable pub featurePatchNumber : (rows : ℕ) → FeatureTrack → Patch → ℕ
+featurePatchNumber rows was patch =
+    lowest (featurePatchBounds rows (patch .start)) (wholeRows (length (was .features)) rows featureWidth (patch .start) (length (patch .new)))
+    (featurePatchRoom rows (length (was .similarity)) (length (was .novelty))) (featurePatchValues rows was (patch .new))
 
 -- ---- the call
 
@@ -122,16 +122,16 @@ abbrev pub featuresNamed : (rows : ℕ) → Patch → List ℕ
 featuresNamed rows patch = rangesNamed (patch .new) (ranges (similarityFirst patch) (similarityPast patch) (noveltyFirst patch) (noveltyPast rows patch))
 
 -- Inner: the one answer with this number that says so (`is-answered`, proofs/Outcomes)
-unfoldable pub answered : (number rows : ℕ) → Patch → PatchedFeatures
-answered zero rows patch =
+unfoldable pub featuresAnswered : (number rows : ℕ) → Patch → PatchedFeatures
+featuresAnswered zero rows patch =
     unlessEmpty (patch .new) (Wrote (similarityFirst patch) (similarityPast patch) (noveltyFirst patch) (noveltyPast rows patch)) (Wrote 0 0 0 0)
-answered (suc k) rows patch = Refused (suc k)
+featuresAnswered (suc k) rows patch = Refused (suc k)
 
 -- the track afterwards: a refusal and an empty patch change nothing
-unfoldable pub after : (rows : ℕ) → Track → Patch → Track
-after rows was patch = unlessRefused (numberOf rows was patch) (unlessEmpty (patch .new) (mended rows was patch) was) was
+unfoldable pub featuresAfter : (rows : ℕ) → FeatureTrack → Patch → FeatureTrack
+featuresAfter rows was patch = unlessRefused (featurePatchNumber rows was patch) (unlessEmpty (patch .new) (mendedFeatures rows was patch) was) was
 
 -- What `patch_features` promises: its answer, and the track afterwards, each slot of it.
-pub record Patches (rows : ℕ) (was : Track) (patch : Patch) (answer : PatchedFeatures) (now : Track) : Type 0 where
-  pub answer-is : patchedFeaturesSays answer ≡ returned (numberOf rows was patch) (featuresNamed rows patch)
-  pub track-is : now ≡ after rows was patch
+pub record PatchFeaturesPromise (rows : ℕ) (was : FeatureTrack) (patch : Patch) (answer : PatchedFeatures) (now : FeatureTrack) : Type 0 where
+  pub answer-is : patchedFeaturesSays answer ≡ returned (featurePatchNumber rows was patch) (featuresNamed rows patch)
+  pub track-is : now ≡ featuresAfter rows was patch

@@ -9,9 +9,9 @@ ghost use lib.ListN.{length};
 ghost use Rattle.numbers.specs.Limits.{mostFeatures};
 ghost use Rattle.numbers.specs.Lists.{filled};
 ghost use Rattle.numbers.specs.Rounded.{pick};
-ghost use Rattle.patching.specs.Patches.{patchOf};
+ghost use Rattle.patches.specs.PatchFeaturesPromise.{patchOf};
 ghost use Rattle.row_pairs.specs.Pairs.{similarityAt};
-ghost use Rattle.patch_features.specs.Features.{track, firstPair, replaced, touched, mendedAt, boundsFine, roomFine, valuesFine, numberOf, Patches};
+ghost use Rattle.patch_features.specs.Features.{featureTrack, firstPair, replaced, touched, mendedAt, featurePatchBounds, featurePatchRoom, featurePatchValues, featurePatchNumber, PatchFeaturesPromise};
 
 // how many rows after its own a similarity reaches
 const BAND: usize = 16;
@@ -48,9 +48,9 @@ pub fn patch_features(
     novelty: &mut [f64],
 ) -> PatchedFeatures
     ensures { λ r. ⌜
-        Patches rows
-        (track (now (features .entry)) (now (similarity .entry)) (now (novelty .entry))) (patchOf start (now (new .entry)))
-        r (track (now (features .exit)) (now (similarity .exit)) (now (novelty .exit)))
+        PatchFeaturesPromise rows
+        (featureTrack (now (features .entry)) (now (similarity .entry)) (now (novelty .entry))) (patchOf start (now (new .entry)))
+        r (featureTrack (now (features .exit)) (now (similarity .exit)) (now (novelty .exit)))
         ⌝ }
 {
     let number = refusal(features, rows, start, new, similarity, novelty);
@@ -65,7 +65,7 @@ pub fn patch_features(
             novelty_past: 0,
         };
     }
-    patching::copy_values(features, start * numbers::FEATURE_WIDTH, new);
+    patches::copy_values(features, start * numbers::FEATURE_WIDTH, new);
     let past = start + new.len() / numbers::FEATURE_WIDTH;
     let similarity_first = first_pair(start);
     let similarity_past = past * BAND_WIDTH;
@@ -157,12 +157,12 @@ fn refusal(
     similarity: &[f64],
     novelty: &[f64],
 ) -> u32
-    ensures { λ r. ⌜ r ≡ numberOf rows (track (now (features .entry)) (now (similarity .entry)) (now (novelty .entry))) (patchOf start (now (new .entry))) ⌝ }
+    ensures { λ r. ⌜ r ≡ featurePatchNumber rows (featureTrack (now (features .entry)) (now (similarity .entry)) (now (novelty .entry))) (patchOf start (now (new .entry))) ⌝ }
 {
     if !bounds_fine(rows, start) {
         return numbers::OUT_OF_BOUNDS;
     }
-    if !patching::whole_rows(
+    if !patches::whole_rows(
         features.len(),
         rows,
         numbers::FEATURE_WIDTH,
@@ -181,14 +181,14 @@ fn refusal(
 }
 
 fn bounds_fine(rows: usize, start: usize) -> bool
-    ensures { λ r. ⌜ r ≡ boundsFine rows start ⌝ }
+    ensures { λ r. ⌜ r ≡ featurePatchBounds rows start ⌝ }
 {
     rows <= numbers::MOST_FEATURES && start <= rows
 }
 
 fn room_fine(rows: usize, similarity: usize, novelty: usize) -> bool
     requires { ⌜ rows ≤ mostFeatures ⌝ }
-    ensures { λ r. ⌜ r ≡ roomFine rows similarity novelty ⌝ }
+    ensures { λ r. ⌜ r ≡ featurePatchRoom rows similarity novelty ⌝ }
 {
     rows * BAND_WIDTH <= similarity && rows <= novelty
 }
@@ -201,7 +201,7 @@ fn values_fine(
     novelty: &[f64],
 ) -> bool
     requires { ⌜ (rows ≤ mostFeatures) × (rows * 17 ≤ length (now similarity)) × (rows ≤ length (now novelty)) ⌝ }
-    ensures { λ r. ⌜ r ≡ valuesFine rows (track (now (features .entry)) (now (similarity .entry)) (now (novelty .entry))) (now (new .entry)) ⌝ }
+    ensures { λ r. ⌜ r ≡ featurePatchValues rows (featureTrack (now (features .entry)) (now (similarity .entry)) (now (novelty .entry))) (now (new .entry)) ⌝ }
 {
     if !numbers::values_fine(features) {
         return false;

@@ -3,7 +3,7 @@ use mathlib.Core.List.{[]}
 use mathlib.Core.Path.{_≡_, refl}
 use Rattle.numbers.specs.Lists.{curve}
 use Rattle.numbers.specs.Rounded.{nought}
-use Rattle.patching.specs.Patches.{patchOf, ranges, returned}
+use Rattle.patches.specs.Patches.{patchOf, ranges, returned}
 use Rattle.patch_magnitudes.specs.Magnitudes.{rowsNamed}
 
 -- rows 15 and 16

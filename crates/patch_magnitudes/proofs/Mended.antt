@@ -15,9 +15,9 @@ use Rattle.flux.proofs.Fluxes.{flux-over, flux-local, flux-curve-within, flux-c
 use Rattle.threshold.proofs.Thresholds.{threshold-local, threshold-curve-fine}
 use Rattle.flux.specs.Flux.{fluxAt}
 use Rattle.threshold.specs.Threshold.{reach, thresholdAt}
-use Rattle.patching.proofs.Parts.{take-filled, drop-filled}
-use Rattle.patching.specs.Patches.{Patch, edited}
-use Rattle.patch_refusal.specs.Tracks.{Track}
+use Rattle.patches.proofs.Parts.{take-filled, drop-filled}
+use Rattle.patches.specs.Patches.{Patch, edited}
+use Rattle.patch_refusal.specs.Tracks.{MagnitudeTrack}
 use Rattle.patch_magnitudes.specs.Magnitudes.{
   fluxFirst,
   fluxPast,
@@ -31,7 +31,7 @@ use Rattle.patch_refusal.proofs.Asked.{Asked}
 
 -- ---- one patch
 
-module _ (rows bins : ℕ) (was : Track) (patch : Patch) (room : ℕ) (a : Asked rows bins was patch room) where
+module _ (rows bins : ℕ) (was : MagnitudeTrack) (patch : Patch) (room : ℕ) (a : Asked rows bins was patch room) where
   abbrev rowsNow : List Float
   rowsNow = edited bins (was .magnitudes) patch
 

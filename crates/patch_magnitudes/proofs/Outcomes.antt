@@ -8,12 +8,12 @@ use Rattle.numbers.proofs.Tests.{refused-keeps}
 use Rattle.numbers.specs.Lists.{filled}
 use Rattle.flux.specs.Flux.{fluxAt}
 use Rattle.threshold.specs.Threshold.{thresholdAt, windowRoom}
-use Rattle.patching.proofs.Wholes.{empty-keeps, full-does}
-use Rattle.patching.proofs.Answers.{same-number, same-slots, some-slots, refused-returns}
-use Rattle.patching.specs.Patches.{Patch, edited, unlessEmpty, ranges, rangesNamed, returned}
+use Rattle.patches.proofs.Wholes.{empty-keeps, full-does}
+use Rattle.patches.proofs.Answers.{same-number, same-slots, some-slots, refused-returns}
+use Rattle.patches.specs.PatchMagnitudesPromise.{Patch, edited, unlessEmpty, ranges, rangesNamed, returned}
 use Rattle.patch_magnitudes.specs.declared.Patched.{Patched}
 use Rattle.patch_magnitudes.specs.declared.Patched.the-variants.{Refused, Wrote}
-use Rattle.patch_refusal.specs.Tracks.{Track, track, numberOf}
+use Rattle.patch_refusal.specs.Tracks.{MagnitudeTrack, magnitudeTrack, patchNumber}
 use Rattle.patch_magnitudes.specs.Magnitudes.{
   fluxPast,
   thresholdFirst,
@@ -23,10 +23,10 @@ use Rattle.patch_magnitudes.specs.Magnitudes.{
   mended,
   patchedSays,
   rowsNamed,
-  answered,
+  patchAnswered,
   after,
-  sortedIn,
-  Patches,
+  patchSortedIn,
+  PatchMagnitudesPromise,
 }
 
 -- what an answer says tells which it is
@@ -36,25 +36,25 @@ says-one (Wrote f g t u) (Wrote f′ g′ t′ u′) e = cc (same-slots e)
 says-one (Refused k) (Wrote f g t u) e = absurd (some-slots (same-slots e))
 says-one (Wrote f g t u) (Refused k) e = absurd (some-slots (sym (same-slots e)))
 
--- `answered` says its number and the slots that the patch names, and no other answer does
+-- `patchAnswered` says its number and the slots that the patch names, and no other answer does
 wrote-says : (a b c d : ℕ) (new : List Float) → patchedSays (unlessEmpty new (Wrote a b c d) (Wrote 0 0 0 0)) ≡ (0, rangesNamed new (ranges a b c d))
 wrote-says a b c d [] = refl
 wrote-says a b c d (x ∷ xs) = refl
 
-pub answered-says : (n rows bins : ℕ) (patch : Patch) → patchedSays (answered n rows bins patch) ≡ returned n (rowsNamed rows bins patch)
-unfolding answered
+pub answered-says : (n rows bins : ℕ) (patch : Patch) → patchedSays (patchAnswered n rows bins patch) ≡ returned n (rowsNamed rows bins patch)
+unfolding patchAnswered
 answered-says zero rows bins patch = wrote-says _ _ _ _ (patch .new)
 answered-says (suc k) rows bins patch = refl
 
-pub is-answered : {rows bins : ℕ} {was : Track} {patch : Patch} {work : List Float} {answer : Patched} {now : Track} {work′ : List Float}
-    → Patches rows bins was patch work answer now work′ → answer ≡ answered (numberOf rows bins was patch (length work)) rows bins patch
+pub is-answered : {rows bins : ℕ} {was : MagnitudeTrack} {patch : Patch} {work : List Float} {answer : Patched} {now : MagnitudeTrack} {work′ : List Float}
+    → PatchMagnitudesPromise rows bins was patch work answer now work′ → answer ≡ patchAnswered (patchNumber rows bins was patch (length work)) rows bins patch
 is-answered {rows} {bins} {patch = patch} done = says-one _ _ (done .answer-is ∙ sym (answered-says _ rows bins patch))
 
-module _ (rows bins : ℕ) (was : Track) (patch : Patch) (work : List Float) where
+module _ (rows bins : ℕ) (was : MagnitudeTrack) (patch : Patch) (work : List Float) where
   abbrev number : ℕ
-  number = numberOf rows bins was patch (length work)
+  number = patchNumber rows bins was patch (length work)
 
-  pub refused : (k : ℕ) → k ≡ number → (k ≡ 0 → ⊥) → Patches rows bins was patch work (Refused k) was work
+  pub refused : (k : ℕ) → k ≡ number → (k ≡ 0 → ⊥) → PatchMagnitudesPromise rows bins was patch work (Refused k) was work
   unfolding after
   refused k e h =
       record {
@@ -65,7 +65,7 @@ module _ (rows bins : ℕ) (was : Track) (patch : Patch) (work : List Float) whe
       }
 
   module _ (none : number ≡ 0) where
-    pub empty : length (patch .new) ≡ 0 → Patches rows bins was patch work (Wrote 0 0 0 0) was work
+    pub empty : length (patch .new) ≡ 0 → PatchMagnitudesPromise rows bins was patch work (Wrote 0 0 0 0) was work
     unfolding after
     empty e =
         record {
@@ -79,8 +79,8 @@ module _ (rows bins : ℕ) (was : Track) (patch : Patch) (work : List Float) whe
     pub wrote : (length (patch .new) ≡ 0 → ⊥) → (fp tf tp : ℕ) → fp ≡ fluxPast rows bins patch → tf ≡ thresholdFirst patch → tp ≡ thresholdPast rows bins patch
         → (m f t work′ : List Float) → m ≡ edited bins (was .magnitudes) patch → f ≡ filled (fluxAt m bins) (was .flux) (patch .start) fp
         → t ≡ filled (thresholdAt (take rows f)) (was .threshold) tf tp → length work′ ≡ length work → drop (windowRoom rows) work′ ≡ drop (windowRoom rows) work
-        → Patches rows bins was patch work (Wrote (patch .start) fp tf tp) (track m f t) work′
-    unfolding after mended mendedFlux mendedThreshold sortedIn
+        → PatchMagnitudesPromise rows bins was patch work (Wrote (patch .start) fp tf tp) (magnitudeTrack m f t) work′
+    unfolding after mended mendedFlux mendedThreshold patchSortedIn
     wrote some fp tf tp a b c m f t work′ em ef et l k =
         record {
           answer-is = rw (none, a, b, c, full-does _ (ranges 0 0 0 0) (patch .new) some);
@@ -90,8 +90,8 @@ module _ (rows bins : ℕ) (was : Track) (patch : Patch) (work : List Float) whe
         }
 
   -- any two outcomes coincide, but for the slots that are sorted in
-  pub unique : {a b : Patched} {x y : Track} {v w : List Float} → Patches rows bins was patch work a x v → Patches rows bins was patch work b y w
-      → (a ≡ b) × (x ≡ y) × (length v ≡ length w) × (drop (sortedIn number rows patch) v ≡ drop (sortedIn number rows patch) w)
+  pub unique : {a b : Patched} {x y : MagnitudeTrack} {v w : List Float} → PatchMagnitudesPromise rows bins was patch work a x v → PatchMagnitudesPromise rows bins was patch work b y w
+      → (a ≡ b) × (x ≡ y) × (length v ≡ length w) × (drop (patchSortedIn number rows patch) v ≡ drop (patchSortedIn number rows patch) w)
   unique p q = (
     says-one _ _ (p .answer-is ∙ sym (q .answer-is)),
     p .track-is ∙ sym (q .track-is),

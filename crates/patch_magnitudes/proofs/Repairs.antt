@@ -1,4 +1,4 @@
--- Demand 3, "Patching equals starting over", for magnitude rows with their flux and threshold curves. `Patches` is what
+-- Demand 3, "Patching equals starting over", for magnitude rows with their flux and threshold curves. `PatchMagnitudesPromise` is what
 -- `patch_magnitudes` promises, `after` the track that it leaves. What a theorem asks is written in it; no axiom stands behind one.
 use mathlib.Core.Bool.{true}
 use mathlib.Core.List.{List, [], _∷_}
@@ -17,13 +17,13 @@ use Rattle.numbers.specs.Outcomes.{Written}
 use Rattle.flux.proofs.Fluxes.{FluxFine, flux-asked}
 use Rattle.onsets.proofs.Onsets.{threshold-takes}
 use Rattle.flux.specs.Flux.{fluxAt, fluxRefusal}
-use Rattle.threshold.specs.Threshold.{thresholdAt, windowRoom, thresholdRefusal, Thresholds}
-use Rattle.patching.proofs.Parts.{filled-first, filled-rest, filled-by}
-use Rattle.patching.proofs.Wholes.{whole-asked}
-use Rattle.patching.specs.Patches.{Patch, patchOf, wholeRows, edited, unlessEmpty}
+use Rattle.threshold.specs.Threshold.{thresholdAt, windowRoom, thresholdRefusal, ThresholdPromise}
+use Rattle.patches.proofs.Parts.{filled-first, filled-rest, filled-by}
+use Rattle.patches.proofs.Wholes.{whole-asked}
+use Rattle.patches.specs.PatchMagnitudesPromise.{Patch, patchOf, wholeRows, edited, unlessEmpty}
 use Rattle.patch_magnitudes.specs.declared.Patched.{Patched}
 use Rattle.patch_magnitudes.specs.declared.Patched.the-variants.{Refused, Wrote}
-use Rattle.patch_refusal.specs.Tracks.{Track, track, valuesFine, numberOf}
+use Rattle.patch_refusal.specs.Tracks.{MagnitudeTrack, magnitudeTrack, patchValues, patchNumber}
 use Rattle.patch_magnitudes.specs.Magnitudes.{
   fluxFirst,
   fluxPast,
@@ -32,10 +32,10 @@ use Rattle.patch_magnitudes.specs.Magnitudes.{
   mendedFlux,
   mendedThreshold,
   mended,
-  answered,
+  patchAnswered,
   after,
-  sortedIn,
-  Patches,
+  patchSortedIn,
+  PatchMagnitudesPromise,
 }
 use Rattle.patch_magnitudes.specs.Runs.{fluxCurve, thresholdCurve, Fresh, Kept, Sound, Good, analysed, Ran, stays, patches, refuses, empties}
 use Rattle.patch_refusal.proofs.Asked.{Asked, asked, bounds-asked, room-asked}
@@ -43,19 +43,19 @@ use Rattle.patch_magnitudes.proofs.Outcomes.{is-answered}
 use Rattle.patch_magnitudes.proofs.Mended.{flux-mends, threshold-mends, flux-rest, threshold-rest, fluxes-fine, thresholds-fine}
 
 -- What holds of the track before a patch, and of a mended one, holds after it: it is refused, empty, or mended.
-by-outcome : (P : Track → Type 0) (rows bins : ℕ) (was : Track) (patch : Patch) (room : ℕ) → P was
+by-outcome : (P : MagnitudeTrack → Type 0) (rows bins : ℕ) (was : MagnitudeTrack) (patch : Patch) (room : ℕ) → P was
     → (Asked rows bins was patch room → P (mended rows bins was patch)) → P (after rows bins was patch room)
 unfolding after
-by-outcome P rows bins was patch room kept done = go (numberOf rows bins was patch room) (patch .new) refl
+by-outcome P rows bins was patch room kept done = go (patchNumber rows bins was patch room) (patch .new) refl
   where
-    go : (n : ℕ) (new : List Float) → numberOf rows bins was patch room ≡ n → P (unlessRefused n (unlessEmpty new (mended rows bins was patch) was) was)
+    go : (n : ℕ) (new : List Float) → patchNumber rows bins was patch room ≡ n → P (unlessRefused n (unlessEmpty new (mended rows bins was patch) was) was)
     go (suc n) new e = kept
     go zero [] e = kept
     go zero (x ∷ xs) e = done (asked rows bins was patch room e)
 
 -- ---- (1) Where the lent curves were those of the rows, they are those of the edited rows afterwards, bit for bit.
 
-mends : (rows bins : ℕ) (was : Track) (patch : Patch) (room : ℕ) → Fresh rows bins was → Asked rows bins was patch room
+mends : (rows bins : ℕ) (was : MagnitudeTrack) (patch : Patch) (room : ℕ) → Fresh rows bins was → Asked rows bins was patch room
     → Fresh rows bins (mended rows bins was patch)
 unfolding mended
 mends rows bins was patch room fresh a =
@@ -64,48 +64,48 @@ mends rows bins was patch room fresh a =
       threshold = threshold-mends rows bins was patch room a fresh;
     }
 
-pub patched-is-fresh : (rows bins : ℕ) (was : Track) (patch : Patch) (room : ℕ) → Fresh rows bins was → Fresh rows bins (after rows bins was patch room)
+pub patched-is-fresh : (rows bins : ℕ) (was : MagnitudeTrack) (patch : Patch) (room : ℕ) → Fresh rows bins was → Fresh rows bins (after rows bins was patch room)
 patched-is-fresh rows bins was patch room fresh =
     by-outcome (Fresh rows bins) rows bins was patch room fresh (mends rows bins was patch room fresh)
 
 -- what `patch_magnitudes` promises of one call, whatever it answers
-pub call-is-fresh : (rows bins : ℕ) (was : Track) (patch : Patch) (work : List Float) (answer : Patched) (now : Track) (work′ : List Float)
-    → Fresh rows bins was → Patches rows bins was patch work answer now work′ → Fresh rows bins now
+pub call-is-fresh : (rows bins : ℕ) (was : MagnitudeTrack) (patch : Patch) (work : List Float) (answer : Patched) (now : MagnitudeTrack) (work′ : List Float)
+    → Fresh rows bins was → PatchMagnitudesPromise rows bins was patch work answer now work′ → Fresh rows bins now
 call-is-fresh rows bins was patch work answer now work′ fresh done = rw (done .track-is) (patched-is-fresh rows bins was patch (length work) fresh)
 
 -- ---- (2) An accepted patch leaves the edited rows. Outside them and the slots that the answer names nothing differs.
 
-module _ (rows bins : ℕ) (was : Track) (f g t u : ℕ) (now : Track) where
-  accepted-passes : (n : ℕ) (patch : Patch) → Wrote f g t u ≡ answered n rows bins patch → n ≡ 0
-  unfolding answered
+module _ (rows bins : ℕ) (was : MagnitudeTrack) (f g t u : ℕ) (now : MagnitudeTrack) where
+  accepted-passes : (n : ℕ) (patch : Patch) → Wrote f g t u ≡ patchAnswered n rows bins patch → n ≡ 0
+  unfolding patchAnswered
   accepted-passes zero patch h = refl
   accepted-passes (suc n) patch h = let z : _≡_ {A = ℕ} 0 1 = cc in absurd (omega arith)
 
-  edited-by : (n start : ℕ) (new : List Float) → Wrote f g t u ≡ answered n rows bins (patchOf start new)
+  edited-by : (n start : ℕ) (new : List Float) → Wrote f g t u ≡ patchAnswered n rows bins (patchOf start new)
       → now ≡ unlessRefused n (unlessEmpty new (mended rows bins was (patchOf start new)) was) was → now .magnitudes ≡ edited bins (was .magnitudes) (patchOf start new)
-  unfolding answered mended edited
+  unfolding patchAnswered mended edited
   edited-by (suc n) start new h k = let z : _≡_ {A = ℕ} 0 1 = cc in absurd (omega arith)
-  edited-by zero start [] h k = ap (λ (s : Track). s .magnitudes) k ∙ sym (over-none (was .magnitudes) (start * bins))
-  edited-by zero start (x ∷ xs) h k = ap (λ (s : Track). s .magnitudes) k
+  edited-by zero start [] h k = ap (λ (s : MagnitudeTrack). s .magnitudes) k ∙ sym (over-none (was .magnitudes) (start * bins))
+  edited-by zero start (x ∷ xs) h k = ap (λ (s : MagnitudeTrack). s .magnitudes) k
 
-pub accepted-is-edited : (rows bins : ℕ) (was : Track) (patch : Patch) (work : List Float) (f g t u : ℕ) (now : Track) (work′ : List Float)
-    → Patches rows bins was patch work (Wrote f g t u) now work′ → now .magnitudes ≡ edited bins (was .magnitudes) patch
+pub accepted-is-edited : (rows bins : ℕ) (was : MagnitudeTrack) (patch : Patch) (work : List Float) (f g t u : ℕ) (now : MagnitudeTrack) (work′ : List Float)
+    → PatchMagnitudesPromise rows bins was patch work (Wrote f g t u) now work′ → now .magnitudes ≡ edited bins (was .magnitudes) patch
 unfolding after
 accepted-is-edited rows bins was patch work f g t u now work′ done =
-    edited-by rows bins was f g t u now (numberOf rows bins was patch (length work)) (patch .start) (patch .new) (is-answered done) (done .track-is)
+    edited-by rows bins was f g t u now (patchNumber rows bins was patch (length work)) (patch .start) (patch .new) (is-answered done) (done .track-is)
 
 -- row a + j is then the patch's row j
-pub replaced-are-new : (rows bins : ℕ) (was : Track) (patch : Patch) (work : List Float) (f g t u : ℕ) (now : Track) (work′ : List Float)
-    → Patches rows bins was patch work (Wrote f g t u) now work′
+pub replaced-are-new : (rows bins : ℕ) (was : MagnitudeTrack) (patch : Patch) (work : List Float) (f g t u : ℕ) (now : MagnitudeTrack) (work′ : List Float)
+    → PatchMagnitudesPromise rows bins was patch work (Wrote f g t u) now work′
     → (j : ℕ) → j < length (patch .new) / bins → row (now .magnitudes) bins (patch .start + j) ≡ row (patch .new) bins j
 unfolding edited
 replaced-are-new rows bins was patch work f g t u now work′ done j h =
-    let z = accepted-passes rows bins was f g t u now (numberOf rows bins was patch (length work)) patch (is-answered done) in
+    let z = accepted-passes rows bins was f g t u now (patchNumber rows bins was patch (length work)) patch (is-answered done) in
     let w = asked rows bins was patch (length work) z .lengths in
     ap (λ (m : List Float). row m bins (patch .start + j)) (accepted-is-edited rows bins was patch work f g t u now work′ done)
     ∙ row-over-in (was .magnitudes) (patch .new) rows bins (patch .start) (length (patch .new) / bins) nan (w .whole) (w .new-whole) (w .inside) j h
 
-unmoved : (bins : ℕ) (patch : Patch) (f g t u : ℕ) (was : Track) → Kept bins patch f g t u was was
+unmoved : (bins : ℕ) (patch : Patch) (f g t u : ℕ) (was : MagnitudeTrack) → Kept bins patch f g t u was was
 unmoved bins patch f g t u was =
     record {
       magnitudes-length = refl;
@@ -116,7 +116,7 @@ unmoved bins patch f g t u was =
       threshold-stays = λ i h. refl;
     }
 
-mended-keeps : (rows bins : ℕ) (was : Track) (patch : Patch) (room : ℕ) → Asked rows bins was patch room
+mended-keeps : (rows bins : ℕ) (was : MagnitudeTrack) (patch : Patch) (room : ℕ) → Asked rows bins was patch room
     → Kept bins patch (fluxFirst patch) (fluxPast rows bins patch) (thresholdFirst patch) (thresholdPast rows bins patch) was (mended rows bins was patch)
 unfolding mended mendedFlux mendedThreshold edited
 mended-keeps rows bins was patch room a =
@@ -132,10 +132,10 @@ mended-keeps rows bins was patch room a =
       threshold-stays = λ i h. filled-outside _ (was .threshold) _ _ (omega arith) (omega arith) i nan h;
     }
 
-module _ (rows bins : ℕ) (was : Track) (room f g t u : ℕ) (now : Track) where
-  kept-by : (n start : ℕ) (new : List Float) → numberOf rows bins was (patchOf start new) room ≡ n → Wrote f g t u ≡ answered n rows bins (patchOf start new)
+module _ (rows bins : ℕ) (was : MagnitudeTrack) (room f g t u : ℕ) (now : MagnitudeTrack) where
+  kept-by : (n start : ℕ) (new : List Float) → patchNumber rows bins was (patchOf start new) room ≡ n → Wrote f g t u ≡ patchAnswered n rows bins (patchOf start new)
       → now ≡ unlessRefused n (unlessEmpty new (mended rows bins was (patchOf start new)) was) was → Kept bins (patchOf start new) f g t u was now
-  unfolding answered
+  unfolding patchAnswered
   kept-by (suc n) start new e h k = let z : _≡_ {A = ℕ} 0 1 = cc in absurd (omega arith)
   kept-by zero start [] e h k = rw k (unmoved bins (patchOf start []) f g t u was)
   kept-by zero start (x ∷ xs) e h k =
@@ -146,52 +146,52 @@ module _ (rows bins : ℕ) (was : Track) (room f g t u : ℕ) (now : Track) wher
       let s : u ≡ thresholdPast rows bins patch = cc in
       rw (k, p, q, r, s) (mended-keeps rows bins was patch room (asked rows bins was patch room e))
 
-pub outside-stays : (rows bins : ℕ) (was : Track) (patch : Patch) (work : List Float) (f g t u : ℕ) (now : Track) (work′ : List Float)
-    → Patches rows bins was patch work (Wrote f g t u) now work′ → Kept bins patch f g t u was now
+pub outside-stays : (rows bins : ℕ) (was : MagnitudeTrack) (patch : Patch) (work : List Float) (f g t u : ℕ) (now : MagnitudeTrack) (work′ : List Float)
+    → PatchMagnitudesPromise rows bins was patch work (Wrote f g t u) now work′ → Kept bins patch f g t u was now
 unfolding after
 outside-stays rows bins was patch work f g t u now work′ done =
-    kept-by rows bins was (length work) f g t u now (numberOf rows bins was patch (length work)) (patch .start) (patch .new) refl
+    kept-by rows bins was (length work) f g t u now (patchNumber rows bins was patch (length work)) (patch .start) (patch .new) refl
     (is-answered done) (done .track-is)
 
 -- ---- (3) An empty patch changes nothing. (4) A refused one changes nothing.
 
-empty-keeps-all : (n rows start : ℕ) (was now : Track) (work work′ : List Float) → now ≡ unlessRefused n was was
-    → drop (sortedIn n rows (patchOf start [])) work′ ≡ drop (sortedIn n rows (patchOf start [])) work → (now ≡ was) × (work′ ≡ work)
-unfolding sortedIn
+empty-keeps-all : (n rows start : ℕ) (was now : MagnitudeTrack) (work work′ : List Float) → now ≡ unlessRefused n was was
+    → drop (patchSortedIn n rows (patchOf start [])) work′ ≡ drop (patchSortedIn n rows (patchOf start [])) work → (now ≡ was) × (work′ ≡ work)
+unfolding patchSortedIn
 empty-keeps-all zero rows start was now work work′ e h = (e, h)
 empty-keeps-all (suc n) rows start was now work work′ e h = (e, h)
 
-pub empty-changes-nothing : (rows bins : ℕ) (was : Track) (start : ℕ) (work : List Float) (answer : Patched) (now : Track) (work′ : List Float)
-    → Patches rows bins was (patchOf start []) work answer now work′ → (now ≡ was) × (work′ ≡ work)
+pub empty-changes-nothing : (rows bins : ℕ) (was : MagnitudeTrack) (start : ℕ) (work : List Float) (answer : Patched) (now : MagnitudeTrack) (work′ : List Float)
+    → PatchMagnitudesPromise rows bins was (patchOf start []) work answer now work′ → (now ≡ was) × (work′ ≡ work)
 unfolding after
 empty-changes-nothing rows bins was start work answer now work′ done =
-    empty-keeps-all (numberOf rows bins was (patchOf start []) (length work)) rows start was now work work′ (done .track-is) (done .work-keeps)
+    empty-keeps-all (patchNumber rows bins was (patchOf start []) (length work)) rows start was now work work′ (done .track-is) (done .work-keeps)
 
-module _ (rows bins : ℕ) (was now : Track) (work work′ : List Float) (k : ℕ) where
-  refused-keeps-all : (n start : ℕ) (new : List Float) → Refused k ≡ answered n rows bins (patchOf start new)
+module _ (rows bins : ℕ) (was now : MagnitudeTrack) (work work′ : List Float) (k : ℕ) where
+  refused-keeps-all : (n start : ℕ) (new : List Float) → Refused k ≡ patchAnswered n rows bins (patchOf start new)
       → now ≡ unlessRefused n (unlessEmpty new (mended rows bins was (patchOf start new)) was) was
-      → drop (sortedIn n rows (patchOf start new)) work′ ≡ drop (sortedIn n rows (patchOf start new)) work → (now ≡ was) × (work′ ≡ work)
-  unfolding answered sortedIn
+      → drop (patchSortedIn n rows (patchOf start new)) work′ ≡ drop (patchSortedIn n rows (patchOf start new)) work → (now ≡ was) × (work′ ≡ work)
+  unfolding patchAnswered patchSortedIn
   refused-keeps-all (suc n) start new e h w = (h, w)
   refused-keeps-all zero start [] e h w = let z : _≡_ {A = ℕ} 0 1 = cc in absurd (omega arith)
   refused-keeps-all zero start (x ∷ xs) e h w = let z : _≡_ {A = ℕ} 0 1 = cc in absurd (omega arith)
 
-pub refused-changes-nothing : (rows bins : ℕ) (was : Track) (patch : Patch) (work : List Float) (k : ℕ) (now : Track) (work′ : List Float)
-    → Patches rows bins was patch work (Refused k) now work′ → (now ≡ was) × (work′ ≡ work)
+pub refused-changes-nothing : (rows bins : ℕ) (was : MagnitudeTrack) (patch : Patch) (work : List Float) (k : ℕ) (now : MagnitudeTrack) (work′ : List Float)
+    → PatchMagnitudesPromise rows bins was patch work (Refused k) now work′ → (now ≡ was) × (work′ ≡ work)
 unfolding after
 refused-changes-nothing rows bins was patch work k now work′ done =
-    refused-keeps-all rows bins was now work work′ k (numberOf rows bins was patch (length work)) (patch .start) (patch .new)
+    refused-keeps-all rows bins was now work work′ k (patchNumber rows bins was patch (length work)) (patch .start) (patch .new)
     (is-answered done) (done .track-is) (done .work-keeps)
 
 -- ---- (5) Any run of patches on a fresh analysis, refused ones among them, ends as one fresh analysis of the last rows.
 
 -- what each step keeps: the curves are those of the rows, and what lies behind them is as it was lent
-record Going (rows bins : ℕ) (lent st : Track) : Type 0 where
+record Going (rows bins : ℕ) (lent st : MagnitudeTrack) : Type 0 where
   fresh : Fresh rows bins st
   flux-rest : drop rows (st .flux) ≡ drop rows (lent .flux)
   threshold-rest : drop rows (st .threshold) ≡ drop rows (lent .threshold)
 
-going-on : (rows bins : ℕ) (lent st : Track) (patch : Patch) (room : ℕ) → Going rows bins lent st → Asked rows bins st patch room
+going-on : (rows bins : ℕ) (lent st : MagnitudeTrack) (patch : Patch) (room : ℕ) → Going rows bins lent st → Asked rows bins st patch room
     → Going rows bins lent (mended rows bins st patch)
 unfolding mended
 going-on rows bins lent st patch room h a =
@@ -202,16 +202,16 @@ going-on rows bins lent st patch room h a =
     }
 
 -- what a mended patch keeps, calls one after the other keep
-calls-keep : (P : Track → Type 0) (rows bins : ℕ)
-    → ((was : Track) (patch : Patch) (room : ℕ) → P was → Asked rows bins was patch room → P (mended rows bins was patch))
-    → {was now : Track} → P was → Ran rows bins was now → P now
+calls-keep : (P : MagnitudeTrack → Type 0) (rows bins : ℕ)
+    → ((was : MagnitudeTrack) (patch : Patch) (room : ℕ) → P was → Asked rows bins was patch room → P (mended rows bins was patch))
+    → {was now : MagnitudeTrack} → P was → Ran rows bins was now → P now
 calls-keep P rows bins keeps h stays = h
 calls-keep P rows bins keeps h (patches p ran) =
     calls-keep P rows bins keeps (rw (p .track-is) (by-outcome P rows bins _ _ _ h (keeps _ _ _ h))) ran
 calls-keep P rows bins keeps h (refuses p ran) = calls-keep P rows bins keeps (rw (refused-changes-nothing _ _ _ _ _ _ _ _ p .0) h) ran
 calls-keep P rows bins keeps h (empties p ran) = calls-keep P rows bins keeps (rw (empty-changes-nothing _ _ _ _ _ _ _ _ p .0) h) ran
 
-module _ (rows bins : ℕ) (lent : Track) where
+module _ (rows bins : ℕ) (lent : MagnitudeTrack) where
   pub analysed-is-fresh : Fresh rows bins (analysed rows bins lent)
   unfolding analysed fluxCurve thresholdCurve
   analysed-is-fresh = record { flux = filled-first _ (lent .flux) rows; threshold = filled-first _ (lent .threshold) rows }
@@ -220,25 +220,25 @@ module _ (rows bins : ℕ) (lent : Track) where
   unfolding analysed
   analysed-going = record { fresh = analysed-is-fresh; flux-rest = filled-rest _ (lent .flux) rows; threshold-rest = filled-rest _ (lent .threshold) rows }
 
-  going-is-analysed : (st : Track) → Going rows bins lent st → st ≡ analysed rows bins (track (st .magnitudes) (lent .flux) (lent .threshold))
+  going-is-analysed : (st : MagnitudeTrack) → Going rows bins lent st → st ≡ analysed rows bins (magnitudeTrack (st .magnitudes) (lent .flux) (lent .threshold))
   unfolding analysed fluxCurve thresholdCurve
   going-is-analysed st h =
-      ap (λ (f : List Float). track (st .magnitudes) f (st .threshold))
+      ap (λ (f : List Float). magnitudeTrack (st .magnitudes) f (st .threshold))
       (filled-by (fluxAt (st .magnitudes) bins) (lent .flux) (st .flux) rows (h .fresh .flux) (h .flux-rest))
-      ∙ ap (λ (t : List Float). track (st .magnitudes) (filled (fluxAt (st .magnitudes) bins) (lent .flux) 0 rows) t)
+      ∙ ap (λ (t : List Float). magnitudeTrack (st .magnitudes) (filled (fluxAt (st .magnitudes) bins) (lent .flux) 0 rows) t)
       (filled-by (thresholdAt (fluxCurve rows bins (st .magnitudes))) (lent .threshold) (st .threshold) rows (h .fresh .threshold) (h .threshold-rest))
 
   -- calls one after the other, refused and empty ones of any rows and bins among them
-  pub calls-are-one-analysis : {now : Track} → Ran rows bins (analysed rows bins lent) now
-      → now ≡ analysed rows bins (track (now .magnitudes) (lent .flux) (lent .threshold))
+  pub calls-are-one-analysis : {now : MagnitudeTrack} → Ran rows bins (analysed rows bins lent) now
+      → now ≡ analysed rows bins (magnitudeTrack (now .magnitudes) (lent .flux) (lent .threshold))
   calls-are-one-analysis {now} ran = going-is-analysed now (calls-keep (Going rows bins lent) rows bins (going-on rows bins lent) analysed-going ran)
 
 -- the same of curves that were fresh to begin with, wherever they came from
-pub calls-end-fresh : (rows bins : ℕ) {was now : Track} → Fresh rows bins was → Ran rows bins was now → Fresh rows bins now
+pub calls-end-fresh : (rows bins : ℕ) {was now : MagnitudeTrack} → Fresh rows bins was → Ran rows bins was now → Fresh rows bins now
 calls-end-fresh rows bins fresh ran = calls-keep (Fresh rows bins) rows bins (mends rows bins) fresh ran
 
 -- what the two calls of the analysis write, where neither refuses, is `analysed`
-module _ (rows bins : ℕ) (lent : Track) (flux threshold work work′ : List Float) where
+module _ (rows bins : ℕ) (lent : MagnitudeTrack) (flux threshold work work′ : List Float) where
   flux-written :
       Written (fluxRefusal (lent .magnitudes) rows bins (length (lent .flux))) (filled (fluxAt (lent .magnitudes) bins) (lent .flux) 0 rows) (lent .flux) 0 flux
       → flux ≡ filled (fluxAt (lent .magnitudes) bins) (lent .flux) 0 rows
@@ -249,7 +249,7 @@ module _ (rows bins : ℕ) (lent : Track) (flux threshold work work′ : List Fl
 
   pub calls-analyse :
       Written (fluxRefusal (lent .magnitudes) rows bins (length (lent .flux))) (filled (fluxAt (lent .magnitudes) bins) (lent .flux) 0 rows) (lent .flux) 0 flux
-      → Thresholds (take rows flux) (lent .threshold) work 0 threshold work′ → track (lent .magnitudes) flux threshold ≡ analysed rows bins lent
+      → ThresholdPromise (take rows flux) (lent .threshold) work 0 threshold work′ → magnitudeTrack (lent .magnitudes) flux threshold ≡ analysed rows bins lent
   unfolding analysed fluxCurve
   calls-analyse w t =
       let f = flux-written w in
@@ -257,16 +257,16 @@ module _ (rows bins : ℕ) (lent : Track) (flux threshold work work′ : List Fl
       let l : length (take rows flux) ≡ rows = ap length c ∙ length-tab (fluxAt (lent .magnitudes) bins) 0 rows in
       let e : threshold ≡ filled (thresholdAt (take rows flux)) (lent .threshold) 0 (length (take rows flux)) =
       t .curve .slots-are ∙ passed-does _ _ _ (sym (t .curve .number-is)) in
-      ap (λ (x : List Float). track (lent .magnitudes) x threshold) f
-      ∙ ap (track (lent .magnitudes) (filled (fluxAt (lent .magnitudes) bins) (lent .flux) 0 rows))
+      ap (λ (x : List Float). magnitudeTrack (lent .magnitudes) x threshold) f
+      ∙ ap (magnitudeTrack (lent .magnitudes) (filled (fluxAt (lent .magnitudes) bins) (lent .flux) 0 rows))
       (e ∙ ap (filled (thresholdAt (take rows flux)) (lent .threshold) 0) l ∙ ap (λ (x : List Float). filled (thresholdAt x) (lent .threshold) 0 rows) c)
 
   -- and neither refuses a sound track with room to sort in: there is one fresh analysis of it
   pub sound-is-analysed : (n m : ℕ) → Sound rows bins lent → windowRoom rows ≤ length work
       → Written (fluxRefusal (lent .magnitudes) rows bins (length (lent .flux))) (filled (fluxAt (lent .magnitudes) bins) (lent .flux) 0 rows)
       (lent .flux) n flux
-      → Thresholds (take rows flux) (lent .threshold) work m threshold work′
-      → (n ≡ 0) × (m ≡ 0) × (track (lent .magnitudes) flux threshold ≡ analysed rows bins lent)
+      → ThresholdPromise (take rows flux) (lent .threshold) work m threshold work′
+      → (n ≡ 0) × (m ≡ 0) × (magnitudeTrack (lent .magnitudes) flux threshold ≡ analysed rows bins lent)
   sound-is-analysed n m s r w t =
       let ok : FluxFine (lent .magnitudes) rows bins (length (lent .flux)) = record {
         rows-fit = s .rows-fit;
@@ -285,9 +285,9 @@ module _ (rows bins : ℕ) (lent : Track) (flux threshold work work′ : List Fl
 
 -- ---- (6) A good patch on fresh curves is accepted, at any place of a run.
 
-pub good-is-accepted : (rows bins : ℕ) (was : Track) (patch : Patch) (room : ℕ) → Sound rows bins was → Fresh rows bins was → Good rows bins patch room
-    → numberOf rows bins was patch room ≡ 0
-unfolding numberOf valuesFine
+pub good-is-accepted : (rows bins : ℕ) (was : MagnitudeTrack) (patch : Patch) (room : ℕ) → Sound rows bins was → Fresh rows bins was → Good rows bins patch room
+    → patchNumber rows bins was patch room ≡ 0
+unfolding patchNumber patchValues
 good-is-accepted rows bins was patch room sound fresh good =
     let k : patch .start ≤ rows = let h : patch .start + good .count ≤ rows = good .inside in omega arith in
     let lengths : wholeRows (length (was .magnitudes)) rows bins (patch .start) (length (patch .new)) ≡ true =
@@ -305,7 +305,7 @@ good-is-accepted rows bins was patch room sound fresh good =
     (and-both (every magnitudeFine (patch .new)) _ (good .fine) (and-both (every valueFine (take rows (was .flux))) _ flux threshold)))
 
 -- a patch leaves a sound track sound
-mended-sound : (rows bins : ℕ) (was : Track) (patch : Patch) (room : ℕ) → Sound rows bins was → Asked rows bins was patch room
+mended-sound : (rows bins : ℕ) (was : MagnitudeTrack) (patch : Patch) (room : ℕ) → Sound rows bins was → Asked rows bins was patch room
     → Sound rows bins (mended rows bins was patch)
 unfolding mended edited
 mended-sound rows bins was patch room s a =
@@ -320,10 +320,10 @@ mended-sound rows bins was patch room s a =
       threshold-room = rw (kept .threshold-length) (s .threshold-room);
     }
 
-pub calls-keep-sound : (rows bins : ℕ) {was now : Track} → Sound rows bins was → Ran rows bins was now → Sound rows bins now
+pub calls-keep-sound : (rows bins : ℕ) {was now : MagnitudeTrack} → Sound rows bins was → Ran rows bins was now → Sound rows bins now
 calls-keep-sound rows bins sound ran = calls-keep (Sound rows bins) rows bins (mended-sound rows bins) sound ran
 
-pub analysed-is-sound : (rows bins : ℕ) (lent : Track) → Sound rows bins lent → Sound rows bins (analysed rows bins lent)
+pub analysed-is-sound : (rows bins : ℕ) (lent : MagnitudeTrack) → Sound rows bins lent → Sound rows bins (analysed rows bins lent)
 unfolding analysed
 analysed-is-sound rows bins lent s =
     record {
@@ -338,8 +338,8 @@ analysed-is-sound rows bins lent s =
           (s .threshold-room);
     }
 
-pub good-is-accepted-after-calls : (rows bins : ℕ) (lent : Track) {now : Track} (patch : Patch) (room : ℕ)
-    → Sound rows bins lent → Ran rows bins (analysed rows bins lent) now → Good rows bins patch room → numberOf rows bins now patch room ≡ 0
+pub good-is-accepted-after-calls : (rows bins : ℕ) (lent : MagnitudeTrack) {now : MagnitudeTrack} (patch : Patch) (room : ℕ)
+    → Sound rows bins lent → Ran rows bins (analysed rows bins lent) now → Good rows bins patch room → patchNumber rows bins now patch room ≡ 0
 good-is-accepted-after-calls rows bins lent {now} patch room s ran good =
     good-is-accepted rows bins now patch room (calls-keep-sound rows bins (analysed-is-sound rows bins lent s) ran)
     (calls-end-fresh rows bins (analysed-is-fresh rows bins lent) ran) good

@@ -10,8 +10,8 @@ use Rattle.numbers.specs.Lists.{filled}
 use Rattle.numbers.specs.Refusals.{unlessRefused}
 use Rattle.flux.specs.Flux.{fluxAt}
 use Rattle.threshold.specs.Threshold.{reach, thresholdAt, windowRoom}
-use Rattle.patching.specs.Patches.{Patch, pastRow, edited, unlessEmpty, ranges, rangesNamed, returned}
-use Rattle.patch_refusal.specs.Tracks.{Track, track, numberOf}
+use Rattle.patches.specs.PatchMagnitudesPromise.{Patch, pastRow, edited, unlessEmpty, ranges, rangesNamed, returned}
+use Rattle.patch_refusal.specs.Tracks.{MagnitudeTrack, magnitudeTrack, patchNumber}
 use Rattle.patch_magnitudes.specs.declared.Patched.{Patched}
 use Rattle.patch_magnitudes.specs.declared.Patched.the-variants.{Refused, Wrote}
 
@@ -32,19 +32,19 @@ thresholdPast rows bins patch = min (pastRow bins patch + reach + 1) rows
 -- ---- what they hold
 
 -- the flux curve with its slots written from the edited rows
-unfoldable pub mendedFlux : (rows bins : ℕ) → Track → Patch → List Float
+unfoldable pub mendedFlux : (rows bins : ℕ) → MagnitudeTrack → Patch → List Float
 mendedFlux rows bins was patch =
     filled (fluxAt (edited bins (was .magnitudes) patch) bins) (was .flux) (fluxFirst patch) (fluxPast rows bins patch)
 
 -- the threshold curve with its slots written "from the lent flux as it then stands", of which the first N slots are the curve
-unfoldable pub mendedThreshold : (rows bins : ℕ) → Track → Patch → List Float
+unfoldable pub mendedThreshold : (rows bins : ℕ) → MagnitudeTrack → Patch → List Float
 mendedThreshold rows bins was patch =
     filled (thresholdAt (take rows (mendedFlux rows bins was patch))) (was .threshold) (thresholdFirst patch) (thresholdPast rows bins patch)
 
 -- what a patch that has rows makes of the track
-unfoldable pub mended : (rows bins : ℕ) → Track → Patch → Track
+unfoldable pub mended : (rows bins : ℕ) → MagnitudeTrack → Patch → MagnitudeTrack
 mended rows bins was patch =
-    track (edited bins (was .magnitudes) patch) (mendedFlux rows bins was patch) (mendedThreshold rows bins was patch)
+    magnitudeTrack (edited bins (was .magnitudes) patch) (mendedFlux rows bins was patch) (mendedThreshold rows bins was patch)
 
 -- ---- the call
 
@@ -60,27 +60,27 @@ rowsNamed rows bins patch =
     rangesNamed (patch .new) (ranges (fluxFirst patch) (fluxPast rows bins patch) (thresholdFirst patch) (thresholdPast rows bins patch))
 
 -- Inner: the one answer with this number that says so (`is-answered`, proofs/Outcomes)
-unfoldable pub answered : (number rows bins : ℕ) → Patch → Patched
-answered zero rows bins patch =
+unfoldable pub patchAnswered : (number rows bins : ℕ) → Patch → Patched
+patchAnswered zero rows bins patch =
     unlessEmpty (patch .new) (Wrote (fluxFirst patch) (fluxPast rows bins patch) (thresholdFirst patch) (thresholdPast rows bins patch))
     (Wrote 0 0 0 0)
-answered (suc k) rows bins patch = Refused (suc k)
+patchAnswered (suc k) rows bins patch = Refused (suc k)
 
 -- the track afterwards: a refusal and an empty patch change nothing
-unfoldable pub after : (rows bins : ℕ) → Track → Patch → (room : ℕ) → Track
+unfoldable pub after : (rows bins : ℕ) → MagnitudeTrack → Patch → (room : ℕ) → MagnitudeTrack
 after rows bins was patch room =
-    unlessRefused (numberOf rows bins was patch room) (unlessEmpty (patch .new) (mended rows bins was patch) was) was
+    unlessRefused (patchNumber rows bins was patch room) (unlessEmpty (patch .new) (mended rows bins was patch) was) was
 
 -- how many slots of the work slice, from its start on, may differ afterwards
-unfoldable pub sortedIn : (number rows : ℕ) → Patch → ℕ
-sortedIn number rows patch = unlessRefused number (unlessEmpty (patch .new) (windowRoom rows) 0) 0
+unfoldable pub patchSortedIn : (number rows : ℕ) → Patch → ℕ
+patchSortedIn number rows patch = unlessRefused number (unlessEmpty (patch .new) (windowRoom rows) 0) 0
 
 -- What `patch_magnitudes` promises: its answer, and the track afterwards, each slot of it. Of the work slice, which is left open: it
 -- keeps its length and its slots past the sorting room, and all of them where nothing is written.
-pub record Patches (rows bins : ℕ) (was : Track) (patch : Patch) (work : List Float) (answer : Patched) (now : Track) (work′ : List Float) : Type 0 where
-  pub answer-is : patchedSays answer ≡ returned (numberOf rows bins was patch (length work)) (rowsNamed rows bins patch)
+pub record PatchMagnitudesPromise (rows bins : ℕ) (was : MagnitudeTrack) (patch : Patch) (work : List Float) (answer : Patched) (now : MagnitudeTrack) (work′ : List Float) : Type 0 where
+  pub answer-is : patchedSays answer ≡ returned (patchNumber rows bins was patch (length work)) (rowsNamed rows bins patch)
   pub track-is : now ≡ after rows bins was patch (length work)
   pub work-length : length work′ ≡ length work
   pub work-keeps :
-      drop (sortedIn (numberOf rows bins was patch (length work)) rows patch) work′
-      ≡ drop (sortedIn (numberOf rows bins was patch (length work)) rows patch) work
+      drop (patchSortedIn (patchNumber rows bins was patch (length work)) rows patch) work′
+      ≡ drop (patchSortedIn (patchNumber rows bins was patch (length work)) rows patch) work

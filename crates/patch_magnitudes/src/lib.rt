@@ -1,9 +1,9 @@
 // A repair of a track: some magnitude rows are replaced, and the flux and threshold curves are mended where that can change them.
 //
 // Document 01, Patching (added). The curves are then, bit for bit, those of a full run on the edited rows: proofs/Repairs.antt.
-ghost use Rattle.patching.specs.Patches.{patchOf};
-ghost use Rattle.patch_refusal.specs.Tracks.{track};
-ghost use Rattle.patch_magnitudes.specs.Magnitudes.{Patches};
+ghost use Rattle.patches.specs.PatchMagnitudesPromise.{patchOf};
+ghost use Rattle.patch_refusal.specs.Tracks.{magnitudeTrack};
+ghost use Rattle.patch_magnitudes.specs.Magnitudes.{PatchMagnitudesPromise};
 
 // What a patch did: the number of its refusal, or the slots that it wrote of each curve, first and past-last.
 pub enum Patched {
@@ -32,9 +32,9 @@ pub fn patch_magnitudes(
     work: &mut [f64],
 ) -> Patched
     ensures { λ r. ⌜
-        Patches rows bins
-        (track (now (magnitudes .entry)) (now (flux .entry)) (now (threshold .entry))) (patchOf start (now (new .entry))) (now (work .entry))
-        r (track (now (magnitudes .exit)) (now (flux .exit)) (now (threshold .exit))) (now (work .exit))
+        PatchMagnitudesPromise rows bins
+        (magnitudeTrack (now (magnitudes .entry)) (now (flux .entry)) (now (threshold .entry))) (patchOf start (now (new .entry))) (now (work .entry))
+        r (magnitudeTrack (now (magnitudes .exit)) (now (flux .exit)) (now (threshold .exit))) (now (work .exit))
         ⌝ }
 {
     let number = patch_refusal::refusal(

@@ -9,35 +9,35 @@ use Rattle.numbers.specs.Limits.{mostRows, mostBins, between, magnitudeFine, va
 use Rattle.numbers.specs.Lists.{every}
 use Rattle.numbers.specs.Refusals.{lowest}
 use Rattle.threshold.specs.Threshold.{windowRoom}
-use Rattle.patching.specs.Patches.{Patch, wholeRows}
+use Rattle.patches.specs.Patches.{Patch, wholeRows}
 
 -- what is lent and kept: the magnitudes, row behind row, and their two curves
-pub record Track : Type 0 where
+pub record MagnitudeTrack : Type 0 where
   pub magnitudes : List Float
   pub flux : List Float
   pub threshold : List Float
 
-abbrev pub track : (magnitudes flux threshold : List Float) → Track
-track magnitudes flux threshold = record { magnitudes = magnitudes; flux = flux; threshold = threshold }
+abbrev pub magnitudeTrack : (magnitudes flux threshold : List Float) → MagnitudeTrack
+magnitudeTrack magnitudes flux threshold = record { magnitudes = magnitudes; flux = flux; threshold = threshold }
 
 -- ---- refusal
 
 -- number 1 else: rows 0 to 1,048,576, bins 1 to 4,096, a start of at most the row count
-unfoldable pub boundsFine : (rows bins start : ℕ) → Bool
-boundsFine rows bins start = leb rows mostRows && (between 1 mostBins bins && leb start rows)
+unfoldable pub patchBounds : (rows bins start : ℕ) → Bool
+patchBounds rows bins start = leb rows mostRows && (between 1 mostBins bins && leb start rows)
 
 -- number 3 else: "A lent curve too short is number 3 here, never 2"
-unfoldable pub roomFine : (rows flux threshold room : ℕ) → Bool
-roomFine rows flux threshold room = leb rows flux && (leb rows threshold && leb (windowRoom rows) room)
+unfoldable pub patchRoom : (rows flux threshold room : ℕ) → Bool
+patchRoom rows flux threshold room = leb rows flux && (leb rows threshold && leb (windowRoom rows) room)
 
 -- number 4 else: "old and new rows and .. each lent curve's slots up to its formula; slots beyond are not read"
-unfoldable pub valuesFine : (rows : ℕ) → Track → (new : List Float) → Bool
-valuesFine rows was new =
+unfoldable pub patchValues : (rows : ℕ) → MagnitudeTrack → (new : List Float) → Bool
+patchValues rows was new =
     every magnitudeFine (was .magnitudes)
     && (every magnitudeFine new && (every valueFine (take rows (was .flux)) && every valueFine (take rows (was .threshold))))
 
 -- the number, with `room` slots lent to sort in
-unfoldable pub numberOf : (rows bins : ℕ) → Track → Patch → (room : ℕ) → ℕ
-numberOf rows bins was patch room =
-    lowest (boundsFine rows bins (patch .start)) (wholeRows (length (was .magnitudes)) rows bins (patch .start) (length (patch .new)))
-    (roomFine rows (length (was .flux)) (length (was .threshold)) room) (valuesFine rows was (patch .new))
+unfoldable pub patchNumber : (rows bins : ℕ) → MagnitudeTrack → Patch → (room : ℕ) → ℕ
+patchNumber rows bins was patch room =
+    lowest (patchBounds rows bins (patch .start)) (wholeRows (length (was .magnitudes)) rows bins (patch .start) (length (patch .new)))
+    (patchRoom rows (length (was .flux)) (length (was .threshold)) room) (patchValues rows was (patch .new))

@@ -5,8 +5,8 @@ use threshold::MEDIAN_WINDOW;
 ghost use mathlib.Core.Path.{_≡_};
 ghost use Prim.Native.Nat.{_≤_};
 ghost use lib.ListN.{length};
-ghost use Rattle.patching.specs.Patches.{patchOf};
-ghost use Rattle.patch_refusal.specs.Tracks.{track, boundsFine, roomFine, valuesFine, numberOf};
+ghost use Rattle.patches.specs.Patches.{patchOf};
+ghost use Rattle.patch_refusal.specs.Tracks.{magnitudeTrack, patchBounds, patchRoom, patchValues, patchNumber};
 
 // Inner: the number of a patch, lent `room` slots to sort in.
 pub fn refusal(
@@ -19,12 +19,12 @@ pub fn refusal(
     threshold: &[f64],
     room: usize,
 ) -> u32
-    ensures { λ r. ⌜ r ≡ numberOf rows bins (track (now (magnitudes .entry)) (now (flux .entry)) (now (threshold .entry))) (patchOf start (now (new .entry))) room ⌝ }
+    ensures { λ r. ⌜ r ≡ patchNumber rows bins (magnitudeTrack (now (magnitudes .entry)) (now (flux .entry)) (now (threshold .entry))) (patchOf start (now (new .entry))) room ⌝ }
 {
     if !bounds_fine(rows, bins, start) {
         return numbers::OUT_OF_BOUNDS;
     }
-    if !patching::whole_rows(magnitudes.len(), rows, bins, start, new.len()) {
+    if !patches::whole_rows(magnitudes.len(), rows, bins, start, new.len()) {
         return numbers::WRONG_LENGTH;
     }
     if !room_fine(rows, flux.len(), threshold.len(), room) {
@@ -37,13 +37,13 @@ pub fn refusal(
 }
 
 fn bounds_fine(rows: usize, bins: usize, start: usize) -> bool
-    ensures { λ r. ⌜ r ≡ boundsFine rows bins start ⌝ }
+    ensures { λ r. ⌜ r ≡ patchBounds rows bins start ⌝ }
 {
     rows <= numbers::MOST_ROWS && (1 <= bins && (bins <= numbers::MOST_BINS && start <= rows))
 }
 
 fn room_fine(rows: usize, flux: usize, threshold: usize, room: usize) -> bool
-    ensures { λ r. ⌜ r ≡ roomFine rows flux threshold room ⌝ }
+    ensures { λ r. ⌜ r ≡ patchRoom rows flux threshold room ⌝ }
 {
     rows <= flux && (rows <= threshold && numbers::least(MEDIAN_WINDOW, rows) <= room)
 }
@@ -56,7 +56,7 @@ fn values_fine(
     threshold: &[f64],
 ) -> bool
     requires { ⌜ (rows ≤ length (now flux)) × (rows ≤ length (now threshold)) ⌝ }
-    ensures { λ r. ⌜ r ≡ valuesFine rows (track (now (magnitudes .entry)) (now (flux .entry)) (now (threshold .entry))) (now (new .entry)) ⌝ }
+    ensures { λ r. ⌜ r ≡ patchValues rows (magnitudeTrack (now (magnitudes .entry)) (now (flux .entry)) (now (threshold .entry))) (now (new .entry)) ⌝ }
 {
     if !numbers::magnitudes_fine(magnitudes) {
         return false;

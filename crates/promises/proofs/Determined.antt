@@ -12,38 +12,37 @@ use Rattle.numbers.specs.Lists.{curve, listed}
 use Rattle.numbers.specs.Refusals.{unlessRefused}
 use Rattle.numbers.specs.Rounded.{real}
 use Rattle.numbers.specs.declared.Listing.{Listing}
-use Rattle.numbers.specs.Outcomes.{Written}
+use Rattle.numbers.specs.Outcomes.{Written, ListWritten}
 use Rattle.numbers.proofs.Outcomes.{written-unique}
 use Rattle.frames.specs.Frames.{RowOf}
 use Rattle.frames.proofs.Laws.{one-part}
 use Rattle.median.specs.Answers.{Answered, sortedIn}
 use Rattle.median.specs.declared.Answer.{Answer}
 use Rattle.flux.specs.Flux.{fluxAt}
-use Rattle.onsets.specs.Outcomes.{Lists}
-use Rattle.threshold.specs.Threshold.{sortingRoom, Thresholds}
+use Rattle.threshold.specs.Threshold.{sortingRoom, ThresholdPromise}
 use Rattle.onsets.proofs.Outcomes.{lists-unique}
-use Rattle.threshold.proofs.Thresholds.{thresholds-unique}
+use Rattle.threshold.proofs.ThresholdPromise.{thresholds-unique}
 use Rattle.lags.specs.Lags.{minLag, maxLag, lagRange}
-use Rattle.lags.specs.Options.{defaultOptions, optionsOf, withMinBpm, withMaxBpm}
+use Rattle.options.specs.Options.{defaultOptions, optionsOf, withMinBpm, withMaxBpm}
 use Rattle.lags.specs.declared.LagRange.{LagRange}
-use Rattle.lags.specs.declared.TempoOpts.{TempoOpts}
-use Rattle.tempo.specs.Answers.{Estimated}
+use Rattle.options.specs.declared.TempoOpts.{TempoOpts}
+use Rattle.tempo.specs.Answers.{EstimatePromise}
 use Rattle.tempo.specs.declared.TempoEstimate.{TempoEstimate}
 use Rattle.tempo.proofs.Promises as tempo
-use Rattle.stability.specs.Answers.{stabilityRefusal, leftOpen, Steadied}
+use Rattle.stability.specs.Answers.{stabilityRefusal, leftOpen, StabilityPromise}
 use Rattle.stability.specs.declared.Steadiness.{Steadiness}
 use Rattle.stability.proofs.Promises as stability
-use Rattle.beats.specs.Grids.{scoresOf, linksOf, gridOf, Gridded}
+use Rattle.beats.specs.Grids.{scoresOf, linksOf, gridOf, GridPromise}
 use Rattle.bars.specs.BarBeats.{barBeatSays, barAndBeat}
-use Rattle.bars.specs.Downbeats.{Downbeats}
+use Rattle.bars.specs.Downbeats.{DownbeatsPromise}
 use Rattle.bars.specs.declared.BarBeat.{BarBeat}
 use Rattle.bars.proofs.BarBeats.{says-one}
-use Rattle.similarities.specs.Similarity.{SimilarityDone}
-use Rattle.novelties.specs.Novelty.{NoveltyDone}
+use Rattle.similarities.specs.Similarity.{SimilarityPromise}
+use Rattle.novelties.specs.Novelty.{NoveltyPromise}
 use Rattle.sections.specs.Outcomes.{workedIn, Found}
 use Rattle.sections.specs.declared.Sections.{Sections}
 use Rattle.sections.proofs.Outcomes.{found-unique}
-use Rattle.patching.specs.Patches.{Patch}
+use Rattle.patches.specs.Patches.{Patch}
 use Rattle.patch_refusal.specs.Tracks as tracks
 use Rattle.patch_magnitudes.specs.Magnitudes as magnitudes
 use Rattle.patch_magnitudes.specs.declared.Patched.{Patched}
@@ -53,7 +52,7 @@ use Rattle.patch_features.specs.declared.PatchedFeatures.{PatchedFeatures}
 use Rattle.patch_features.proofs.Outcomes as feature-outcomes
 use Rattle.rooms.specs.Rooms.{Results, Spare, roomOf, magnitudesNumber}
 use Rattle.track.specs.Analyses.{openLags, openWork, Analysed}
-use Rattle.analysis.specs.Analyses.{AnalysedMagnitudes}
+use Rattle.analysis.specs.Analyses.{MagnitudesPromise}
 use Rattle.track.specs.declared.Analysis.{Analysis}
 use Rattle.rooms.specs.declared.Room.{Room}
 use Rattle.analysis.proofs.Promises as analyses
@@ -100,7 +99,7 @@ pub written : {A : Type 0} (number : ℕ) (done was : List A) {a b : ℕ} {x y :
 written number done was = written-unique number done was
 
 -- `pick_onsets`, `suppress_close_peaks`: a number, a count, and one lent list
-pub listing : (number : ℕ) (entries was : List ℕ) {a b : Listing} {x y : List ℕ} → Lists number entries was a x → Lists number entries was b y
+pub listing : (number : ℕ) (entries was : List ℕ) {a b : Listing} {x y : List ℕ} → ListWritten number entries was a x → ListWritten number entries was b y
     → (a .number ≡ b .number) × (a .count ≡ b .count) × (x ≡ y)
 listing number entries was = lists-unique number entries was
 
@@ -119,19 +118,19 @@ pub median : {number : ℕ} {value : Float} {xs work : List Float} {a b : Answer
 median p q = (p .answer ∙ sym (q .answer), p .room ∙ sym (q .room), p .rest ∙ sym (q .rest))
 
 -- `adaptive_threshold`
-pub adaptive-threshold : {flux threshold work : List Float} {a b : ℕ} {x y v w : List Float} → Thresholds flux threshold work a x v → Thresholds flux threshold work b y w
+pub adaptive-threshold : {flux threshold work : List Float} {a b : ℕ} {x y v w : List Float} → ThresholdPromise flux threshold work a x v → ThresholdPromise flux threshold work b y w
     → (a ≡ b) × (x ≡ y) × (length v ≡ length w) × (drop (unlessRefused a (sortingRoom flux) 0) v ≡ drop (unlessRefused a (sortingRoom flux) 0) w)
 adaptive-threshold = thresholds-unique
 
 -- `estimate`: the work slice too, since nothing is sorted in it
 pub estimate : {env : List Float} {onsets rate : ℕ} {o : TempoOpts} {clarity weight work : List Float} {a b : TempoEstimate} {c d w v k l : List Float}
-    → Estimated env onsets rate o clarity weight work a c w k → Estimated env onsets rate o clarity weight work b d v l
+    → EstimatePromise env onsets rate o clarity weight work a c w k → EstimatePromise env onsets rate o clarity weight work b d v l
     → (a ≡ b) × (c ≡ d) × (w ≡ v) × (k ≡ l)
 estimate = tempo.coincide
 
 -- `stability_of`: the answer, and of each lent slice its length and what is not left open
 pub stability-of : {env : List Float} {rate : ℕ} {o : TempoOpts} {whole : ℕ} {clarity weight work : List Float} {a b : Steadiness} {c d w v k l : List Float}
-    → Steadied env rate o whole clarity weight work a c w k → Steadied env rate o whole clarity weight work b d v l
+    → StabilityPromise env rate o whole clarity weight work a c w k → StabilityPromise env rate o whole clarity weight work b d v l
     → let number = stabilityRefusal env rate o whole (length clarity) (length weight) (length work) in
     let room = leftOpen (length env) (minLag rate o) (maxLag rate o) whole in
     (a ≡ b) × stability.Alike number room c d × stability.Alike number room w v × stability.Alike number room k l
@@ -143,7 +142,7 @@ by-number done was one p q = p ∙ ap (λ (i : ℕ). unlessRefused i done was) o
 
 -- `beat_grid`
 pub beat-grid : {envelope : List Float} {period : ℕ} {score : List Float} {back beats : List ℕ} {m n c d : ℕ} {s t : List Float} {k l x y : List ℕ}
-    → Gridded envelope period score back beats m c s k x → Gridded envelope period score back beats n d t l y
+    → GridPromise envelope period score back beats m c s k x → GridPromise envelope period score back beats n d t l y
     → (m ≡ n) × (c ≡ d) × (s ≡ t) × (k ≡ l) × (x ≡ y)
 beat-grid {envelope} {period} {score} {back} {beats} {m} {n} p q =
     let one : m ≡ n = p .number-is ∙ sym (q .number-is) in (
@@ -156,16 +155,16 @@ beat-grid {envelope} {period} {score} {back} {beats} {m} {n} p q =
 
 -- `downbeats`
 pub downbeats : {envelope : List Float} {beats : List ℕ} {meter : ℕ} {frames : List ℕ} {m n c d : ℕ} {x y : List ℕ}
-    → Downbeats envelope beats meter frames m c x → Downbeats envelope beats meter frames n d y → (m ≡ n) × (c ≡ d) × (x ≡ y)
+    → DownbeatsPromise envelope beats meter frames m c x → DownbeatsPromise envelope beats meter frames n d y → (m ≡ n) × (c ≡ d) × (x ≡ y)
 downbeats p q = (p .number-is ∙ sym (q .number-is), p .count-is ∙ sym (q .count-is), p .frames-are ∙ sym (q .frames-are))
 
 -- `similarity`, `novelty`
 pub similarity : {features : List Float} {rows : ℕ} {was : List Float} {m n : ℕ} {x y : List Float}
-    → SimilarityDone features rows was m x → SimilarityDone features rows was n y → (m ≡ n) × (x ≡ y)
+    → SimilarityPromise features rows was m x → SimilarityPromise features rows was n y → (m ≡ n) × (x ≡ y)
 similarity p q = (p .answer ∙ sym (q .answer), p .slots ∙ sym (q .slots))
 
 pub novelty : {similarities : List Float} {rows : ℕ} {was : List Float} {m n : ℕ} {x y : List Float}
-    → NoveltyDone similarities rows was m x → NoveltyDone similarities rows was n y → (m ≡ n) × (x ≡ y)
+    → NoveltyPromise similarities rows was m x → NoveltyPromise similarities rows was n y → (m ≡ n) × (x ≡ y)
 novelty p q = (p .answer ∙ sym (q .answer), p .slots ∙ sym (q .slots))
 
 -- `boundaries`: `BoundariesPromise` is `Found` of its number and its boundaries
@@ -176,15 +175,15 @@ pub boundaries : (number : ℕ) (curve : List Float) (bounds rows : List ℕ) (w
 boundaries number curve bounds rows work p q = (found-unique number curve bounds rows work p q, p .work-length ∙ sym (q .work-length))
 
 -- `patch_magnitudes`: both ranges, the rows and both curves; and the work slice past the slots that are sorted in
-pub patch-magnitudes : (rows bins : ℕ) (was : tracks.Track) (patch : Patch) (work : List Float) {a b : Patched} {x y : tracks.Track} {v w : List Float}
-    → magnitudes.Patches rows bins was patch work a x v → magnitudes.Patches rows bins was patch work b y w
-    → let sorted = magnitudes.sortedIn (tracks.numberOf rows bins was patch (length work)) rows patch in
+pub patch-magnitudes : (rows bins : ℕ) (was : tracks.MagnitudeTrack) (patch : Patch) (work : List Float) {a b : Patched} {x y : tracks.MagnitudeTrack} {v w : List Float}
+    → magnitudes.PatchMagnitudesPromise rows bins was patch work a x v → magnitudes.PatchMagnitudesPromise rows bins was patch work b y w
+    → let sorted = magnitudes.patchSortedIn (tracks.patchNumber rows bins was patch (length work)) rows patch in
     (a ≡ b) × (x ≡ y) × (length v ≡ length w) × (drop sorted v ≡ drop sorted w)
 patch-magnitudes rows bins was patch work p q = magnitude-outcomes.unique rows bins was patch work p q
 
 -- `patch_features`: both ranges, the rows and both curves
-pub patch-features : (rows : ℕ) (was : features.Track) (patch : Patch) {a b : PatchedFeatures} {x y : features.Track}
-    → features.Patches rows was patch a x → features.Patches rows was patch b y → (a ≡ b) × (x ≡ y)
+pub patch-features : (rows : ℕ) (was : features.FeatureTrack) (patch : Patch) {a b : PatchedFeatures} {x y : features.FeatureTrack}
+    → features.PatchFeaturesPromise rows was patch a x → features.PatchFeaturesPromise rows was patch b y → (a ≡ b) × (x ≡ y)
 patch-features rows was patch p q = feature-outcomes.unique rows was patch p q
 
 -- `analyse_envelope`: the answer and each result; what is worked in, past the slots left open
@@ -206,7 +205,7 @@ analysis p q =
 -- `analyse_magnitudes`: the flux too
 pub analysis-of-magnitudes : {m : List Float} {rows bins rate : ℕ} {o : TempoOpts} {flux : List Float} {was : Results} {lent : Spare}
     {a b : Analysis} {f g : List Float} {x y : Results} {s t : Spare}
-    → AnalysedMagnitudes m rows bins rate o flux was lent a f x s → AnalysedMagnitudes m rows bins rate o flux was lent b g y t
+    → MagnitudesPromise m rows bins rate o flux was lent a f x s → MagnitudesPromise m rows bins rate o flux was lent b g y t
     → let number = magnitudesNumber m rows bins rate o flux was lent in
     let env = curve (fluxAt m bins) rows in
     (a ≡ b) × (f ≡ g) × (x ≡ y)

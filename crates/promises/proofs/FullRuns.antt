@@ -22,14 +22,14 @@ use Rattle.flux.specs.Flux.{fluxAt}
 use Rattle.flux.proofs.Fluxes.{flux-told}
 use Rattle.threshold.specs.Threshold.{thresholdAt}
 use Rattle.threshold.proofs.Thresholds.{threshold-told}
-use Rattle.lags.specs.declared.TempoOpts.{TempoOpts}
+use Rattle.options.specs.declared.TempoOpts.{TempoOpts}
 use Rattle.lags.specs.Lags.{maxLag}
 use Rattle.tempo.specs.Answers.{unwritten, curveOf}
 use Rattle.beats.specs.Envelopes.{beatless, scaled}
 use Rattle.beats.specs.Scores.{scores, links}
 use Rattle.beats.specs.Grids.{grid, scoresOf, linksOf, gridOf}
 use Rattle.beats.proofs.Chains.{length-scores, length-links}
-use Rattle.rooms.specs.Rooms.{Results, Spare, frameSlots, lagSlots, lagsOf, numbersFine, roomOf, envelopeNumber, magnitudesNumber}
+use Rattle.rooms.specs.Rooms.{Results, Spare, frameSlots, lagSlots, lagsOf, analysisNumbersFine, roomOf, envelopeNumber, magnitudesNumber}
 use Rattle.rooms.specs.declared.Room.{Room}
 use Rattle.rooms.proofs.Numbers.{rows-fine, room-inside, magnitudes-0}
 use Rattle.rooms.specs.Enough.{Enough}
@@ -37,10 +37,10 @@ use Rattle.rooms.proofs.Rooms.{enough-suffices, ready-of, told, flux-taken}
 use Rattle.track_parts.specs.Parts.{onsetsIn}
 use Rattle.track.specs.declared.Analysis.{Analysis}
 use Rattle.track.specs.Analyses.{periodIn, beatsIn, downbeatsIn, analysisOf, withoutAnalysis, writtenIn}
-use Rattle.analysis.specs.Analyses.{AnalysedEnvelope, AnalysedMagnitudes}
+use Rattle.analysis.specs.Analyses.{EnvelopePromise, MagnitudesPromise}
 use Rattle.analysis.proofs.Promises.{coincide, flux-is-the-envelope}
-use Rattle.patching.proofs.Parts.{filled-first}
-use Rattle.patch_refusal.specs.Tracks.{Track, track}
+use Rattle.patches.proofs.Parts.{filled-first}
+use Rattle.patch_refusal.specs.Tracks.{MagnitudeTrack, magnitudeTrack}
 use Rattle.patch_magnitudes.specs.Runs.{fluxCurve, thresholdCurve, Fresh, Sound, analysed, Ran, stays}
 use Rattle.patch_magnitudes.proofs.Repairs.{analysed-is-fresh, analysed-is-sound, calls-end-fresh, calls-keep-sound}
 use Rattle.promises.specs.Repaired.{
@@ -73,13 +73,13 @@ module _
     (m : List Float) (rows bins rate : ℕ) (o : TempoOpts) (flux : List Float) (was : Results) (lent : Spare)
     {a : Analysis} {f : List Float} {y : Results} {s : Spare} where
   -- its answer holds the number that what it was lent is given
-  pub full-run-number : AnalysedMagnitudes m rows bins rate o flux was lent a f y s → a .number ≡ magnitudesNumber m rows bins rate o flux was lent
+  pub full-run-number : MagnitudesPromise m rows bins rate o flux was lent a f y s → a .number ≡ magnitudesNumber m rows bins rate o flux was lent
   full-run-number p = answered-number _ (curve (fluxAt m bins) rows) rate o a (p .analysed .answered)
 
   module _ (accepted : magnitudesNumber m rows bins rate o flux was lent ≡ 0) where
     -- where it isn't refused, its rows, with the flux and the threshold that it leaves, are one analysis from nothing:
-    pub full-run-is-analysed : AnalysedMagnitudes m rows bins rate o flux was lent a f y s
-        → track m f (y .threshold) ≡ analysed rows bins (track m flux (was .threshold))
+    pub full-run-is-analysed : MagnitudesPromise m rows bins rate o flux was lent a f y s
+        → magnitudeTrack m f (y .threshold) ≡ analysed rows bins (magnitudeTrack m flux (was .threshold))
     unfolding analysed fluxCurve writtenIn
     full-run-is-analysed p =
         let env = curve (fluxAt m bins) rows in
@@ -87,18 +87,18 @@ module _
         let t : y .threshold ≡ filled (thresholdAt env) (was .threshold) 0 rows =
         ap (λ (r : Results). r .threshold) (p .analysed .written ∙ passed-does _ (writtenIn env rate o was) _ accepted)
         ∙ ap (filled (thresholdAt env) (was .threshold) 0) (length-tab (fluxAt m bins) 0 rows) in
-        ap (λ (x : List Float). track m x (y .threshold)) e ∙ ap (track m (filled (fluxAt m bins) flux 0 rows)) t
+        ap (λ (x : List Float). magnitudeTrack m x (y .threshold)) e ∙ ap (magnitudeTrack m (filled (fluxAt m bins) flux 0 rows)) t
 
     -- the curves are those that demand 2 gives the rows,
-    pub full-run-is-fresh : AnalysedMagnitudes m rows bins rate o flux was lent a f y s → Fresh rows bins (track m f (y .threshold))
-    full-run-is-fresh p = rw (full-run-is-analysed p) (analysed-is-fresh rows bins (track m flux (was .threshold)))
+    pub full-run-is-fresh : MagnitudesPromise m rows bins rate o flux was lent a f y s → Fresh rows bins (magnitudeTrack m f (y .threshold))
+    full-run-is-fresh p = rw (full-run-is-analysed p) (analysed-is-fresh rows bins (magnitudeTrack m flux (was .threshold)))
 
     -- and the track is one that the analysis accepts
-    pub full-run-is-sound : AnalysedMagnitudes m rows bins rate o flux was lent a f y s → Sound rows bins (track m f (y .threshold))
+    pub full-run-is-sound : MagnitudesPromise m rows bins rate o flux was lent a f y s → Sound rows bins (magnitudeTrack m f (y .threshold))
     full-run-is-sound p =
         let t = told m rows bins rate o flux was lent accepted in
         rw (full-run-is-analysed p)
-        (analysed-is-sound rows bins (track m flux (was .threshold))
+        (analysed-is-sound rows bins (magnitudeTrack m flux (was .threshold))
         (record {
           rows-fit = rows-fine rows rate o (t .numbers);
           some-bins = t .some-bins;
@@ -142,14 +142,14 @@ module _ (rows bins : ℕ) (m flux : List Float) (is : take rows flux ≡ fluxCu
       (ap (λ (r : Results). r .threshold) (p .written ∙ passed-does _ (writtenIn env rate opts lent) lent z))
 
 -- a track that has begun has the curves of its rows, and is one that the analysis accepts
-pub begun-is-fresh : (rows bins : ℕ) {first : Track} → Begun rows bins first → Fresh rows bins first
+pub begun-is-fresh : (rows bins : ℕ) {first : MagnitudeTrack} → Begun rows bins first → Fresh rows bins first
 unfolding fluxCurve
 begun-is-fresh rows bins (at-once p passed) = full-run-is-fresh _ rows bins _ _ _ _ _ (sym (full-run-number _ rows bins _ _ _ _ _ p) ∙ passed) p
 begun-is-fresh rows bins (in-turn {magnitudes = m} {flux₀} {flux} w t) =
     let e = ap (take rows) (w .slots-are ∙ passed-does _ _ _ (sym (w .number-is))) ∙ filled-first (fluxAt m bins) flux₀ rows in
     record { flux = e; threshold = thresholded-is rows bins m flux e t .0 }
 
-pub begun-is-sound : (rows bins : ℕ) {first : Track} → Begun rows bins first → Sound rows bins first
+pub begun-is-sound : (rows bins : ℕ) {first : MagnitudeTrack} → Begun rows bins first → Sound rows bins first
 unfolding fluxCurve
 begun-is-sound rows bins (at-once p passed) = full-run-is-sound _ rows bins _ _ _ _ _ (sym (full-run-number _ rows bins _ _ _ _ _ p) ∙ passed) p
 begun-is-sound rows bins (in-turn {magnitudes = m} {flux₀} {flux} w t) =
@@ -167,7 +167,7 @@ begun-is-sound rows bins (in-turn {magnitudes = m} {flux₀} {flux} w t) =
     }
 
 -- each step keeps both
-relent-keeps : (rows bins : ℕ) {was now : Track} → Relent rows was now → Fresh rows bins was → Sound rows bins was
+relent-keeps : (rows bins : ℕ) {was now : MagnitudeTrack} → Relent rows was now → Fresh rows bins was → Sound rows bins was
     → Fresh rows bins now × Sound rows bins now
 relent-keeps rows bins r f s = (
   record {
@@ -185,7 +185,7 @@ relent-keeps rows bins r f s = (
   },
 )
 
-pub used-keeps : (rows bins : ℕ) {was now : Track} → Used rows bins was now → Fresh rows bins was → Sound rows bins was
+pub used-keeps : (rows bins : ℕ) {was now : MagnitudeTrack} → Used rows bins was now → Fresh rows bins was → Sound rows bins was
     → Fresh rows bins now × Sound rows bins now
 used-keeps rows bins ends f s = (f, s)
 used-keeps rows bins (runs ran more) f s = used-keeps rows bins more (calls-end-fresh rows bins f ran) (calls-keep-sound rows bins s ran)
@@ -208,9 +208,9 @@ used-keeps rows bins (analyses {was} t more) f s =
 
 -- a sound track, patches on it, a rate and bounds that are fine, and slices with room
 module _
-    (rows bins : ℕ) {was last : Track} (sound : Sound rows bins was) (ran : Ran rows bins was last)
+    (rows bins : ℕ) {was last : MagnitudeTrack} (sound : Sound rows bins was) (ran : Ran rows bins was last)
     (rate : ℕ) (o : TempoOpts) (flux : List Float) (results : Results) (lent : Spare)
-    (fine : numbersFine rows rate o ≡ true) (flux-room : rows ≤ length flux) (room : Enough (roomOf rows rate o) results lent) where
+    (fine : analysisNumbersFine rows rate o ≡ true) (flux-room : rows ≤ length flux) (room : Enough (roomOf rows rate o) results lent) where
   -- a full run on the last rows isn't refused
   pub full-run-is-accepted : magnitudesNumber (last .magnitudes) rows bins rate o flux results lent ≡ 0
   full-run-is-accepted =
@@ -222,8 +222,8 @@ module _
 
   -- and where the curves were those of the rows, it answers and leaves what an analysis of the patched flux does
   pub same-as-full-run : Fresh rows bins was → {a b : Analysis} {f : List Float} {x y : Results} {s t : Spare}
-      → AnalysedEnvelope (take rows (last .flux)) rate o results lent a x s
-      → AnalysedMagnitudes (last .magnitudes) rows bins rate o flux results lent b f y t
+      → EnvelopePromise (take rows (last .flux)) rate o results lent a x s
+      → MagnitudesPromise (last .magnitudes) rows bins rate o flux results lent b f y t
       → SameRun rows last a x b f y
   unfolding fluxCurve
   same-as-full-run fresh p q =
@@ -271,15 +271,15 @@ scored env period = go (beatless env period)
 
 -- a sound track with the curves of its rows, a rate and bounds that are fine, and two sets of slices with room
 module _
-    (rows bins : ℕ) {last : Track} (fresh : Fresh rows bins last) (sound : Sound rows bins last)
-    (rate : ℕ) (o : TempoOpts) (fine : numbersFine rows rate o ≡ true)
+    (rows bins : ℕ) {last : MagnitudeTrack} (fresh : Fresh rows bins last) (sound : Sound rows bins last)
+    (rate : ℕ) (o : TempoOpts) (fine : analysisNumbersFine rows rate o ≡ true)
     (results₀ : Results) (lent : Spare) (room : Enough (roomOf rows rate o) results₀ lent)
     (flux : List Float) (flux-room : rows ≤ length flux)
     (fullResults₀ : Results) (fullLent : Spare) (full-room : Enough (roomOf rows rate o) fullResults₀ fullLent) where
   -- an analysis of the flux into the one writes what a full run into the other does
   pub same-elsewhere : {a b : Analysis} {f : List Float} {x y : Results} {s t : Spare}
-      → AnalysedEnvelope (take rows (last .flux)) rate o results₀ lent a x s
-      → AnalysedMagnitudes (last .magnitudes) rows bins rate o flux fullResults₀ fullLent b f y t
+      → EnvelopePromise (take rows (last .flux)) rate o results₀ lent a x s
+      → MagnitudesPromise (last .magnitudes) rows bins rate o flux fullResults₀ fullLent b f y t
       → SameElsewhere rows rate o last a x b f y
   unfolding fluxCurve analysisOf writtenIn beatsIn
   same-elsewhere {a} {b} {f} {x} {y} {s} {t} p q =
@@ -290,7 +290,7 @@ module _
       let there = full-run-is-accepted rows bins sound stays rate o flux fullResults₀ fullLent fine flux-room full-room in
       let p0 : envelopeNumber env rate o results₀ lent ≡ 0 = rw (fresh .flux) (flux-taken m rows bins rate o flux results₀ lent here) in
       let q0 : envelopeNumber env rate o fullResults₀ fullLent ≡ 0 = rw (fresh .flux) (flux-taken m rows bins rate o flux fullResults₀ fullLent there) in
-      let full : AnalysedEnvelope env rate o fullResults₀ fullLent b y t =
+      let full : EnvelopePromise env rate o fullResults₀ fullLent b y t =
       rw (fresh .flux) (flux-is-the-envelope m rows bins rate o flux fullResults₀ fullLent there q) in
       let curves = full-run-is-fresh m rows bins rate o flux fullResults₀ fullLent there q in
       let ea : a ≡ analysisOf env rate o = p .answered ∙ passed-does _ (analysisOf env rate o) _ p0 in

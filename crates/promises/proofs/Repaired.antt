@@ -14,27 +14,27 @@ use lib.Ieee.{Float}
 use lib.ListN.{length, take}
 use Rattle.numbers.specs.declared.Listing.{Listing}
 use Rattle.onsets.specs.Onsets.{onsetsOf, onsetsRefusal}
-use Rattle.onsets.specs.Outcomes.{Lists}
+use Rattle.numbers.specs.Outcomes.{ListWritten}
 use Rattle.lags.specs.Lags.{boundsFine}
-use Rattle.lags.specs.declared.TempoOpts.{TempoOpts}
-use Rattle.tempo.specs.Answers.{Estimated}
+use Rattle.options.specs.declared.TempoOpts.{TempoOpts}
+use Rattle.tempo.specs.Answers.{EstimatePromise}
 use Rattle.tempo.specs.declared.TempoEstimate.{TempoEstimate}
-use Rattle.stability.specs.Answers.{Steadied}
+use Rattle.stability.specs.Answers.{StabilityPromise}
 use Rattle.stability.specs.declared.Steadiness.{Steadiness}
-use Rattle.beats.specs.Grids.{Gridded}
-use Rattle.bars.specs.Downbeats.{Downbeats}
-use Rattle.patching.specs.Patches.{Patch, patchOf, pastRow, edited}
+use Rattle.beats.specs.Grids.{GridPromise}
+use Rattle.bars.specs.Downbeats.{DownbeatsPromise}
+use Rattle.patches.specs.PatchMagnitudesPromise.{Patch, patchOf, pastRow, edited}
 use Rattle.patch_magnitudes.specs.declared.Patched.{Patched}
 use Rattle.patch_magnitudes.specs.declared.Patched.the-variants.{Refused, Wrote}
-use Rattle.patch_refusal.specs.Tracks.{Track, track, numberOf}
-use Rattle.patch_magnitudes.specs.Magnitudes.{fluxFirst, fluxPast, thresholdFirst, thresholdPast, answered, Patches}
+use Rattle.patch_refusal.specs.Tracks.{MagnitudeTrack, magnitudeTrack, patchNumber}
+use Rattle.patch_magnitudes.specs.Magnitudes.{fluxFirst, fluxPast, thresholdFirst, thresholdPast, patchAnswered, PatchMagnitudesPromise}
 use Rattle.patch_magnitudes.specs.Runs.{fluxCurve, thresholdCurve, Fresh, Kept, Sound, Good, analysed, Ran, stays}
 use Rattle.patch_magnitudes.proofs.Outcomes.{is-answered}
 use Rattle.patch_magnitudes.proofs.Repairs as repairs
 use Rattle.rooms.specs.Rooms.{Results, Spare, roomOf}
 use Rattle.rooms.proofs.Numbers.{by-bounds}
 use Rattle.rooms.specs.Enough.{Enough}
-use Rattle.analysis.specs.Analyses.{AnalysedEnvelope, AnalysedMagnitudes}
+use Rattle.analysis.specs.Analyses.{EnvelopePromise, MagnitudesPromise}
 use Rattle.track.specs.declared.Analysis.{Analysis}
 use Rattle.promises.specs.Repaired.{Begun, Used, SameRun, SameElsewhere}
 use Rattle.promises.proofs.Determined.{listing, estimate, stability-of, beat-grid, downbeats, analysis}
@@ -42,7 +42,7 @@ use Rattle.promises.proofs.FullRuns.{begun-is-fresh, begun-is-sound, us
 
 -- However a track began and whatever was done with it, an analysis of its flux is a full run on its rows.
 pub repaired-is-a-full-run :
-    (rows bins : ℕ) {first patched : Track}
+    (rows bins : ℕ) {first patched : MagnitudeTrack}
     -- First the curves of some rows, by `analyse_magnitudes`, the full run, or call by call; none of the calls refused.
     → Begun rows bins first
     -- Then any run of patches, other slices lent, values written behind the curves, and analyses in between, in any order.
@@ -54,10 +54,10 @@ pub repaired-is-a-full-run :
     → (lent : Results) (spare : Spare) → Enough (roomOf rows rate opts) lent spare
     -- On the one hand `analyse_envelope` of the patched flux, lent these slices.
     → {answer : Analysis} {results : Results} {left : Spare}
-    → AnalysedEnvelope (take rows (patched .flux)) rate opts lent spare answer results left
+    → EnvelopePromise (take rows (patched .flux)) rate opts lent spare answer results left
     -- On the other a full run on the patched rows, lent the same.
     → {fullAnswer : Analysis} {fullFlux : List Float} {fullResults : Results} {fullLeft : Spare}
-    → AnalysedMagnitudes (patched .magnitudes) rows bins rate opts flux lent spare fullAnswer fullFlux fullResults fullLeft
+    → MagnitudesPromise (patched .magnitudes) rows bins rate opts flux lent spare fullAnswer fullFlux fullResults fullLeft
     -- The full run isn't refused, and flux, threshold, answer and all eight results are the same.
     → SameRun rows patched answer results fullAnswer fullFlux fullResults
 repaired-is-a-full-run rows bins begun used rate opts fine flux flux-room lent spare room again full =
@@ -68,17 +68,17 @@ repaired-is-a-full-run rows bins begun used rate opts fine flux flux-room lent s
 -- The same where the two are lent different slices, as a grid that is kept and one that is made to compare it with.
 pub repaired-is-a-full-run-elsewhere :
     -- A track that began and was used as above, and a rate and bounds that are fine.
-    (rows bins : ℕ) {first patched : Track} → Begun rows bins first → Used rows bins first patched
+    (rows bins : ℕ) {first patched : MagnitudeTrack} → Begun rows bins first → Used rows bins first patched
     → (rate : ℕ) (opts : TempoOpts) → boundsFine rate opts ≡ true
     -- On the one hand `analyse_envelope` of the patched flux, lent slices with room.
     → (lent : Results) (spare : Spare) → Enough (roomOf rows rate opts) lent spare
     → {answer : Analysis} {results : Results} {left : Spare}
-    → AnalysedEnvelope (take rows (patched .flux)) rate opts lent spare answer results left
+    → EnvelopePromise (take rows (patched .flux)) rate opts lent spare answer results left
     -- On the other a full run on the patched rows, lent others with room.
     → (flux : List Float) → rows ≤ length flux
     → (fullLent : Results) (fullSpare : Spare) → Enough (roomOf rows rate opts) fullLent fullSpare
     → {fullAnswer : Analysis} {fullFlux : List Float} {fullResults : Results} {fullLeft : Spare}
-    → AnalysedMagnitudes (patched .magnitudes) rows bins rate opts flux fullLent fullSpare fullAnswer fullFlux fullResults fullLeft
+    → MagnitudesPromise (patched .magnitudes) rows bins rate opts flux fullLent fullSpare fullAnswer fullFlux fullResults fullLeft
     -- The full run isn't refused, flux, threshold and answer are the same, and so are the listed frames and each curve where it is written.
     → SameElsewhere rows rate opts patched answer results fullAnswer fullFlux fullResults
 repaired-is-a-full-run-elsewhere rows bins begun used rate opts fine lent spare room again flux flux-room fullLent fullSpare full-room full =
@@ -89,18 +89,18 @@ repaired-is-a-full-run-elsewhere rows bins begun used rate opts fine lent spare 
 -- ---- one patch
 
 -- Where the lent curves were those of the rows, they are those of the edited rows afterwards, bit for bit, whatever the call answers.
-pub patching-equals-starting-over : (rows bins : ℕ) (was : Track) (patch : Patch) (work : List Float) (answer : Patched) (now : Track) (work′ : List Float)
-    → Fresh rows bins was → Patches rows bins was patch work answer now work′ → Fresh rows bins now
+pub patching-equals-starting-over : (rows bins : ℕ) (was : MagnitudeTrack) (patch : Patch) (work : List Float) (answer : Patched) (now : MagnitudeTrack) (work′ : List Float)
+    → Fresh rows bins was → PatchMagnitudesPromise rows bins was patch work answer now work′ → Fresh rows bins now
 patching-equals-starting-over = repairs.call-is-fresh
 
 -- The rows are then the edited ones.
-pub rows-are-edited : (rows bins : ℕ) (was : Track) (patch : Patch) (work : List Float) (f g t u : ℕ) (now : Track) (work′ : List Float)
-    → Patches rows bins was patch work (Wrote f g t u) now work′ → now .magnitudes ≡ edited bins (was .magnitudes) patch
+pub rows-are-edited : (rows bins : ℕ) (was : MagnitudeTrack) (patch : Patch) (work : List Float) (f g t u : ℕ) (now : MagnitudeTrack) (work′ : List Float)
+    → PatchMagnitudesPromise rows bins was patch work (Wrote f g t u) now work′ → now .magnitudes ≡ edited bins (was .magnitudes) patch
 rows-are-edited = repairs.accepted-is-edited
 
-named : (rows bins start : ℕ) (x : Float) (xs : List Float) (n f g t u : ℕ) → Wrote f g t u ≡ answered n rows bins (patchOf start (x ∷ xs))
+named : (rows bins start : ℕ) (x : Float) (xs : List Float) (n f g t u : ℕ) → Wrote f g t u ≡ patchAnswered n rows bins (patchOf start (x ∷ xs))
     → let past = pastRow bins (patchOf start (x ∷ xs)) in (f ≡ start) × (g ≡ min (past + 1) rows) × (t ≡ start - 10) × (u ≡ min (past + 10 + 1) rows)
-unfolding answered
+unfolding patchAnswered
 named rows bins start x xs (suc n) f g t u e = let z : _≡_ {A = ℕ} 0 1 = cc in absurd (omega arith)
 named rows bins start x xs zero f g t u e =
     let patch = patchOf start (x ∷ xs) in
@@ -111,43 +111,43 @@ named rows bins start x xs zero f g t u e =
     (p, q, r, s)
 
 -- The slots that it names are demand 3's: flux a to b, threshold a-10 to b+10, cut at the ends.
-pub names-its-slots : (rows bins : ℕ) (was : Track) (start : ℕ) (x : Float) (xs work : List Float) (f g t u : ℕ) (now : Track) (work′ : List Float)
-    → Patches rows bins was (patchOf start (x ∷ xs)) work (Wrote f g t u) now work′
+pub names-its-slots : (rows bins : ℕ) (was : MagnitudeTrack) (start : ℕ) (x : Float) (xs work : List Float) (f g t u : ℕ) (now : MagnitudeTrack) (work′ : List Float)
+    → PatchMagnitudesPromise rows bins was (patchOf start (x ∷ xs)) work (Wrote f g t u) now work′
     → let past = pastRow bins (patchOf start (x ∷ xs)) in (f ≡ start) × (g ≡ min (past + 1) rows) × (t ≡ start - 10) × (u ≡ min (past + 10 + 1) rows)
 names-its-slots rows bins was start x xs work f g t u now work′ done =
-    named rows bins start x xs (numberOf rows bins was (patchOf start (x ∷ xs)) (length work)) f g t u (is-answered done)
+    named rows bins start x xs (patchNumber rows bins was (patchOf start (x ∷ xs)) (length work)) f g t u (is-answered done)
 
 -- Outside them and the slots that the answer names nothing differs.
-pub outside-stays : (rows bins : ℕ) (was : Track) (patch : Patch) (work : List Float) (f g t u : ℕ) (now : Track) (work′ : List Float)
-    → Patches rows bins was patch work (Wrote f g t u) now work′ → Kept bins patch f g t u was now
+pub outside-stays : (rows bins : ℕ) (was : MagnitudeTrack) (patch : Patch) (work : List Float) (f g t u : ℕ) (now : MagnitudeTrack) (work′ : List Float)
+    → PatchMagnitudesPromise rows bins was patch work (Wrote f g t u) now work′ → Kept bins patch f g t u was now
 outside-stays = repairs.outside-stays
 
 -- An empty patch changes nothing, and a refused one changes nothing.
-pub empty-changes-nothing : (rows bins : ℕ) (was : Track) (start : ℕ) (work : List Float) (answer : Patched) (now : Track) (work′ : List Float)
-    → Patches rows bins was (patchOf start []) work answer now work′ → (now ≡ was) × (work′ ≡ work)
+pub empty-changes-nothing : (rows bins : ℕ) (was : MagnitudeTrack) (start : ℕ) (work : List Float) (answer : Patched) (now : MagnitudeTrack) (work′ : List Float)
+    → PatchMagnitudesPromise rows bins was (patchOf start []) work answer now work′ → (now ≡ was) × (work′ ≡ work)
 empty-changes-nothing = repairs.empty-changes-nothing
 
-pub refused-changes-nothing : (rows bins : ℕ) (was : Track) (patch : Patch) (work : List Float) (k : ℕ) (now : Track) (work′ : List Float)
-    → Patches rows bins was patch work (Refused k) now work′ → (now ≡ was) × (work′ ≡ work)
+pub refused-changes-nothing : (rows bins : ℕ) (was : MagnitudeTrack) (patch : Patch) (work : List Float) (k : ℕ) (now : MagnitudeTrack) (work′ : List Float)
+    → PatchMagnitudesPromise rows bins was patch work (Refused k) now work′ → (now ≡ was) × (work′ ≡ work)
 refused-changes-nothing = repairs.refused-changes-nothing
 
 -- ---- any run of patches
 
 -- It ends as one fresh analysis of the last rows, the slots behind the curves as they were lent.
-pub any-run-is-one-analysis : (rows bins : ℕ) (lent : Track) {now : Track} → Ran rows bins (analysed rows bins lent) now
-    → now ≡ analysed rows bins (track (now .magnitudes) (lent .flux) (lent .threshold))
+pub any-run-is-one-analysis : (rows bins : ℕ) (lent : MagnitudeTrack) {now : MagnitudeTrack} → Ran rows bins (analysed rows bins lent) now
+    → now ≡ analysed rows bins (magnitudeTrack (now .magnitudes) (lent .flux) (lent .threshold))
 any-run-is-one-analysis rows bins lent ran = repairs.calls-are-one-analysis rows bins lent ran
 
 -- A patch that is no one's mistake is accepted at any place of a run: refusing everything is shut out.
-pub good-is-accepted : (rows bins : ℕ) (lent : Track) {now : Track} (patch : Patch) (room : ℕ)
-    → Sound rows bins lent → Ran rows bins (analysed rows bins lent) now → Good rows bins patch room → numberOf rows bins now patch room ≡ 0
+pub good-is-accepted : (rows bins : ℕ) (lent : MagnitudeTrack) {now : MagnitudeTrack} (patch : Patch) (room : ℕ)
+    → Sound rows bins lent → Ran rows bins (analysed rows bins lent) now → Good rows bins patch room → patchNumber rows bins now patch room ≡ 0
 good-is-accepted = repairs.good-is-accepted-after-calls
 
 -- ---- what is computed from patched curves
 
 -- The curves were those of the rows, and then came any run of patches. Two calls lent the same slices, one on the curves that are left, one on
 -- those that demand 2 gives the last rows, have one outcome.
-module _ (rows bins : ℕ) (was last : Track) (fresh : Fresh rows bins was) (ran : Ran rows bins was last) where
+module _ (rows bins : ℕ) (was last : MagnitudeTrack) (fresh : Fresh rows bins was) (ran : Ran rows bins was last) where
   flux-is : take rows (last .flux) ≡ fluxCurve rows bins (last .magnitudes)
   flux-is = repairs.calls-end-fresh rows bins fresh ran .flux
 
@@ -160,42 +160,42 @@ module _ (rows bins : ℕ) (was last : Track) (fresh : Fresh rows bins was) (ran
       let threshold = take rows (last .threshold) in
       let full = fluxCurve rows bins (last .magnitudes) in
       let fullThreshold = thresholdCurve rows bins (last .magnitudes) in
-      Lists (onsetsRefusal flux threshold rate (length frames)) (onsetsOf flux threshold rate) frames a x
-      → Lists (onsetsRefusal full fullThreshold rate (length frames)) (onsetsOf full fullThreshold rate) frames b y
+      ListWritten (onsetsRefusal flux threshold rate (length frames)) (onsetsOf flux threshold rate) frames a x
+      → ListWritten (onsetsRefusal full fullThreshold rate (length frames)) (onsetsOf full fullThreshold rate) frames b y
       → (a .number ≡ b .number) × (a .count ≡ b .count) × (x ≡ y)
   same-onsets rate frames p q = listing _ _ frames (rw (flux-is, threshold-is) at p) q
 
   -- the tempo, with its candidates and lag curves
   pub same-tempo : (onsets rate : ℕ) (o : TempoOpts) (clarity weight work : List Float) {a b : TempoEstimate} {c d w v k l : List Float}
-      → Estimated (take rows (last .flux)) onsets rate o clarity weight work a c w k
-      → Estimated (fluxCurve rows bins (last .magnitudes)) onsets rate o clarity weight work b d v l
+      → EstimatePromise (take rows (last .flux)) onsets rate o clarity weight work a c w k
+      → EstimatePromise (fluxCurve rows bins (last .magnitudes)) onsets rate o clarity weight work b d v l
       → (a ≡ b) × (c ≡ d) × (w ≡ v) × (k ≡ l)
   same-tempo onsets rate o clarity weight work p q = estimate (rw flux-is at p) q
 
   -- the stability
   pub same-stability : (rate : ℕ) (o : TempoOpts) (whole : ℕ) (clarity weight work : List Float) {a b : Steadiness} {c d w v k l : List Float}
-      → Steadied (take rows (last .flux)) rate o whole clarity weight work a c w k
-      → Steadied (fluxCurve rows bins (last .magnitudes)) rate o whole clarity weight work b d v l
+      → StabilityPromise (take rows (last .flux)) rate o whole clarity weight work a c w k
+      → StabilityPromise (fluxCurve rows bins (last .magnitudes)) rate o whole clarity weight work b d v l
       → a ≡ b
   same-stability rate o whole clarity weight work p q = stability-of (rw flux-is at p) q .0
 
   -- the beat grid, with its scores and links
   pub same-grid : (period : ℕ) (score : List Float) (back beats : List ℕ) {m n c d : ℕ} {s t : List Float} {k l x y : List ℕ}
-      → Gridded (take rows (last .flux)) period score back beats m c s k x
-      → Gridded (fluxCurve rows bins (last .magnitudes)) period score back beats n d t l y
+      → GridPromise (take rows (last .flux)) period score back beats m c s k x
+      → GridPromise (fluxCurve rows bins (last .magnitudes)) period score back beats n d t l y
       → (m ≡ n) × (c ≡ d) × (s ≡ t) × (k ≡ l) × (x ≡ y)
   same-grid period score back beats p q = beat-grid (rw flux-is at p) q
 
   -- the downbeats
   pub same-downbeats : (beats : List ℕ) (meter : ℕ) (frames : List ℕ) {m n c d : ℕ} {x y : List ℕ}
-      → Downbeats (take rows (last .flux)) beats meter frames m c x
-      → Downbeats (fluxCurve rows bins (last .magnitudes)) beats meter frames n d y
+      → DownbeatsPromise (take rows (last .flux)) beats meter frames m c x
+      → DownbeatsPromise (fluxCurve rows bins (last .magnitudes)) beats meter frames n d y
       → (m ≡ n) × (c ≡ d) × (x ≡ y)
   same-downbeats beats meter frames p q = downbeats (rw flux-is at p) q
 
   -- the whole analysis in one call, with the period of the beats taken from the tempo
   pub same-analysis : (rate : ℕ) (o : TempoOpts) (results : Results) (lent : Spare) {a b : Analysis} {x y : Results} {s t : Spare}
-      → AnalysedEnvelope (take rows (last .flux)) rate o results lent a x s
-      → AnalysedEnvelope (fluxCurve rows bins (last .magnitudes)) rate o results lent b y t
+      → EnvelopePromise (take rows (last .flux)) rate o results lent a x s
+      → EnvelopePromise (fluxCurve rows bins (last .magnitudes)) rate o results lent b y t
       → (a ≡ b) × (x ≡ y)
   same-analysis rate o results lent p q = let one = analysis (rw flux-is at p) q in (one .0, one .1)

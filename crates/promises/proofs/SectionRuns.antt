@@ -1,6 +1,6 @@
 -- The parts of the first two theorems of RepairedSections, for feature rows. A full run is `similarity`, then `novelty` of the similarity that it wrote,
--- then `boundaries` of that novelty. The first two leave what one analysis from nothing does (`analysed`), so the curves are those of the rows (`Fresh`)
--- and the rows are rows that a full run accepts (`Sound`). Each step of `Used` keeps both: patches do, other slices hold the same first slots, and a
+-- then `boundaries` of that novelty. The first two leave what one analysis from nothing does (`analysedFeatures`), so the curves are those of the rows (`FreshFeatures`)
+-- and the rows are rows that a full run accepts (`SoundFeatures`). Each step of `UsedFeatures` keeps both: patches do, other slices hold the same first slots, and a
 -- novelty written anew is again that of the rows, since the similarity is theirs. A novelty of accepted rows is at most 256 in size, so that `boundaries`
 -- accepts it, and what it lists doesn't depend on the slices. What a theorem asks is written in it or at the head of its section; no axiom stands
 -- behind one.
@@ -17,19 +17,19 @@ use Rattle.numbers.specs.Limits.{mostFeatures, valueFine}
 use Rattle.numbers.specs.Lists.{filled, listed, every}
 use Rattle.numbers.proofs.Tabs.{length-tab, length-filled}
 use Rattle.numbers.proofs.Tests.{and-both, lowest-0, passed-does}
-use Rattle.similarities.specs.Similarity.{SimilarityDone}
+use Rattle.similarities.specs.Similarity.{SimilarityPromise}
 use Rattle.similarities.proofs.Calls.{similarity-passed}
-use Rattle.novelties.specs.Novelty.{noveltyAt, NoveltyDone}
+use Rattle.novelties.specs.Novelty.{noveltyAt, NoveltyPromise}
 use Rattle.novelties.proofs.Calls.{novelty-passed}
 use Rattle.sections.specs.Boundaries.{gridFine, boundariesOf, boundariesRefusal}
 use Rattle.sections.specs.Outcomes.{BoundariesPromise}
 use Rattle.sections.specs.declared.Sections.{Sections}
-use Rattle.patching.proofs.Parts.{filled-first}
-use Rattle.patch_features.specs.Features.{Track, track, pairs}
-use Rattle.patch_features.specs.Runs.{similarityCurve, noveltyCurve, Fresh, Sound, analysed, Ran, stays}
+use Rattle.patches.proofs.Parts.{filled-first}
+use Rattle.patch_features.specs.Features.{FeatureTrack, featureTrack, pairs}
+use Rattle.patch_features.specs.Runs.{similarityCurve, noveltyCurve, FreshFeatures, SoundFeatures, analysedFeatures, RanFeatures, stays}
 use Rattle.patch_features.proofs.Fine.{novelties-are-fine}
 use Rattle.patch_features.proofs.Repairs.{calls-analyse, sound-is-analysed, analysed-is-fresh, analysed-is-sound, calls-end-fresh, calls-keep-sound}
-use Rattle.promises.specs.RepairedSections.{Relent, Used, ends, runs, relends, analyses, SameSections, SameElsewhere}
+use Rattle.promises.specs.RepairedSections.{RelentFeatures, UsedFeatures, ends, runs, relends, analyses, SameSections, SameSectionsElsewhere}
 use Rattle.promises.proofs.FullRuns.{same-entries}
 
 -- ---- what a full run leaves
@@ -37,26 +37,26 @@ use Rattle.promises.proofs.FullRuns.{same-entries}
 -- the two calls that leave a curve, neither refused
 module _
     (features : List Float) (rows : ℕ) (similarity₀ novelty₀ : List Float) {similarity novelty : List Float}
-    (first : SimilarityDone features rows similarity₀ 0 similarity) (second : NoveltyDone (take (pairs rows) similarity) rows novelty₀ 0 novelty) where
+    (first : SimilarityPromise features rows similarity₀ 0 similarity) (second : NoveltyPromise (take (pairs rows) similarity) rows novelty₀ 0 novelty) where
   -- the curves are those that demand 2 gives the rows,
-  pub full-run-is-fresh : Fresh rows (track features similarity novelty)
+  pub full-run-is-fresh : FreshFeatures rows (featureTrack features similarity novelty)
   full-run-is-fresh =
-      rw (calls-analyse rows (track features similarity₀ novelty₀) similarity novelty first second)
-      (analysed-is-fresh rows (track features similarity₀ novelty₀))
+      rw (calls-analyse rows (featureTrack features similarity₀ novelty₀) similarity novelty first second)
+      (analysed-is-fresh rows (featureTrack features similarity₀ novelty₀))
 
   -- and the track is one that the analysis accepts
-  pub full-run-is-sound : Sound rows (track features similarity novelty)
+  pub full-run-is-sound : SoundFeatures rows (featureTrack features similarity novelty)
   full-run-is-sound =
       let p = similarity-passed features rows (length similarity₀) (sym (first .answer)) in
       let q = novelty-passed (take (pairs rows) similarity) rows (length novelty₀) (sym (second .answer)) in
-      rw (calls-analyse rows (track features similarity₀ novelty₀) similarity novelty first second)
-      (analysed-is-sound rows (track features similarity₀ novelty₀)
+      rw (calls-analyse rows (featureTrack features similarity₀ novelty₀) similarity novelty first second)
+      (analysed-is-sound rows (featureTrack features similarity₀ novelty₀)
       (record { rows-fit = p .few; whole = p .whole; fine = p .fine; similarity-room = p .space; novelty-room = q .space }))
 
 -- ---- what is done with a track
 
 -- each step keeps both
-relent-keeps : (rows : ℕ) {was now : Track} → Relent rows was now → Fresh rows was → Sound rows was → Fresh rows now × Sound rows now
+relent-keeps : (rows : ℕ) {was now : FeatureTrack} → RelentFeatures rows was now → FreshFeatures rows was → SoundFeatures rows was → FreshFeatures rows now × SoundFeatures rows now
 relent-keeps rows r f s = (
   record {
     similarity = r .same-similarity ∙ f .similarity ∙ ap (similarityCurve rows) (sym (r .same-rows));
@@ -73,7 +73,7 @@ relent-keeps rows r f s = (
 
 -- a novelty of the similarity of some rows is theirs, and was lent room
 novelty-is : (rows : ℕ) (features similarity lent : List Float) {novelty : List Float} → take (pairs rows) similarity ≡ similarityCurve rows features
-    → NoveltyDone (take (pairs rows) similarity) rows lent 0 novelty → (take rows novelty ≡ noveltyCurve rows features) × (rows ≤ length novelty)
+    → NoveltyPromise (take (pairs rows) similarity) rows lent 0 novelty → (take rows novelty ≡ noveltyCurve rows features) × (rows ≤ length novelty)
 unfolding noveltyCurve
 novelty-is rows features similarity lent {novelty} is done =
     let rule = noveltyAt (similarityCurve rows features) rows in
@@ -83,7 +83,7 @@ novelty-is rows features similarity lent {novelty} is done =
     let l : length novelty ≡ length lent = ap length f ∙ length-filled rule lent 0 rows (omega arith) room in
     (ap (take rows) f ∙ filled-first rule lent rows, omega arith)
 
-pub used-keeps : (rows : ℕ) {was now : Track} → Used rows was now → Fresh rows was → Sound rows was → Fresh rows now × Sound rows now
+pub used-keeps : (rows : ℕ) {was now : FeatureTrack} → UsedFeatures rows was now → FreshFeatures rows was → SoundFeatures rows was → FreshFeatures rows now × SoundFeatures rows now
 used-keeps rows ends f s = (f, s)
 used-keeps rows (runs ran more) f s = used-keeps rows more (calls-end-fresh rows f ran) (calls-keep-sound rows s ran)
 used-keeps rows (relends r more) f s = let k = relent-keeps rows r f s in used-keeps rows more (k .0) (k .1)
@@ -96,7 +96,7 @@ used-keeps rows (analyses {was} {lent = lent} done more) f s =
 -- ---- after any run of patches
 
 -- `boundaries` accepts the novelty of sound rows
-novelty-accepted : (rows : ℕ) (lent : Track) → Sound rows lent → (samples rate room work : ℕ) → gridFine samples rate ≡ true → rows ≤ room → rows ≤ work
+novelty-accepted : (rows : ℕ) (lent : FeatureTrack) → SoundFeatures rows lent → (samples rate room work : ℕ) → gridFine samples rate ≡ true → rows ≤ room → rows ≤ work
     → boundariesRefusal (noveltyCurve rows (lent .features)) samples rate room work ≡ 0
 unfolding boundariesRefusal noveltyCurve
 novelty-accepted rows lent s samples rate room work grid h k =
@@ -110,24 +110,24 @@ novelty-accepted rows lent s samples rate room work grid h k =
 
 -- a sound track, patches on it, a length and a rate that are fine, slices with room, and the three calls of a full run on the last rows
 module _
-    (rows : ℕ) {was last : Track} (sound : Sound rows was) (ran : Ran rows was last)
+    (rows : ℕ) {was last : FeatureTrack} (sound : SoundFeatures rows was) (ran : RanFeatures rows was last)
     (samples rate maxSections : ℕ) (grid : gridFine samples rate ≡ true)
     (similarity₀ novelty₀ : List Float) (similarity-room : pairs rows ≤ length similarity₀) (novelty-room : rows ≤ length novelty₀)
     (begins₀ : List ℕ) (work₀ : List Float) (begins-room : rows ≤ length begins₀) (work-room : rows ≤ length work₀)
     {m n : ℕ} {similarity novelty : List Float} {answer : Sections} {begins : List ℕ} {work : List Float}
-    (first : SimilarityDone (last .features) rows similarity₀ m similarity)
-    (second : NoveltyDone (take (pairs rows) similarity) rows novelty₀ n novelty)
+    (first : SimilarityPromise (last .features) rows similarity₀ m similarity)
+    (second : NoveltyPromise (take (pairs rows) similarity) rows novelty₀ n novelty)
     (third : BoundariesPromise (take rows novelty) samples rate maxSections begins₀ work₀ answer begins work) where
-  curves-accepted : (m ≡ 0) × (n ≡ 0) × (track (last .features) similarity novelty ≡ analysed rows (track (last .features) similarity₀ novelty₀))
+  curves-accepted : (m ≡ 0) × (n ≡ 0) × (featureTrack (last .features) similarity novelty ≡ analysedFeatures rows (featureTrack (last .features) similarity₀ novelty₀))
   curves-accepted =
       let s = calls-keep-sound rows sound ran in
-      sound-is-analysed rows (track (last .features) similarity₀ novelty₀) similarity novelty m n
+      sound-is-analysed rows (featureTrack (last .features) similarity₀ novelty₀) similarity novelty m n
       (record { rows-fit = s .rows-fit; whole = s .whole; fine = s .fine; similarity-room = similarity-room; novelty-room = novelty-room })
       first
       second
 
-  curves-fresh : Fresh rows (track (last .features) similarity novelty)
-  curves-fresh = rw (curves-accepted .2) (analysed-is-fresh rows (track (last .features) similarity₀ novelty₀))
+  curves-fresh : FreshFeatures rows (featureTrack (last .features) similarity novelty)
+  curves-fresh = rw (curves-accepted .2) (analysed-is-fresh rows (featureTrack (last .features) similarity₀ novelty₀))
 
   -- none of the three is refused
   pub full-run-is-accepted : (m ≡ 0) × (n ≡ 0) × (answer .number ≡ 0)
@@ -139,7 +139,7 @@ module _
   )
 
   -- and where the curves were those of the rows, they answer and leave what `boundaries` of the patched novelty does
-  pub same-as-full-run : Fresh rows was → {a : Sections} {x : List ℕ} {w : List Float}
+  pub same-as-full-run : FreshFeatures rows was → {a : Sections} {x : List ℕ} {w : List Float}
       → BoundariesPromise (take rows (last .novelty)) samples rate maxSections begins₀ work₀ a x w
       → SameSections rows last a x m similarity n novelty answer begins
   same-as-full-run fresh p =
@@ -164,19 +164,19 @@ module _
 
 -- a sound track with the curves of its rows, a length and a rate that are fine, slices with room, and the three calls of a full run lent others with room
 module _
-    (rows : ℕ) {last : Track} (fresh : Fresh rows last) (sound : Sound rows last)
+    (rows : ℕ) {last : FeatureTrack} (fresh : FreshFeatures rows last) (sound : SoundFeatures rows last)
     (samples rate maxSections : ℕ) (grid : gridFine samples rate ≡ true)
     (begins₀ : List ℕ) (work₀ : List Float) (begins-room : rows ≤ length begins₀) (work-room : rows ≤ length work₀)
     (similarity₀ novelty₀ : List Float) (similarity-room : pairs rows ≤ length similarity₀) (novelty-room : rows ≤ length novelty₀)
     (fullBegins₀ : List ℕ) (fullWork₀ : List Float) (full-begins-room : rows ≤ length fullBegins₀) (full-work-room : rows ≤ length fullWork₀)
     {m n : ℕ} {similarity novelty : List Float} {answer : Sections} {begins : List ℕ} {work : List Float}
-    (first : SimilarityDone (last .features) rows similarity₀ m similarity)
-    (second : NoveltyDone (take (pairs rows) similarity) rows novelty₀ n novelty)
+    (first : SimilarityPromise (last .features) rows similarity₀ m similarity)
+    (second : NoveltyPromise (take (pairs rows) similarity) rows novelty₀ n novelty)
     (third : BoundariesPromise (take rows novelty) samples rate maxSections fullBegins₀ fullWork₀ answer begins work) where
   -- `boundaries` of the novelty answers and lists what they do
   pub same-elsewhere : {a : Sections} {x : List ℕ} {w : List Float}
       → BoundariesPromise (take rows (last .novelty)) samples rate maxSections begins₀ work₀ a x w
-      → SameElsewhere rows last a x m similarity n novelty answer begins
+      → SameSectionsElsewhere rows last a x m similarity n novelty answer begins
   same-elsewhere {a} {x} p =
       let accepted =
       full-run-is-accepted rows sound stays samples rate maxSections grid similarity₀ novelty₀ similarity-room novelty-room fullBegins₀ fullWork₀

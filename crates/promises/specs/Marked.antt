@@ -9,7 +9,7 @@ use Rattle.numbers.specs.Rounded.{nought, real, pick}
 use Rattle.numbers.specs.Lists.{curve}
 use Rattle.median.specs.Median.{medianOf}
 use Rattle.onsets.specs.Peaks.{suppressed}
-use Rattle.lags.specs.Options.{optionsOf}
+use Rattle.options.specs.Options.{optionsOf}
 use Rattle.lags.specs.Lags.{lagRange}
 use Rattle.lags.specs.Pairs.{apart, agrees}
 use Rattle.beats.specs.Grids.{gridOf}

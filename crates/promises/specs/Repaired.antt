@@ -9,14 +9,14 @@ use lib.Ieee.{Float}
 use Rattle.numbers.specs.Lists.{filled}
 use Rattle.numbers.specs.Outcomes.{Written}
 use Rattle.flux.specs.Flux.{fluxAt, fluxRefusal}
-use Rattle.threshold.specs.Threshold.{Thresholds}
-use Rattle.lags.specs.declared.TempoOpts.{TempoOpts}
+use Rattle.threshold.specs.Threshold.{ThresholdPromise}
+use Rattle.options.specs.declared.TempoOpts.{TempoOpts}
 use Rattle.lags.specs.Lags.{maxLag}
 use Rattle.tempo.specs.Answers.{unwritten}
 use Rattle.rooms.specs.Rooms.{Results, Spare, lagsOf}
 use Rattle.track.specs.declared.Analysis.{Analysis}
-use Rattle.analysis.specs.Analyses.{AnalysedEnvelope, AnalysedMagnitudes}
-use Rattle.patch_refusal.specs.Tracks.{Track, track}
+use Rattle.analysis.specs.Analyses.{EnvelopePromise, MagnitudesPromise}
+use Rattle.patch_refusal.specs.Tracks.{MagnitudeTrack, magnitudeTrack}
 use Rattle.patch_magnitudes.specs.Runs.{Ran}
 
 -- ---- how it begins
@@ -24,28 +24,28 @@ use Rattle.patch_magnitudes.specs.Runs.{Ran}
 -- The threshold of a flux, by a call that writes it and isn't refused, into any slice:
 pub data Thresholded (flux : List Float) : (threshold : List Float) → Type 0 where
   -- `adaptive_threshold`,
-  alone : {lent threshold work work′ : List Float} → Thresholds flux lent work 0 threshold work′ → Thresholded flux threshold
+  alone : {lent threshold work work′ : List Float} → ThresholdPromise flux lent work 0 threshold work′ → Thresholded flux threshold
   -- or `analyse_envelope`, at any rate and with any options.
   analysing : {rate : ℕ} {opts : TempoOpts} {lent results : Results} {spare left : Spare} {answer : Analysis}
-      → AnalysedEnvelope flux rate opts lent spare answer results left → answer .number ≡ 0 → Thresholded flux (results .threshold)
+      → EnvelopePromise flux rate opts lent spare answer results left → answer .number ≡ 0 → Thresholded flux (results .threshold)
 
 -- "Lend magnitude rows with the flux and threshold curves demand 2 gives them": rows, with the slices into which their curves were written,
-pub data Begun (rows bins : ℕ) : Track → Type 0 where
+pub data Begun (rows bins : ℕ) : MagnitudeTrack → Type 0 where
   -- at once by `analyse_magnitudes`, the full run, at any rate and with any options, which isn't refused,
   at-once : {magnitudes flux₀ flux : List Float} {rate : ℕ} {opts : TempoOpts} {lent results : Results} {spare left : Spare} {answer : Analysis}
-      → AnalysedMagnitudes magnitudes rows bins rate opts flux₀ lent spare answer flux results left → answer .number ≡ 0
-      → Begun rows bins (track magnitudes flux (results .threshold))
+      → MagnitudesPromise magnitudes rows bins rate opts flux₀ lent spare answer flux results left → answer .number ≡ 0
+      → Begun rows bins (magnitudeTrack magnitudes flux (results .threshold))
   -- or in turn: `spectral_flux`, which isn't refused, and then the threshold of the first N slots of what it wrote.
   in-turn : {magnitudes flux₀ flux threshold : List Float}
       → Written (fluxRefusal magnitudes rows bins (length flux₀)) (filled (fluxAt magnitudes bins) flux₀ 0 rows) flux₀ 0 flux
       → Thresholded (take rows flux) threshold
-      → Begun rows bins (track magnitudes flux threshold)
+      → Begun rows bins (magnitudeTrack magnitudes flux threshold)
 
 -- ---- what is done with it
 
 -- The same track, in other slices or with other values behind it: the rows, and the first N slots of each curve. (Rows have nothing behind them: a
 -- slab of another length than N rows is refused.)
-pub record Relent (rows : ℕ) (was now : Track) : Type 0 where
+pub record Relent (rows : ℕ) (was now : MagnitudeTrack) : Type 0 where
   pub same-rows : now .magnitudes ≡ was .magnitudes
   pub same-flux : take rows (now .flux) ≡ take rows (was .flux)
   pub same-threshold : take rows (now .threshold) ≡ take rows (was .threshold)
@@ -53,23 +53,23 @@ pub record Relent (rows : ℕ) (was now : Track) : Type 0 where
   pub threshold-room : rows ≤ length (now .threshold)
 
 -- Step after step, in any order and as often as wanted. A refused analysis leaves the track as it is, and is no step; a full run begins anew.
-pub data Used (rows bins : ℕ) : (was now : Track) → Type 0 where
+pub data Used (rows bins : ℕ) : (was now : MagnitudeTrack) → Type 0 where
   -- nothing more;
-  ends : {was : Track} → Used rows bins was was
+  ends : {was : MagnitudeTrack} → Used rows bins was was
   -- "Any run of patches, refused ones among them";
-  runs : {was mid now : Track} → Ran rows bins was mid → Used rows bins mid now → Used rows bins was now
+  runs : {was mid now : MagnitudeTrack} → Ran rows bins was mid → Used rows bins mid now → Used rows bins was now
   -- lending it in other slices, writing behind it, or writing over it what it holds;
-  relends : {was mid now : Track} → Relent rows was mid → Used rows bins mid now → Used rows bins was now
+  relends : {was mid now : MagnitudeTrack} → Relent rows was mid → Used rows bins mid now → Used rows bins was now
   -- an analysis of its flux as it then is, whose threshold is the track's from then on, written over the old one or elsewhere.
-  analyses : {was now : Track} {threshold : List Float} → Thresholded (take rows (was .flux)) threshold
-      → Used rows bins (track (was .magnitudes) (was .flux) threshold) now → Used rows bins was now
+  analyses : {was now : MagnitudeTrack} {threshold : List Float} → Thresholded (take rows (was .flux)) threshold
+      → Used rows bins (magnitudeTrack (was .magnitudes) (was .flux) threshold) now → Used rows bins was now
 
 -- ---- what is the same
 
 -- Of a track of magnitudes with its curves as patches left them: what `analyse_envelope` answers and leaves of the patched flux, and what
 -- `analyse_magnitudes`, the full run, answers and leaves of the patched rows.
 pub record SameRun
-    (rows : ℕ) (patched : Track) (answer : Analysis) (results : Results)
+    (rows : ℕ) (patched : MagnitudeTrack) (answer : Analysis) (results : Results)
     (fullAnswer : Analysis) (fullFlux : List Float) (fullResults : Results) : Type 0 where
   -- the full run isn't refused
   pub accepted : fullAnswer .number ≡ 0
@@ -83,7 +83,7 @@ pub record SameRun
 
 -- The same where the two are lent different slices: each slot that is written, and not those behind, which stay as each was lent them.
 pub record SameElsewhere
-    (rows rate : ℕ) (opts : TempoOpts) (patched : Track) (answer : Analysis) (results : Results)
+    (rows rate : ℕ) (opts : TempoOpts) (patched : MagnitudeTrack) (answer : Analysis) (results : Results)
     (fullAnswer : Analysis) (fullFlux : List Float) (fullResults : Results) : Type 0 where
   pub accepted : fullAnswer .number ≡ 0
   pub same-flux : take rows (patched .flux) ≡ take rows fullFlux

@@ -5,16 +5,16 @@ use mathlib.Core.Path.{_≡_}
 use mathlib.Core.List.{List}
 use lib.ListN.{length, take}
 use lib.Ieee.{Float}
-use Rattle.novelties.specs.Novelty.{NoveltyDone}
+use Rattle.novelties.specs.Novelty.{NoveltyPromise}
 use Rattle.sections.specs.declared.Sections.{Sections}
-use Rattle.patch_features.specs.Features.{Track, track, pairs}
-use Rattle.patch_features.specs.Runs.{Ran}
+use Rattle.patch_features.specs.Features.{FeatureTrack, featureTrack, pairs}
+use Rattle.patch_features.specs.Runs.{RanFeatures}
 
 -- ---- what is done with it
 
 -- The same track, in other slices or with other values behind it: the rows, and the first 17 F and F slots of its curves. (Rows have nothing behind
 -- them: a slab of another length than F rows is refused.)
-pub record Relent (rows : ℕ) (was now : Track) : Type 0 where
+pub record RelentFeatures (rows : ℕ) (was now : FeatureTrack) : Type 0 where
   pub same-rows : now .features ≡ was .features
   pub same-similarity : take (pairs rows) (now .similarity) ≡ take (pairs rows) (was .similarity)
   pub same-novelty : take rows (now .novelty) ≡ take rows (was .novelty)
@@ -23,23 +23,23 @@ pub record Relent (rows : ℕ) (was now : Track) : Type 0 where
 
 -- Step after step, in any order and as often as wanted. A refused `novelty` leaves the track as it is, and is no step; a full run begins anew,
 -- and `boundaries` writes no curve.
-pub data Used (rows : ℕ) : (was now : Track) → Type 0 where
+pub data UsedFeatures (rows : ℕ) : (was now : FeatureTrack) → Type 0 where
   -- nothing more;
-  ends : {was : Track} → Used rows was was
+  ends : {was : FeatureTrack} → UsedFeatures rows was was
   -- "Any run of patches, refused ones among them";
-  runs : {was mid now : Track} → Ran rows was mid → Used rows mid now → Used rows was now
+  runs : {was mid now : FeatureTrack} → RanFeatures rows was mid → UsedFeatures rows mid now → UsedFeatures rows was now
   -- lending it in other slices, writing behind it, or writing over it what it holds;
-  relends : {was mid now : Track} → Relent rows was mid → Used rows mid now → Used rows was now
+  relends : {was mid now : FeatureTrack} → RelentFeatures rows was mid → UsedFeatures rows mid now → UsedFeatures rows was now
   -- `novelty` of its similarity as it then is, which isn't refused, and whose curve is the track's from then on, written over the old one or elsewhere.
-  analyses : {was now : Track} {lent novelty : List Float} → NoveltyDone (take (pairs rows) (was .similarity)) rows lent 0 novelty
-      → Used rows (track (was .features) (was .similarity) novelty) now → Used rows was now
+  analyses : {was now : FeatureTrack} {lent novelty : List Float} → NoveltyPromise (take (pairs rows) (was .similarity)) rows lent 0 novelty
+      → UsedFeatures rows (featureTrack (was .features) (was .similarity) novelty) now → UsedFeatures rows was now
 
 -- ---- what is the same
 
 -- Of a track of features with its curves as patches left them: what `boundaries` answers and lists of the patched novelty, and the full run
 -- on the patched rows, `similarity`, `novelty` and `boundaries`: its two numbers and curves, its answer and its list.
 pub record SameSections
-    (rows : ℕ) (patched : Track) (answer : Sections) (begins : List ℕ)
+    (rows : ℕ) (patched : FeatureTrack) (answer : Sections) (begins : List ℕ)
     (firstNumber : ℕ) (fullSimilarity : List Float) (secondNumber : ℕ) (fullNovelty : List Float)
     (fullAnswer : Sections) (fullBegins : List ℕ) : Type 0 where
   -- none of the full run's calls is refused
@@ -55,8 +55,8 @@ pub record SameSections
   pub same-begins : begins ≡ fullBegins
 
 -- The same where the two are lent different slices: each slot that is written, and not those behind, which stay as each was lent them.
-pub record SameElsewhere
-    (rows : ℕ) (patched : Track) (answer : Sections) (begins : List ℕ)
+pub record SameSectionsElsewhere
+    (rows : ℕ) (patched : FeatureTrack) (answer : Sections) (begins : List ℕ)
     (firstNumber : ℕ) (fullSimilarity : List Float) (secondNumber : ℕ) (fullNovelty : List Float)
     (fullAnswer : Sections) (fullBegins : List ℕ) : Type 0 where
   pub similarity-accepted : firstNumber ≡ 0

@@ -5,15 +5,15 @@ use median::Answer;
 ghost use Prim.Native.Nat.{_≤_};
 
 fn answer(label: &[u8], a: Answer) {
-    show::words(label);
+    run_show::words(label);
     match a {
-        Answer::Refused(number) => show::small(number),
+        Answer::Refused(number) => run_show::small(number),
         Answer::Value(value) => {
-            show::small(0);
-            show::float(value);
+            run_show::small(0);
+            run_show::float(value);
         }
     }
-    show::end();
+    run_show::end();
 }
 
 fn medians(curve: &[f64], s: u64) {

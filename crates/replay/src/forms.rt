@@ -38,12 +38,12 @@ fn sections_of(novelty: &[f64], s: u64) {
         &mut rows,
         &mut work,
     );
-    show::words(b"sections");
-    show::small(r.number);
-    show::count(r.sections);
-    show::float(r.confidence);
-    show::smalls(&rows[0..lines::first(r.count)]);
-    show::end();
+    run_show::words(b"sections");
+    run_show::small(r.number);
+    run_show::count(r.sections);
+    run_show::float(r.confidence);
+    run_show::smalls(&rows[0..lines::first(r.count)]);
+    run_show::end();
     times(&rows[0..lines::first(r.count)], length);
 }
 

@@ -5,27 +5,27 @@ use patch_features::PatchedFeatures;
 use patch_magnitudes::Patched;
 
 fn named(a: usize, b: usize, c: usize, d: usize) {
-    show::count(a);
-    show::count(b);
-    show::count(c);
-    show::count(d);
+    run_show::count(a);
+    run_show::count(b);
+    run_show::count(c);
+    run_show::count(d);
 }
 
 fn wrote(p: Patched) {
-    show::words(b"patch");
+    run_show::words(b"patch");
     match p {
-        Patched::Refused(number) => show::small(number),
+        Patched::Refused(number) => run_show::small(number),
         Patched::Wrote {
             flux_first,
             flux_past,
             threshold_first,
             threshold_past,
         } => {
-            show::small(0);
+            run_show::small(0);
             named(flux_first, flux_past, threshold_first, threshold_past);
         }
     }
-    show::end();
+    run_show::end();
 }
 
 fn flux_of(slab: &[f32; 40]) -> [f64; 40] {
@@ -67,16 +67,16 @@ fn patched(flux: &[f64; 40], threshold: &[f64; 40]) {
 }
 
 fn wrote_features(p: PatchedFeatures) {
-    show::words(b"feature patch");
+    run_show::words(b"feature patch");
     match p {
-        PatchedFeatures::Refused(number) => show::small(number),
+        PatchedFeatures::Refused(number) => run_show::small(number),
         PatchedFeatures::Wrote {
             similarity_first,
             similarity_past,
             novelty_first,
             novelty_past,
         } => {
-            show::small(0);
+            run_show::small(0);
             named(
                 similarity_first,
                 similarity_past,
@@ -85,7 +85,7 @@ fn wrote_features(p: PatchedFeatures) {
             );
         }
     }
-    show::end();
+    run_show::end();
 }
 
 fn similarity_of(features: &[f64; 320]) -> [f64; 340] {

@@ -3,7 +3,7 @@ use crate::inputs;
 use crate::lines;
 ghost use Prim.Native.Nat.{_≤_};
 use bars::BarBeat;
-use lags::TempoOpts;
+use options::TempoOpts;
 use stability::Stability;
 use tempo::Candidate;
 use tempo::Tempo;
@@ -11,38 +11,38 @@ use tempo::TempoEstimate;
 
 fn range(rate: u32, opts: TempoOpts) {
     let r = lags::lag_range(rate, opts);
-    show::words(b"lags");
-    show::small(r.number);
-    show::count(r.min_lag);
-    show::count(r.max_lag);
-    show::end();
+    run_show::words(b"lags");
+    run_show::small(r.number);
+    run_show::count(r.min_lag);
+    run_show::count(r.max_lag);
+    run_show::end();
 }
 
 fn candidate(c: Candidate) {
-    show::count(c.lag);
-    show::float(c.salience);
+    run_show::count(c.lag);
+    run_show::float(c.salience);
 }
 
 fn found(t: Tempo) {
     match t {
-        Tempo::None => show::words(b" none"),
+        Tempo::None => run_show::words(b" none"),
         Tempo::Found { bpm, clarity } => {
-            show::float(bpm);
-            show::float(clarity);
+            run_show::float(bpm);
+            run_show::float(clarity);
         }
     }
 }
 
 fn told(e: TempoEstimate) {
-    show::words(b"tempo");
-    show::small(e.number);
+    run_show::words(b"tempo");
+    run_show::small(e.number);
     let t = e.tempo;
     found(t);
-    show::count(e.count);
+    run_show::count(e.count);
     candidate(e.candidates[0]);
     candidate(e.candidates[1]);
     candidate(e.candidates[2]);
-    show::end();
+    run_show::end();
 }
 
 // The lag of a tempo, or a period without one.
@@ -87,20 +87,20 @@ fn windows(envelope: &[f64], rate: u32, opts: TempoOpts, lag: usize) {
 }
 
 fn steady(stability: Stability) {
-    show::words(b"stability");
+    run_show::words(b"stability");
     match stability {
-        Stability::None => show::words(b" none"),
+        Stability::None => run_show::words(b" none"),
         Stability::Share {
             fraction,
             agreeing,
             windows,
         } => {
-            show::float(fraction);
-            show::count(agreeing);
-            show::count(windows);
+            run_show::float(fraction);
+            run_show::count(agreeing);
+            run_show::count(windows);
         }
     }
-    show::end();
+    run_show::end();
 }
 
 fn beats_of(envelope: &[f64], period: usize) {
@@ -117,9 +117,9 @@ fn grid_told(envelope: &[f64], number: u32, count: usize, beats: &[u32; 60], sco
 {
     let frames = &beats[..];
     lines::frames(b"beats", number, frames, count);
-    show::words(b"last score");
-    show::float(score);
-    show::end();
+    run_show::words(b"last score");
+    run_show::float(score);
+    run_show::end();
     bars_of(envelope, &frames[0..count]);
 }
 
@@ -130,16 +130,16 @@ fn bars_of(envelope: &[f64], beats: &[u32]) {
 }
 
 fn at(time: f64, downbeats: &[f64], beats: &[f64]) {
-    show::words(b"at");
+    run_show::words(b"at");
     let a = bars::bar_beat_at(time, downbeats, beats);
     match a {
-        BarBeat::Nowhere => show::words(b" nowhere"),
+        BarBeat::Nowhere => run_show::words(b" nowhere"),
         BarBeat::At { bar, beat } => {
-            show::count(bar);
-            show::count(beat);
+            run_show::count(bar);
+            run_show::count(beat);
         }
     }
-    show::end();
+    run_show::end();
 }
 
 fn places(s: u64) {

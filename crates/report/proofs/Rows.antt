@@ -13,7 +13,7 @@ use Rattle.numbers.specs.Lists.{tab, filled, row, every}
 use Rattle.numbers.specs.Rounded.{sumOf}
 use Rattle.flux.proofs.Fluxes.{flux-from, flux-same, flux-first}
 use Rattle.flux.specs.Flux.{rises, fluxAt}
-use Rattle.npy.specs.Values.{rowRead}
+use Rattle.report_npy.specs.Values.{rowRead}
 use Rattle.report.specs.Input.{valuesOf}
 use Rattle.report.proofs.Values.{row-values}
 

@@ -8,12 +8,12 @@ use lib.ListN.{length, getD, length-append, List·getD-append}
 use lib.Seq.{getD-append-add}
 use Rattle.numbers.proofs.Tabs.{length-tab, tab-ext, filled-all}
 use Rattle.numbers.specs.Lists.{tab, filled}
-use Rattle.npy.specs.Values.{valueAt, valuesRead, rowRead}
+use Rattle.report_npy.specs.Values.{singleAt, valuesRead, rowRead}
 use Rattle.report.specs.Input.{valuesOf}
 
 pub length-values : (bytes : List ℕ) → length (valuesOf bytes) ≡ length bytes / 4
 unfolding valuesOf
-length-values bytes = length-tab (valueAt bytes) 0 (length bytes / 4)
+length-values bytes = length-tab (singleAt bytes) 0 (length bytes / 4)
 
 pub values-none : valuesOf [] ≡ []
 unfolding valuesOf
@@ -25,7 +25,7 @@ unfolding rowRead valuesOf
 row-values bytes row bins e f =
     let k : length bytes / 4 ≡ bins = omega arith in
     let n : valuesRead bytes row ≡ length bytes / 4 = omega arith in
-    ap (filled (valueAt bytes) row 0) n ∙ filled-all (valueAt bytes) row (length bytes / 4) (f ∙ sym k)
+    ap (filled (singleAt bytes) row 0) n ∙ filled-all (singleAt bytes) row (length bytes / 4) (f ∙ sym k)
 
 -- ---- bytes behind others
 
@@ -46,14 +46,14 @@ tab-moved {A} f g k s (suc n) h =
     ap (λ (x : A). x ∷ tab f (suc (k + s)) n) (h s) ∙ ap (λ (r : List A). g s ∷ r) (ap (λ (j : ℕ). tab f j n) e ∙ tab-moved f g k (suc s) n h)
 
 value-same : (x y : List ℕ) (i j : ℕ) → getD x (i * 4) 0 ≡ getD y (j * 4) 0 → getD x (i * 4 + 1) 0 ≡ getD y (j * 4 + 1) 0
-    → getD x (i * 4 + 2) 0 ≡ getD y (j * 4 + 2) 0 → getD x (i * 4 + 3) 0 ≡ getD y (j * 4 + 3) 0 → valueAt x i ≡ valueAt y j
+    → getD x (i * 4 + 2) 0 ≡ getD y (j * 4 + 2) 0 → getD x (i * 4 + 3) 0 ≡ getD y (j * 4 + 3) 0 → singleAt x i ≡ singleAt y j
 value-same x y i j p q r s = rw (p, q, r, s)
 
 byte-behind : (a b : List ℕ) (i j : ℕ) → i ≡ length a + j → getD (a ++ b) i 0 ≡ getD b j 0
 byte-behind a b i j e = ap (λ (k : ℕ). getD (a ++ b) k 0) e ∙ getD-append-add a b j 0
 
 module _ (a b : List ℕ) (k : ℕ) (e : length a ≡ k * 4) where
-  value-front : (i : ℕ) → i < k → valueAt (a ++ b) i ≡ valueAt a i
+  value-front : (i : ℕ) → i < k → singleAt (a ++ b) i ≡ singleAt a i
   value-front i h =
       value-same (a ++ b) a i i
       (List·getD-append a b 0 (i * 4) (omega arith))
@@ -61,7 +61,7 @@ module _ (a b : List ℕ) (k : ℕ) (e : length a ≡ k * 4) where
       (List·getD-append a b 0 (i * 4 + 2) (omega arith))
       (List·getD-append a b 0 (i * 4 + 3) (omega arith))
 
-  value-behind : (i : ℕ) → valueAt (a ++ b) (k + i) ≡ valueAt b i
+  value-behind : (i : ℕ) → singleAt (a ++ b) (k + i) ≡ singleAt b i
   value-behind i =
       value-same (a ++ b) b (k + i) i
       (byte-behind a b ((k + i) * 4) (i * 4) (omega arith))
@@ -77,9 +77,9 @@ module _ (a b : List ℕ) (k : ℕ) (e : length a ≡ k * 4) where
       let whole : length (a ++ b) / 4 ≡ k + m = omega (arith, length-append a b) in
       let front : length a / 4 ≡ k = omega arith in
       let z : 0 + k ≡ k + 0 = omega arith in
-      ap (tab (valueAt (a ++ b)) 0) whole
-      ∙ tab-append (valueAt (a ++ b)) 0 k m
-      ∙ ap (λ (r : List Float). r ++ tab (valueAt (a ++ b)) (0 + k) m) (tab-ext (valueAt (a ++ b)) (valueAt a) 0 k (λ i p q. value-front i (omega arith)))
-      ∙ ap (λ (j : ℕ). tab (valueAt a) 0 k ++ tab (valueAt (a ++ b)) j m) z
-      ∙ ap (λ (r : List Float). tab (valueAt a) 0 k ++ r) (tab-moved (valueAt (a ++ b)) (valueAt b) k 0 m value-behind)
-      ∙ ap (λ (j : ℕ). tab (valueAt a) 0 j ++ tab (valueAt b) 0 m) (sym front)
+      ap (tab (singleAt (a ++ b)) 0) whole
+      ∙ tab-append (singleAt (a ++ b)) 0 k m
+      ∙ ap (λ (r : List Float). r ++ tab (singleAt (a ++ b)) (0 + k) m) (tab-ext (singleAt (a ++ b)) (singleAt a) 0 k (λ i p q. value-front i (omega arith)))
+      ∙ ap (λ (j : ℕ). tab (singleAt a) 0 k ++ tab (singleAt (a ++ b)) j m) z
+      ∙ ap (λ (r : List Float). tab (singleAt a) 0 k ++ r) (tab-moved (singleAt (a ++ b)) (singleAt b) k 0 m value-behind)
+      ∙ ap (λ (j : ℕ). tab (singleAt a) 0 j ++ tab (singleAt b) 0 m) (sym front)

@@ -11,12 +11,12 @@ use Rattle.numbers.specs.Rounded.{pick}
 use Rattle.numbers.specs.Limits.{mostBins, between, magnitudeFine}
 use Rattle.numbers.specs.Lists.{curve, every}
 use Rattle.numbers.specs.Refusals.{lowest, malformed}
-use Rattle.npy.specs.declared.Preamble.{Preamble}
-use Rattle.npy.specs.declared.Preamble.the-variants as preamble
-use Rattle.npy.specs.declared.Header.{Header}
-use Rattle.npy.specs.declared.Header.the-variants as header
-use Rattle.npy.specs.Header.{headerOf, preambleOf}
-use Rattle.npy.specs.Values.{valueAt}
+use Rattle.report_npy.specs.declared.Preamble.{Preamble}
+use Rattle.report_npy.specs.declared.Preamble.the-variants as preamble
+use Rattle.report_npy.specs.declared.Header.{Header}
+use Rattle.report_npy.specs.declared.Header.the-variants as header
+use Rattle.report_npy.specs.Header.{headerOf, preambleOf}
+use Rattle.report_npy.specs.Values.{singleAt}
 use Rattle.flux.specs.Flux.{fluxAt}
 
 -- "up to 8,000 rows"
@@ -29,7 +29,7 @@ preambleLength = 10
 
 -- the values that data stand for, four bytes each
 unfoldable pub valuesOf : List ℕ → List Float
-valuesOf bytes = curve (valueAt bytes) (length bytes / 4)
+valuesOf bytes = curve (singleAt bytes) (length bytes / 4)
 
 -- rows 0 to 8,000, bins 1 to 4,096
 abbrev pub shapeFine : (rows bins : ℕ) → Bool

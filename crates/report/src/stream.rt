@@ -29,7 +29,7 @@ fn keep_row(bytes: &[u8], bins: usize, kept: &mut [f32])
     ensures { λ _. ⌜ now (kept .exit) ≡ drop bins (now (kept .entry)) ++ valuesOf (now (bytes .entry)) ⌝ }
 {
     shift(kept, bins);
-    npy::read_values(bytes, &mut kept[bins..]);
+    report_npy::read_values(bytes, &mut kept[bins..]);
 }
 
 // Inner: takes row t, whose bytes are given: two rows are kept, and slot t of the flux is written while every value is fine.

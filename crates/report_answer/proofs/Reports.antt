@@ -15,8 +15,8 @@ use Rattle.numbers.specs.Rounded.{_⊘_, real, pick}
 use Rattle.numbers.specs.Limits.{mostRows, valueFine}
 use Rattle.numbers.specs.Lists.{every, listed}
 use Rattle.numbers.proofs.Tests.{and-both, lowest-0, passed-does, lt-or-le}
-use Rattle.lags.specs.declared.TempoOpts.{TempoOpts}
-use Rattle.lags.specs.Options.{defaultOptions}
+use Rattle.options.specs.declared.TempoOpts.{TempoOpts}
+use Rattle.options.specs.Options.{defaultOptions}
 use Rattle.lags.specs.Lags.{minLag, maxLag, boundsFine}
 use Rattle.lags.proofs.Ranges.{range-of}
 use Rattle.tempo.specs.declared.Candidate.{Candidate}
@@ -28,10 +28,10 @@ use Rattle.stability.specs.Answers.{shareOf}
 use Rattle.stability.proofs.Promises.{windows-most, agreeing-most}
 use Rattle.track.specs.declared.Analysis.{Analysis}
 use Rattle.rooms.specs.declared.Room.{Room}
-use Rattle.rooms.specs.Rooms.{Results, Spare, frameSlots, lagSlots, lagsOf, numbersFine, roomOf, suffices, envelopeRefusal, envelopeNumber}
+use Rattle.rooms.specs.Rooms.{Results, Spare, frameSlots, lagSlots, lagsOf, analysisNumbersFine, roomOf, suffices, envelopeRefusal, envelopeNumber}
 use Rattle.track_parts.specs.Parts.{onsetsIn}
 use Rattle.track.specs.Analyses.{estimateIn, periodIn, beatsIn, downbeatsIn, analysisOf, writtenIn}
-use Rattle.analysis.specs.Analyses.{AnalysedEnvelope}
+use Rattle.analysis.specs.Analyses.{EnvelopePromise}
 use Rattle.rooms.proofs.Numbers.{inBounds, by-bounds, room-inside}
 use Rattle.rooms.specs.Enough.{Enough}
 use Rattle.rooms.proofs.Rooms.{enough-suffices}
@@ -126,7 +126,7 @@ unfolding minLag maxLag ofInt ofBits div mul add lt le
 lag-slots = refl
 
 module _ (env : List Float) (r : Results) (s : Spare) (answer : Analysis) (after : Results) (left : Spare) (o : TempoOpts)
-    (told : AnalysedEnvelope env reportRate o r s answer after left) (is : o ≡ defaultOptions)
+    (told : EnvelopePromise env reportRate o r s answer after left) (is : o ≡ defaultOptions)
     (few : length env ≤ mostReported) (fine : every valueFine env ≡ true)
     (curves : CurvesLent (r .threshold) (r .clarity) (r .weight) (s .windowClarity) (s .windowWeight) (r .score) (s .work))
     (lists : ListsLent (r .onsets) (r .back) (r .beats) (r .downbeats)) where
@@ -151,13 +151,13 @@ module _ (env : List Float) (r : Results) (s : Spare) (answer : Analysis) (after
   not-refused =
       let n = by-bounds (length env) reportRate defaultOptions (omega arith) ∙ bounds in
       let q = enough-suffices (inBounds (length env) reportRate defaultOptions) r s enough in
-      lowest-0 (numbersFine (length env) reportRate defaultOptions) true (suffices (roomOf (length env) reportRate defaultOptions) (frameSlots r) (lagSlots r s) (length (s .work))) (every valueFine env)
+      lowest-0 (analysisNumbersFine (length env) reportRate defaultOptions) true (suffices (roomOf (length env) reportRate defaultOptions) (frameSlots r) (lagSlots r s) (length (s .work))) (every valueFine env)
       n refl
       (ap (λ (x : Room). suffices x (frameSlots r) (lagSlots r s) (length (s .work))) (room-inside (length env) reportRate defaultOptions n) ∙ q)
       fine
 
-  done : AnalysedEnvelope env reportRate defaultOptions r s answer after left
-  done = subst (λ (x : TempoOpts). AnalysedEnvelope env reportRate x r s answer after left) is told
+  done : EnvelopePromise env reportRate defaultOptions r s answer after left
+  done = subst (λ (x : TempoOpts). EnvelopePromise env reportRate x r s answer after left) is told
 
   answer-is : answer ≡ analysisOf env reportRate defaultOptions
   answer-is = done .answered ∙ passed-does _ _ _ not-refused

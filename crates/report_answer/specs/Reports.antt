@@ -4,7 +4,7 @@ use mathlib.Core.List.{List}
 use lib.ListN.{take}
 use lib.Ieee.{Float}
 use Rattle.numbers.specs.Refusals.{unlessRefused}
-use Rattle.lags.specs.Options.{defaultOptions}
+use Rattle.options.specs.Options.{defaultOptions}
 use Rattle.lags.specs.Lags.{minLag, maxLag}
 use Rattle.tempo.specs.declared.TempoEstimate.{TempoEstimate}
 use Rattle.stability.specs.declared.Stability.{Stability}

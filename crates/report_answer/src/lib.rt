@@ -3,7 +3,7 @@
 // Document 01, The reporting program: rate 48,000, the default options, at most 8,000 rows. Inner calls all. The analysis is lent room from one
 // function to the next: its curves first, then its lists.
 use analysis::analyse_envelope;
-use lags::TempoOpts;
+use options::TempoOpts;
 use report::MOST_REPORTED;
 use report_lines::put_lines;
 ghost use mathlib.Core.Path.{_≡_};

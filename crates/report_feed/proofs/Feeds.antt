@@ -18,24 +18,24 @@ use Rattle.numbers.specs.Lists.{every, filled}
 use Rattle.numbers.specs.Refusals.{lowest}
 use Rattle.numbers.specs.Rounded.{pick}
 use Rattle.flux.specs.Flux.{fluxAt}
-use Rattle.npy.specs.declared.Preamble.{Preamble}
-use Rattle.npy.specs.declared.Preamble.the-variants as preamble
-use Rattle.npy.specs.declared.Header.{Header}
-use Rattle.npy.specs.declared.Header.the-variants as header
-use Rattle.npy.specs.Header.{headerOf, preambleOf, starts}
+use Rattle.report_npy.specs.declared.Preamble.{Preamble}
+use Rattle.report_npy.specs.declared.Preamble.the-variants as preamble
+use Rattle.report_npy.specs.declared.Header.{Header}
+use Rattle.report_npy.specs.declared.Header.the-variants as header
+use Rattle.report_npy.specs.Header.{headerOf, preambleOf, starts}
 use Rattle.report.specs.Input.{preambleLength, valuesOf, shapeFine, dataNumber, reportNumber}
 use Rattle.report.specs.Stream.{RowTaken}
 use Rattle.report.proofs.Streams.{streamed-none, streamed-more}
 use Rattle.report_head.specs.declared.Feed.{Feed}
 use Rattle.report_head.specs.declared.Feed.the-variants as come
 use Rattle.report_head.specs.Heads.{behindFirst, behindText, FirstTaken, TextTaken}
-use Rattle.report_feed.specs.Feeds.{Fed, State, state, rowTaken, byteTaken, bytesTaken, readingOf, isDecided, RowsWithin, Within, Ready, InRows, Parts, Begins, Step, Found, Told, Decides, Closes}
+use Rattle.report_feed.specs.Feeds.{Fed, State, state, rowTaken, byteTaken, bytesTaken, readingOf, isDecided, RowsWithin, PartWithin, FeedReady, InRows, Parts, Begins, Step, InputFound, Told, Decides, Closes}
 use Rattle.report_feed.proofs.Inputs.{rows-fit, bins-some, bins-fit, number-short, number-malformed, number-text-short, number-text-malformed, number-data, number-shape, number-length}
 
 -- ---- nothing has come
 
 pub begins : Begins (come.First 0)
-unfolding Within Parts
+unfolding PartWithin Parts
 begins =
     record {
       feed-is = refl;
@@ -54,10 +54,10 @@ part-length k xs h = length-take-le (k - 0) xs (omega arith) ∙ omega arith
 
 -- one byte more, apart from what the state is
 record Moved (byte : ℕ) (feed : Feed) (held : List ℕ) (kept flux : List Float) (feed′ : Feed) (held′ : List ℕ) (kept′ flux′ : List Float) : Type 0 where
-  ready : Ready feed′ held′ kept′ flux′
+  ready : FeedReady feed′ held′ kept′ flux′
   fed : (input : List ℕ) (was : List Float) → Fed input feed held kept was flux → Fed (input ++ (byte ∷ [])) feed′ held′ kept′ was flux′
 
-moved-of : {byte : ℕ} {feed feed′ : Feed} {held held′ : List ℕ} {kept kept′ flux flux′ : List Float} → Ready feed′ held′ kept′ flux′
+moved-of : {byte : ℕ} {feed feed′ : Feed} {held held′ : List ℕ} {kept kept′ flux flux′ : List Float} → FeedReady feed′ held′ kept′ flux′
     → ((input : List ℕ) (was : List Float) → Parts input feed held kept was flux → Parts (input ++ (byte ∷ [])) feed′ held′ kept′ was flux′)
     → Moved byte feed held kept flux feed′ held′ kept′ flux′
 moved-of r f = record { ready = r; fed = λ input was x. record { ready = r; parts = f input was (x .parts) } }
@@ -67,8 +67,8 @@ step-of : {byte : ℕ} {feed feed′ : Feed} {held held′ : List ℕ} {kept kep
 unfolding bytesTaken
 step-of e m = record { state-is = e; ready = m .ready; fed = m .fed }
 
-ready-as : {feed feed′ : Feed} {held held′ : List ℕ} {kept flux : List Float} → Ready feed held kept flux → length held′ ≡ length held → Within feed′ kept
-    → Ready feed′ held′ kept flux
+ready-as : {feed feed′ : Feed} {held held′ : List ℕ} {kept flux : List Float} → FeedReady feed held kept flux → length held′ ≡ length held → PartWithin feed′ kept
+    → FeedReady feed′ held′ kept flux
 ready-as r e w = record { held-room = omega (arith, r .held-room); kept-room = r .kept-room; flux-room = r .flux-room; within = w }
 
 -- a byte is held behind those that are
@@ -76,7 +76,7 @@ grown : (held held′ : List ℕ) (have byte : ℕ) → held′ ≡ set held hav
 grown held held′ have byte e h = ap (take (have + 1)) e ∙ ap (λ (k : ℕ). take k (set held have byte)) (add-one have) ∙ take-suc-set held have byte h
 
 -- by what the state is told to be
-pub ready-at : {feed feed′ : Feed} {held : List ℕ} {kept flux : List Float} → feed ≡ feed′ → Ready feed held kept flux → Ready feed′ held kept flux
+pub ready-at : {feed feed′ : Feed} {held : List ℕ} {kept flux : List Float} → feed ≡ feed′ → FeedReady feed held kept flux → FeedReady feed′ held kept flux
 ready-at e r = rw (← e) r
 
 pub step-at : {bytes : List ℕ} {feed told feed′ : Feed} {held held′ : List ℕ} {kept kept′ flux flux′ : List Float} → feed ≡ told
@@ -84,7 +84,7 @@ pub step-at : {bytes : List ℕ} {feed told feed′ : Feed} {held held′ : List
 step-at e s = rw e s
 
 -- nothing is taken, since the input is refused
-pub step-refused : {number byte : ℕ} {held : List ℕ} {kept flux : List Float} → Ready (come.Refused number) held kept flux
+pub step-refused : {number byte : ℕ} {held : List ℕ} {kept flux : List Float} → FeedReady (come.Refused number) held kept flux
     → Step (byte ∷ []) (come.Refused number) held kept flux (come.Refused number) held kept flux
 unfolding Parts byteTaken
 step-refused {number} {byte} r =
@@ -93,13 +93,13 @@ step-refused {number} {byte} r =
 
 -- ---- the ten bytes
 
-pub first-fits : {have : ℕ} {held : List ℕ} {kept flux : List Float} → Ready (come.First have) held kept flux → (have < preambleLength) × (preambleLength ≤ length held)
-unfolding Within
+pub first-fits : {have : ℕ} {held : List ℕ} {kept flux : List Float} → FeedReady (come.First have) held kept flux → (have < preambleLength) × (preambleLength ≤ length held)
+unfolding PartWithin
 first-fits r = (r .within .0, omega (arith, r .held-room))
 
-pub step-first : {byte have : ℕ} {feed′ : Feed} {held held′ : List ℕ} {kept flux : List Float} → Ready (come.First have) held kept flux
+pub step-first : {byte have : ℕ} {feed′ : Feed} {held held′ : List ℕ} {kept flux : List Float} → FeedReady (come.First have) held kept flux
     → FirstTaken byte have held feed′ held′ → Step (byte ∷ []) (come.First have) held kept flux feed′ held′ kept flux
-unfolding Within Parts behindFirst byteTaken headerOf starts
+unfolding PartWithin Parts behindFirst byteTaken headerOf starts
 step-first {byte} {have} {feed′} {held} {held′} {kept} {flux} r t =
     step-of
     (ap (λ (f : Feed). state f held′ kept flux) (t .feed-is)
@@ -156,13 +156,13 @@ step-first {byte} {have} {feed′} {held} {held′} {kept} {flux} r t =
 
 -- ---- a header's text
 
-pub text-fits : {size have : ℕ} {held : List ℕ} {kept flux : List Float} → Ready (come.Text size have) held kept flux → (have < size) × (size ≤ length held)
-unfolding Within
+pub text-fits : {size have : ℕ} {held : List ℕ} {kept flux : List Float} → FeedReady (come.Text size have) held kept flux → (have < size) × (size ≤ length held)
+unfolding PartWithin
 text-fits r = (r .within .0, omega (arith, r .within .1, r .held-room))
 
-pub step-text : {byte size have : ℕ} {feed′ : Feed} {held held′ : List ℕ} {kept flux : List Float} → Ready (come.Text size have) held kept flux
+pub step-text : {byte size have : ℕ} {feed′ : Feed} {held held′ : List ℕ} {kept flux : List Float} → FeedReady (come.Text size have) held kept flux
     → TextTaken byte size have held feed′ held′ → Step (byte ∷ []) (come.Text size have) held kept flux feed′ held′ kept flux
-unfolding Within Parts behindText byteTaken
+unfolding PartWithin Parts behindText byteTaken
 step-text {byte} {size} {have} {feed′} {held} {held′} {kept} {flux} r t =
     step-of
     (ap (λ (f : Feed). state f held′ kept flux) (t .feed-is)
@@ -248,9 +248,9 @@ pair-fine {bytes} {bins} {t} {fine} {still} {pair} taken f z =
     ap (every magnitudeFine) (taken .kept-is)
     ∙ every-append magnitudeFine (drop bins pair) (valuesOf bytes) (every-drop magnitudeFine pair bins (f (and-left fine _ both))) (and-right fine _ both)
 
-module _ {rows bins t have : ℕ} {fine : Bool} {held : List ℕ} {kept flux : List Float} (r : Ready (come.Rows rows bins t have fine) held kept flux) where
+module _ {rows bins t have : ℕ} {fine : Bool} {held : List ℕ} {kept flux : List Float} (r : FeedReady (come.Rows rows bins t have fine) held kept flux) where
   pub rows-within : RowsWithin rows bins t have fine kept
-  unfolding Within
+  unfolding PartWithin
   rows-within = r .within
 
   pub have-fits : have < length held
@@ -268,7 +268,7 @@ module _ {rows bins t have : ℕ} {fine : Bool} {held : List ℕ} {kept flux : L
 
   -- a byte behind the last row
   pub step-behind : {byte : ℕ} → t ≡ rows → Step (byte ∷ []) (come.Rows rows bins t have fine) held kept flux (come.Refused 2) held kept flux
-  unfolding Within Parts byteTaken
+  unfolding PartWithin Parts byteTaken
   step-behind {byte} e =
       step-of (sym (pick-true _ _ _ (eq-eqb t rows e))) (moved-of (ready-as r refl tt) (λ input was p.
       record {
@@ -285,7 +285,7 @@ module _ {rows bins t have : ℕ} {fine : Bool} {held : List ℕ} {kept flux : L
   -- a byte within a row
   pub step-part : {byte : ℕ} → t < rows → have + 1 < bins * 4
       → Step (byte ∷ []) (come.Rows rows bins t have fine) held kept flux (come.Rows rows bins t (have + 1) fine) (set held have byte) kept flux
-  unfolding Within Parts byteTaken
+  unfolding PartWithin Parts byteTaken
   step-part {byte} h k =
       let w = rows-within in
       let more = grown held (set held have byte) have byte refl have-fits in
@@ -307,7 +307,7 @@ module _ {rows bins t have : ℕ} {fine : Bool} {held : List ℕ} {kept flux : L
   pub step-row : {byte : ℕ} {still : Bool} {bytes : List ℕ} {pair pair′ kept′ flux′ : List Float} → t < rows → have + 1 ≡ bins * 4 → bytes ≡ take (bins * 4) (set held have byte)
       → pair ≡ take (2 * bins) kept → RowTaken bytes bins t fine pair flux still pair′ flux′ → kept′ ≡ pair′ ++ drop (2 * bins) kept → length pair′ ≡ 2 * bins → length kept′ ≡ length kept → length flux′ ≡ length flux
       → Step (byte ∷ []) (come.Rows rows bins t have fine) held kept flux (come.Rows rows bins (t + 1) 0 still) (set held have byte) kept′ flux′
-  unfolding Within Parts byteTaken rowTaken
+  unfolding PartWithin Parts byteTaken rowTaken
   step-row {byte} {still} {bytes} {pair} {pair′} {kept′} {flux′} h k b q taken k′ lp lk lf =
       let w = rows-within in
       let q′ : take (2 * bins) kept′ ≡ pair′ = ap (take (2 * bins)) k′ ∙ take-at pair′ (drop (2 * bins) kept) (2 * bins) lp in
@@ -323,7 +323,7 @@ module _ {rows bins t have : ℕ} {fine : Bool} {held : List ℕ} {kept flux : L
       let lb : length bytes ≡ bins * 4 = ap length b ∙ length-take-le (bins * 4) (set held have byte) (omega (arith, length-set held have byte, have-fits)) in
       let room : t < length flux = omega (arith, r .flux-room, rows-fit rows bins (w .shape-is)) in
       let more : bytes ≡ take have held ++ (byte ∷ []) = b ∙ ap (λ (n : ℕ). take n (set held have byte)) (sym k) ∙ grown held (set held have byte) have byte refl have-fits in
-      let ready : Ready (come.Rows rows bins (t + 1) 0 still) (set held have byte) kept′ flux′
+      let ready : FeedReady (come.Rows rows bins (t + 1) 0 still) (set held have byte) kept′ flux′
       = record {
         held-room = omega (arith, r .held-room, length-set held have byte);
         kept-room = omega (arith, r .kept-room);
@@ -355,7 +355,7 @@ unfolding bytesTaken
 taken-append [] b s = refl
 taken-append (x ∷ a) b s = taken-append a b (byteTaken x s)
 
-pub step-none : {feed : Feed} {held : List ℕ} {kept flux : List Float} → Ready feed held kept flux → Step [] feed held kept flux feed held kept flux
+pub step-none : {feed : Feed} {held : List ℕ} {kept flux : List Float} → FeedReady feed held kept flux → Step [] feed held kept flux feed held kept flux
 unfolding bytesTaken
 step-none {feed} {held} {kept} {flux} r = record { state-is = refl; ready = r; fed = λ input was x. rw (append-nil input) x }
 
@@ -377,7 +377,7 @@ step-next bytes i h s u = rw (add-one i, take-suc bytes i 0 h) (step-on s u)
 
 -- ---- the input has ended
 
-refused-found : {input : List ℕ} {rows number : ℕ} {was flux : List Float} → (number ≡ 0 → ⊥) → number ≡ 0 → Found input rows was flux
+refused-found : {input : List ℕ} {rows number : ℕ} {was flux : List Float} → (number ≡ 0 → ⊥) → number ≡ 0 → InputFound input rows was flux
 refused-found n z = absurd (n z)
 
 -- ---- an input that is refused is decided, and no other
@@ -405,7 +405,7 @@ decides-refused {number} =
 -- ---- where the input ends
 
 pub closes-first : {have : ℕ} → Closes (come.First have) (record { number = 5; rows = 0 })
-unfolding Within Parts readingOf
+unfolding PartWithin Parts readingOf
 closes-first {have} =
     record {
       answer-is = refl;
@@ -415,7 +415,7 @@ closes-first {have} =
     }
 
 pub closes-text : {size have : ℕ} → Closes (come.Text size have) (record { number = 5; rows = 0 })
-unfolding Within Parts readingOf
+unfolding PartWithin Parts readingOf
 closes-text {size} {have} =
     record {
       answer-is = refl;
@@ -439,7 +439,7 @@ closes-refused {number} =
 
 pub closes-rows : {rows bins t have number : ℕ} {fine : Bool} → number ≡ lowest true (eqb t rows) true fine
     → Closes (come.Rows rows bins t have fine) (record { number = number; rows = rows })
-unfolding Within Parts readingOf dataNumber
+unfolding PartWithin Parts readingOf dataNumber
 closes-rows {rows} {bins} {t} {have} {number} {fine} n =
     record {
       answer-is = ap (λ (k : ℕ). record { number = k; rows = rows }) n;
@@ -447,7 +447,7 @@ closes-rows {rows} {bins} {t} {have} {number} {fine} n =
     }
   where
     by : (input held : List ℕ) (kept was flux : List Float) → RowsWithin rows bins t have fine kept → InRows input rows bins t have fine held kept was flux
-        → Ready (come.Rows rows bins t have fine) held kept flux → (b : Bool) → eqb t rows ≡ b → Told input (record { number = number; rows = rows }) was flux
+        → FeedReady (come.Rows rows bins t have fine) held kept flux → (b : Bool) → eqb t rows ≡ b → Told input (record { number = number; rows = rows }) was flux
     by input held kept was flux w p r false e =
         let fewer : t < rows = let d : t ≡ rows → ⊥ = eqb-false t rows e in omega (arith, w .row-is) in
         let l : length (take have held) ≡ have = length-take-le have held (omega (arith, have-fits r)) in

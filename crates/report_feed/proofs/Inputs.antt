@@ -14,11 +14,11 @@ use Rattle.numbers.proofs.Tabs.{length-tab, filled-whole}
 use Rattle.numbers.specs.Limits.{magnitudeFine, valueFine}
 use Rattle.numbers.specs.Lists.{every, curve}
 use Rattle.numbers.specs.Rounded.{pick}
-use Rattle.npy.specs.declared.Preamble.{Preamble}
-use Rattle.npy.specs.declared.Preamble.the-variants as preamble
-use Rattle.npy.specs.declared.Header.{Header}
-use Rattle.npy.specs.declared.Header.the-variants as header
-use Rattle.npy.specs.Header.{magic, starts, headerOf, preambleOf}
+use Rattle.report_npy.specs.declared.Preamble.{Preamble}
+use Rattle.report_npy.specs.declared.Preamble.the-variants as preamble
+use Rattle.report_npy.specs.declared.Header.{Header}
+use Rattle.report_npy.specs.declared.Header.the-variants as header
+use Rattle.report_npy.specs.Header.{magic, starts, headerOf, preambleOf}
 use Rattle.flux.specs.Flux.{fluxAt}
 use Rattle.flux.proofs.Fluxes.{flux-curve-fine}
 use Rattle.report.specs.Input.{mostReported, preambleLength, valuesOf, shapeFine, dataNumber, headerNumber, preambleNumber, reportNumber, headerFlux, preambleFlux, reportFlux}

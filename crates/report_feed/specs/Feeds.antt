@@ -13,9 +13,9 @@ use Rattle.numbers.specs.Lists.{every, filled}
 use Rattle.numbers.specs.Refusals.{lowest, malformed}
 use Rattle.numbers.specs.Rounded.{pick}
 use Rattle.flux.specs.Flux.{fluxAt}
-use Rattle.npy.specs.declared.Header.the-variants as header
-use Rattle.npy.specs.declared.Preamble.the-variants as preamble
-use Rattle.npy.specs.Header.{headerOf, preambleOf}
+use Rattle.report_npy.specs.declared.Header.the-variants as header
+use Rattle.report_npy.specs.declared.Preamble.the-variants as preamble
+use Rattle.report_npy.specs.Header.{headerOf, preambleOf}
 use Rattle.report.specs.Input.{mostReported, preambleLength, shapeFine, valuesOf, reportNumber}
 use Rattle.report.specs.Stream.{Streamed}
 use Rattle.report_head.specs.declared.Feed.{Feed}
@@ -89,18 +89,18 @@ pub record RowsWithin (rows bins t have : ℕ) (fine : Bool) (kept : List Float)
   pub kept-fine : fine ≡ true → every magnitudeFine (take (2 * bins) kept) ≡ true
 
 -- what is coming is not yet whole, and the rows kept are fine while all that came are
-unfoldable pub Within : Feed → (kept : List Float) → Type 0
-Within (come.First have) kept = (have < preambleLength) × (every magnitudeFine kept ≡ true)
-Within (come.Text size have) kept = (have < size) × (size ≤ mostText) × (every magnitudeFine kept ≡ true)
-Within (come.Rows rows bins t have fine) kept = RowsWithin rows bins t have fine kept
-Within (come.Refused number) kept = Unit {0}
+unfoldable pub PartWithin : Feed → (kept : List Float) → Type 0
+PartWithin (come.First have) kept = (have < preambleLength) × (every magnitudeFine kept ≡ true)
+PartWithin (come.Text size have) kept = (have < size) × (size ≤ mostText) × (every magnitudeFine kept ≡ true)
+PartWithin (come.Rows rows bins t have fine) kept = RowsWithin rows bins t have fine kept
+PartWithin (come.Refused number) kept = Unit {0}
 
 -- there is room, and what is coming is not yet whole
-pub record Ready (feed : Feed) (held : List ℕ) (kept flux : List Float) : Type 0 where
+pub record FeedReady (feed : Feed) (held : List ℕ) (kept flux : List Float) : Type 0 where
   pub held-room : heldRoom ≤ length held
   pub kept-room : 2 * mostBins ≤ length kept
   pub flux-room : mostReported ≤ length flux
-  pub within : Within feed kept
+  pub within : PartWithin feed kept
 
 -- ---- what has come of an input. The flux was `was` before anything came.
 
@@ -142,7 +142,7 @@ Parts input (come.Refused number) held kept was flux = InRefused input number
 
 -- this input has come so far
 pub record Fed (input : List ℕ) (feed : Feed) (held : List ℕ) (kept was flux : List Float) : Type 0 where
-  pub ready : Ready feed held kept flux
+  pub ready : FeedReady feed held kept flux
   pub parts : Parts input feed held kept was flux
 
 -- ---- what is promised: the answer and every slot, and for every input, what they are of it
@@ -156,12 +156,12 @@ pub record Begins (feed : Feed) : Type 0 where
 -- These bytes are taken, one after the other. Whatever input had come so far, it has come with them behind it.
 pub record Step (bytes : List ℕ) (feed : Feed) (held : List ℕ) (kept flux : List Float) (feed′ : Feed) (held′ : List ℕ) (kept′ flux′ : List Float) : Type 0 where
   pub state-is : state feed′ held′ kept′ flux′ ≡ bytesTaken bytes (state feed held kept flux)
-  pub ready : Ready feed′ held′ kept′ flux′
+  pub ready : FeedReady feed′ held′ kept′ flux′
   pub fed : (input : List ℕ) (was : List Float) → Fed input feed held kept was flux → Fed (input ++ bytes) feed′ held′ kept′ was flux′
 
 -- An input that nothing refuses: its parts are those that a file has, ten bytes, a text as long as they say, and the data of the shape that the text
 -- says. The flux is that of the data's rows.
-pub record Found (input : List ℕ) (rows : ℕ) (was flux : List Float) : Type 0 where
+pub record InputFound (input : List ℕ) (rows : ℕ) (was flux : List Float) : Type 0 where
   pub first : List ℕ
   pub text : List ℕ
   pub body : List ℕ
@@ -179,7 +179,7 @@ pub record Found (input : List ℕ) (rows : ℕ) (was flux : List Float) : Type 
 -- the number of a whole input, and where nothing refuses it, its rows and their flux
 pub record Told (input : List ℕ) (answer : Reading) (was flux : List Float) : Type 0 where
   pub number-is : answer .number ≡ reportNumber input
-  pub found : answer .number ≡ 0 → Found input (answer .rows) was flux
+  pub found : answer .number ≡ 0 → InputFound input (answer .rows) was flux
 
 -- the answer, and whatever input came, it is right of it
 pub record Closes (feed : Feed) (answer : Reading) : Type 0 where

@@ -9,7 +9,7 @@ use report_head::Feed;
 use report_head::take_first;
 use report_head::take_text;
 ghost use mathlib.Core.List.{_∷_, []};
-ghost use Rattle.report_feed.specs.Feeds.{Ready, Step, Begins, Decides, Closes};
+ghost use Rattle.report_feed.specs.Feeds.{FeedReady, Step, Begins, Decides, Closes};
 
 // The number of an input, and how many rows it has where that is 0.
 pub struct Reading {
@@ -36,7 +36,7 @@ fn take_data(
     kept: &mut [f32],
     flux: &mut [f64],
 ) -> Feed
-    requires { ⌜ Ready (Feed.Rows rows bins t have fine) (now held) (now kept) (now flux) ⌝ }
+    requires { ⌜ FeedReady (Feed.Rows rows bins t have fine) (now held) (now kept) (now flux) ⌝ }
     ensures { λ r. ⌜ Step (byte ∷ []) (Feed.Rows rows bins t have fine) (now (held .entry)) (now (kept .entry)) (now (flux .entry)) r (now (held .exit)) (now (kept .exit)) (now (flux .exit)) ⌝ }
 {
     if t == rows {
@@ -70,7 +70,7 @@ fn take_data(
 
 // Takes one byte.
 fn take_byte(byte: u8, feed: Feed, held: &mut [u8], kept: &mut [f32], flux: &mut [f64]) -> Feed
-    requires { ⌜ Ready feed (now held) (now kept) (now flux) ⌝ }
+    requires { ⌜ FeedReady feed (now held) (now kept) (now flux) ⌝ }
     ensures { λ r. ⌜ Step (byte ∷ []) feed (now (held .entry)) (now (kept .entry)) (now (flux .entry)) r (now (held .exit)) (now (kept .exit)) (now (flux .exit)) ⌝ }
 {
     match feed {
@@ -95,7 +95,7 @@ pub fn take_bytes(
     kept: &mut [f32],
     flux: &mut [f64],
 ) -> Feed
-    requires { ⌜ Ready feed (now held) (now kept) (now flux) ⌝ }
+    requires { ⌜ FeedReady feed (now held) (now kept) (now flux) ⌝ }
     ensures { λ r. ⌜ Step (now (bytes .entry)) feed (now (held .entry)) (now (kept .entry)) (now (flux .entry)) r (now (held .exit)) (now (kept .exit)) (now (flux .exit)) ⌝ }
 {
     let mut come = feed;

@@ -8,9 +8,9 @@ use native.Mathlib.Omega.{arith}
 use lib.Dec.{leb}
 use lib.ListN.{length, getD, take}
 use Rattle.numbers.specs.Rounded.{pick}
-use Rattle.npy.specs.declared.Preamble.{Preamble}
-use Rattle.npy.specs.declared.Preamble.the-variants as preamble
-use Rattle.npy.specs.Header.{magic, starts, preambleOf}
+use Rattle.report_npy.specs.declared.Preamble.{Preamble}
+use Rattle.report_npy.specs.declared.Preamble.the-variants as preamble
+use Rattle.report_npy.specs.Header.{magic, starts, preambleOf}
 use Rattle.report_head.specs.Heads.{mostText}
 
 -- a length of two bytes

@@ -7,11 +7,11 @@ use lib.Dec.{ltb, eqb}
 use lib.ListN.{take, set}
 use Rattle.numbers.specs.Refusals.{malformed}
 use Rattle.numbers.specs.Rounded.{pick}
-use Rattle.npy.specs.declared.Header.{Header}
-use Rattle.npy.specs.declared.Header.the-variants as header
-use Rattle.npy.specs.declared.Preamble.{Preamble}
-use Rattle.npy.specs.declared.Preamble.the-variants as preamble
-use Rattle.npy.specs.Header.{headerOf, preambleOf}
+use Rattle.report_npy.specs.declared.Header.{Header}
+use Rattle.report_npy.specs.declared.Header.the-variants as header
+use Rattle.report_npy.specs.declared.Preamble.{Preamble}
+use Rattle.report_npy.specs.declared.Preamble.the-variants as preamble
+use Rattle.report_npy.specs.Header.{headerOf, preambleOf}
 use Rattle.report.specs.Input.{preambleLength, shapeFine}
 use Rattle.report_head.specs.declared.Feed.{Feed}
 use Rattle.report_head.specs.declared.Feed.the-variants as come

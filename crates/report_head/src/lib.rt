@@ -1,14 +1,14 @@
 // The head of an input of the reporting program that comes byte by byte: its first ten bytes, and the header's text behind them.
 //
 // Document 01, The reporting program. Inner calls all: report_feed calls them, which takes the rows too.
-use npy::Header;
-use npy::Preamble;
+use report_npy::Header;
+use report_npy::Preamble;
 use numbers::MALFORMED;
 use numbers::OUT_OF_BOUNDS;
 ghost use mathlib.Core.Path.{_≡_};
 ghost use Prim.Native.Nat.{ℕ, _≤_, _<_};
 ghost use lib.ListN.{length};
-ghost use Rattle.npy.specs.Header.{preambleOf};
+ghost use Rattle.report_npy.specs.Header.{preambleOf};
 ghost use Rattle.report.specs.Input.{preambleLength};
 ghost use Rattle.report_head.specs.Heads.{mostText, behindFirst, behindText, FirstTaken, TextTaken};
 
@@ -41,7 +41,7 @@ pub enum Feed {
 fn stated(bytes: &[u8]) -> Preamble
     ensures { λ r. ⌜ (r ≡ preambleOf (now (bytes .entry))) × ((size : ℕ) → r ≡ Preamble.Length size → size ≤ mostText) ⌝ }
 {
-    npy::read_preamble(bytes)
+    report_npy::read_preamble(bytes)
 }
 
 // What comes behind the ten bytes, by what they say. A header's text of no bytes is malformed.
@@ -105,5 +105,5 @@ pub fn take_text(byte: u8, size: usize, have: usize, held: &mut [u8]) -> Feed
     if come < size {
         return Feed::Text { size, have: come };
     }
-    behind_text(npy::read_header(&held[0..size]))
+    behind_text(report_npy::read_header(&held[0..size]))
 }

@@ -19,7 +19,7 @@ use Rattle.report_text.specs.Text.{refusalText, Put}
 use Rattle.report_text.proofs.Puts.{put-as}
 use Rattle.report_lines.specs.Lines.{textRoom}
 use Rattle.report_answer.specs.Reports.{reportOf, answerOf}
-use Rattle.report_io.specs.Answers.{textOf, Putable, Answered}
+use Rattle.report_io.specs.Answers.{textOf, Putable, TextAnswered}
 
 -- ---- what is put
 
@@ -53,5 +53,5 @@ module _ {was flux : List Float} {reading : Reading} (r : InputRead was reading 
       by zero e = ap reportOf (accepted (r .told) e .flux-is)
       by (suc k) e = refl
 
-  pub answered : {bytes bytes′ : List ℕ} {end : ℕ} → Put bytes 0 (textOf reading flux) textRoom end bytes′ → Answered bytes end bytes′
+  pub answered : {bytes bytes′ : List ℕ} {end : ℕ} → Put bytes 0 (textOf reading flux) textRoom end bytes′ → TextAnswered bytes end bytes′
   answered p = record { input = r .input; text-is = put-as read-text (omega arith) p }

@@ -27,6 +27,6 @@ pub record Putable (reading : Reading) (flux : List Float) : Type 0 where
 
 -- There is an input of which the first bytes are the whole text. No contract can say which bytes come, so which input it is, is not proved:
 -- runs show it.
-pub record Answered (bytes : List ℕ) (end : ℕ) (bytes′ : List ℕ) : Type 0 where
+pub record TextAnswered (bytes : List ℕ) (end : ℕ) (bytes′ : List ℕ) : Type 0 where
   pub input : List ℕ
   pub text-is : Put bytes 0 (answerOf input) textRoom end bytes′

@@ -13,7 +13,7 @@ ghost use lib.ListN.{length};
 ghost use Rattle.report.specs.Input.{mostReported};
 ghost use Rattle.report_text.specs.Text.{Put};
 ghost use Rattle.report_lines.specs.Lines.{textRoom};
-ghost use Rattle.report_io.specs.Answers.{textOf, Putable, Answered};
+ghost use Rattle.report_io.specs.Answers.{textOf, Putable, TextAnswered};
 
 // 11 bytes for each entry of three lists, and 139 for the words
 const TEXT_ROOM: usize = 11 * (3 * MOST_REPORTED) + 139;
@@ -39,7 +39,7 @@ fn put_answer(reading: Reading, flux: &[f64], bytes: &mut [u8]) -> usize
 // Reads standard input, to its end or until it is refused, and puts what is to be written of it.
 fn answer(flux: &mut [f64], bytes: &mut [u8]) -> usize
     requires { ⌜ (mostReported ≤ length (now flux)) × (textRoom ≤ length (now bytes)) ⌝ }
-    ensures { λ r. ⌜ Answered (now (bytes .entry)) r (now (bytes .exit)) ⌝ }
+    ensures { λ r. ⌜ TextAnswered (now (bytes .entry)) r (now (bytes .exit)) ⌝ }
 {
     let reading = report_read::read_input(flux);
     put_answer(reading, flux, bytes)

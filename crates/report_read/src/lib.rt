@@ -16,7 +16,7 @@ ghost use lib.ListN.{length, take};
 ghost use Rattle.numbers.specs.Limits.{magnitudeFine, mostBins};
 ghost use Rattle.numbers.specs.Lists.{every};
 ghost use Rattle.report.specs.Input.{mostReported};
-ghost use Rattle.report_feed.specs.Feeds.{heldRoom, Ready, Step};
+ghost use Rattle.report_feed.specs.Feeds.{heldRoom, FeedReady, Step};
 ghost use Rattle.report_read.specs.Reads.{InputRead};
 
 // room for two rows of as many bins as there may be
@@ -37,7 +37,7 @@ fn pass_on(
     kept: &mut [f32],
     flux: &mut [f64],
 ) -> Feed
-    requires { ⌜ (got ≤ length (now bytes)) × Ready feed (now held) (now kept) (now flux) ⌝ }
+    requires { ⌜ (got ≤ length (now bytes)) × FeedReady feed (now held) (now kept) (now flux) ⌝ }
     ensures { λ r. ⌜ Step (take got (now (bytes .entry))) feed (now (held .entry)) (now (kept .entry)) (now (flux .entry)) r (now (held .exit)) (now (kept .exit)) (now (flux .exit)) ⌝ }
 {
     report_feed::take_bytes(&bytes[0..got], feed, held, kept, flux)

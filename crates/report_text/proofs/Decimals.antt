@@ -6,8 +6,8 @@ use Prim.Native.Nat.{ℕ, _+_, _*_, _/_, _%_, _≤_, _<_}
 use native.Mathlib.Omega.{arith}
 use lib.ListN.{length, length-append}
 use Rattle.numbers.proofs.Tests.{lt-or-le}
-use Rattle.npy.proofs.Decimals.{decimal-small, decimal-more}
-use Rattle.npy.specs.Header.{digitOf, decimal}
+use Rattle.report_npy.proofs.Decimals.{decimal-small, decimal-more}
+use Rattle.report_npy.specs.Header.{digitOf, decimal}
 
 -- the last digit of a number of several
 pub decimal-last : (n : ℕ) → 10 ≤ n → decimal n ≡ decimal (n / 10) ++ (digitOf (n % 10) ∷ [])

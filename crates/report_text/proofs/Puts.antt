@@ -6,7 +6,7 @@ use native.Mathlib.Numerals.{add-one}
 use native.Mathlib.Omega.{arith}
 use lib.ListN.{length, getD, take, set, length-append}
 use lib.Seq.{take-suc, take-suc-set, take-nil}
-use Rattle.npy.specs.Header.{digitOf, decimal}
+use Rattle.report_npy.specs.Header.{digitOf, decimal}
 use Rattle.report_text.specs.Text.{Put, spaced, slash, noneText, numbersText, listText, shareText}
 use Rattle.report_text.proofs.Decimals.{decimal-last, decimal-one}
 

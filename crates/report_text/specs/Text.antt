@@ -4,7 +4,7 @@ use Prim.Native.Nat.{ℕ, zero, suc, _+_, _*_, _≤_}
 use mathlib.Core.Path.{_≡_}
 use mathlib.Core.List.{List, [], _∷_, _++_}
 use lib.ListN.{length, take}
-use Rattle.npy.specs.Header.{decimal, space, lineFeed}
+use Rattle.report_npy.specs.Header.{decimal, space, lineFeed}
 
 -- ---- the words
 

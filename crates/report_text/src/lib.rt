@@ -5,7 +5,7 @@ ghost use mathlib.Core.Path.{_≡_};
 ghost use Prim.Native.Nat.{_+_, _*_, _≤_};
 ghost use mathlib.Core.List.{[], _∷_};
 ghost use lib.ListN.{length};
-ghost use Rattle.npy.specs.Header.{decimal};
+ghost use Rattle.report_npy.specs.Header.{decimal};
 ghost use Rattle.report_text.specs.Text.{Put, spaced, numbersText, listText, lineText, shareText, stabilityText, reportText, refusalText, listRoom, reportRoom};
 
 fn put_byte(out: &mut [u8], at: usize, byte: u8) -> usize

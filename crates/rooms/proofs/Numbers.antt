@@ -13,10 +13,10 @@ use Rattle.numbers.specs.Limits.{mostRows, mostBins, between, magnitudeFine, va
 use Rattle.numbers.specs.Lists.{every}
 use Rattle.numbers.proofs.Tests.{which, and-left, and-right, and-both, and-held, and-failed, pick-true, pick-false, lowest-zero, lowest-0, lowest-1, lowest-2, lowest-3, lowest-4}
 use Rattle.threshold.specs.Threshold.{windowRoom}
-use Rattle.lags.specs.declared.TempoOpts.{TempoOpts}
+use Rattle.options.specs.declared.TempoOpts.{TempoOpts}
 use Rattle.lags.specs.Lags.{boundsFine}
 use Rattle.rooms.specs.declared.Room.{Room}
-use Rattle.rooms.specs.Rooms.{lagsOf, sortingOf, numbersFine, roomOf, suffices, envelopeRefusal, magnitudesRefusal}
+use Rattle.rooms.specs.Rooms.{lagsOf, sortingOf, analysisNumbersFine, roomOf, suffices, envelopeRefusal, magnitudesRefusal}
 
 -- the room that is named where the numbers are in bounds, and where they are not
 abbrev pub inBounds : (rows rate : ℕ) → TempoOpts → Room
@@ -26,29 +26,29 @@ abbrev pub outside : Room
 outside = record { number = 1; rows = 0; lags = 0; sorting = 0 }
 
 module _ (rows rate : ℕ) (o : TempoOpts) where
-  pub too-long : mostRows < rows → numbersFine rows rate o ≡ false
-  unfolding numbersFine
+  pub too-long : mostRows < rows → analysisNumbersFine rows rate o ≡ false
+  unfolding analysisNumbersFine
   too-long h = let e = lt-leb rows mostRows h in sym (and-failed (leb rows mostRows) (boundsFine rate o) e) ∙ e
 
-  pub by-bounds : rows ≤ mostRows → numbersFine rows rate o ≡ boundsFine rate o
-  unfolding numbersFine
+  pub by-bounds : rows ≤ mostRows → analysisNumbersFine rows rate o ≡ boundsFine rate o
+  unfolding analysisNumbersFine
   by-bounds h = sym (and-held (leb rows mostRows) (boundsFine rate o) (le-leb rows mostRows h))
 
-  pub rows-fine : numbersFine rows rate o ≡ true → rows ≤ mostRows
-  unfolding numbersFine
+  pub rows-fine : analysisNumbersFine rows rate o ≡ true → rows ≤ mostRows
+  unfolding analysisNumbersFine
   rows-fine e = leb-true rows mostRows (and-left (leb rows mostRows) (boundsFine rate o) e)
 
-  pub bounds-fine : numbersFine rows rate o ≡ true → boundsFine rate o ≡ true
-  unfolding numbersFine
+  pub bounds-fine : analysisNumbersFine rows rate o ≡ true → boundsFine rate o ≡ true
+  unfolding analysisNumbersFine
   bounds-fine e = and-right (leb rows mostRows) (boundsFine rate o) e
 
-  pub room-inside : numbersFine rows rate o ≡ true → roomOf rows rate o ≡ inBounds rows rate o
+  pub room-inside : analysisNumbersFine rows rate o ≡ true → roomOf rows rate o ≡ inBounds rows rate o
   unfolding roomOf
-  room-inside e = pick-true (numbersFine rows rate o) (inBounds rows rate o) outside e
+  room-inside e = pick-true (analysisNumbersFine rows rate o) (inBounds rows rate o) outside e
 
-  pub room-outside : numbersFine rows rate o ≡ false → roomOf rows rate o ≡ outside
+  pub room-outside : analysisNumbersFine rows rate o ≡ false → roomOf rows rate o ≡ outside
   unfolding roomOf
-  room-outside e = pick-false (numbersFine rows rate o) (inBounds rows rate o) outside e
+  room-outside e = pick-false (analysisNumbersFine rows rate o) (inBounds rows rate o) outside e
 
   -- the room that is computed
   pub named-room : (lags sorting least : ℕ) → rows ≤ mostRows → boundsFine rate o ≡ true → lags ≡ lagsOf rate o → least ≡ windowRoom rows → sorting ≡ max lags least
@@ -82,15 +82,15 @@ module _ (room : Room) (frames lags : List ℕ) (work : ℕ) where
 
 -- the numbers are in bounds where the room was named
 module _ (rows rate : ℕ) (o : TempoOpts) (room : Room) (is : room ≡ roomOf rows rate o) where
-  pub named : room .number ≡ 0 → numbersFine rows rate o ≡ true
-  named z = ⊎-elim (λ e. e) (λ e. let n : room .number ≡ 1 = ap (λ (r : Room). r .number) (is ∙ room-outside rows rate o e) in absurd (omega arith)) (which (numbersFine rows rate o))
+  pub named : room .number ≡ 0 → analysisNumbersFine rows rate o ≡ true
+  named z = ⊎-elim (λ e. e) (λ e. let n : room .number ≡ 1 = ap (λ (r : Room). r .number) (is ∙ room-outside rows rate o e) in absurd (omega arith)) (which (analysisNumbersFine rows rate o))
 
-  pub unnamed : (room .number ≡ 0 → ⊥) → numbersFine rows rate o ≡ false
-  unnamed h = ⊎-elim (λ e. absurd (h (ap (λ (r : Room). r .number) (is ∙ room-inside rows rate o e)))) (λ e. e) (which (numbersFine rows rate o))
+  pub unnamed : (room .number ≡ 0 → ⊥) → analysisNumbersFine rows rate o ≡ false
+  unnamed h = ⊎-elim (λ e. absurd (h (ap (λ (r : Room). r .number) (is ∙ room-inside rows rate o e)))) (λ e. e) (which (analysisNumbersFine rows rate o))
 
 module _ (env : List Float) (rate : ℕ) (o : TempoOpts) (frames lags : List ℕ) (work : ℕ) (room : Room) (is : room ≡ roomOf (length env) rate o) where
   abbrev fine : Bool
-  fine = numbersFine (length env) rate o
+  fine = analysisNumbersFine (length env) rate o
 
   abbrev roomy : Bool
   roomy = suffices (roomOf (length env) rate o) frames lags work
@@ -122,7 +122,7 @@ module _
     (magnitudes : List Float) (rows bins rate : ℕ) (o : TempoOpts) (flux : ℕ) (frames lags : List ℕ) (work : ℕ)
     (room : Room) (is : room ≡ roomOf rows rate o) where
   abbrev bounds : Bool
-  bounds = numbersFine rows rate o && between 1 mostBins bins
+  bounds = analysisNumbersFine rows rate o && between 1 mostBins bins
 
   abbrev whole : Bool
   whole = eqb (length magnitudes) (rows * bins)
@@ -139,11 +139,11 @@ module _
   refused-1 e = sym (lowest-1 bounds whole wide loud e)
 
   pub magnitudes-1 : (room .number ≡ 0 → ⊥) → 1 ≡ magnitudesRefusal magnitudes rows bins rate o flux frames lags work
-  magnitudes-1 h = let e = unnamed rows rate o room is h in refused-1 (sym (and-failed (numbersFine rows rate o) (between 1 mostBins bins) e) ∙ e)
+  magnitudes-1 h = let e = unnamed rows rate o room is h in refused-1 (sym (and-failed (analysisNumbersFine rows rate o) (between 1 mostBins bins) e) ∙ e)
 
   module _ (z : room .number ≡ 0) where
     held : (b : Bool) → between 1 mostBins bins ≡ b → bounds ≡ b
-    held b e = sym (and-held (numbersFine rows rate o) (between 1 mostBins bins) (named rows rate o room is z)) ∙ e
+    held b e = sym (and-held (analysisNumbersFine rows rate o) (between 1 mostBins bins) (named rows rate o room is z)) ∙ e
 
     pub few-bins : bins < 1 → 1 ≡ magnitudesRefusal magnitudes rows bins rate o flux frames lags work
     few-bins h = let e = lt-leb 1 bins h in refused-1 (held false (sym (and-failed (leb 1 bins) (leb bins mostBins) e) ∙ e))
@@ -194,7 +194,7 @@ pub flux-asks : (magnitudes : List Float) (rows bins rate : ℕ) (o : TempoOpts)
 unfolding magnitudesRefusal
 flux-asks magnitudes rows bins rate o flux frames lags work e =
     let suffice = suffices (roomOf rows rate o) frames lags work in
-    let p = lowest-zero (numbersFine rows rate o && between 1 mostBins bins) (eqb (length magnitudes) (rows * bins)) (leb rows flux && suffice) (every magnitudeFine magnitudes) e in
+    let p = lowest-zero (analysisNumbersFine rows rate o && between 1 mostBins bins) (eqb (length magnitudes) (rows * bins)) (leb rows flux && suffice) (every magnitudeFine magnitudes) e in
     record {
       whole = eqb-true _ _ (p .lengths);
       loud = p .values;

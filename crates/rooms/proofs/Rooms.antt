@@ -17,14 +17,14 @@ use Rattle.numbers.proofs.Tests.{which, true-not-false, and-left, and-right, an
 use Rattle.numbers.proofs.Tabs.{length-tab}
 use Rattle.flux.specs.Flux.{fluxAt}
 use Rattle.flux.proofs.Fluxes.{flux-curve-fine}
-use Rattle.lags.specs.declared.TempoOpts.{TempoOpts}
+use Rattle.options.specs.declared.TempoOpts.{TempoOpts}
 use Rattle.rooms.specs.declared.Room.{Room}
 use Rattle.rooms.specs.Rooms.{
   Results,
   Spare,
   frameSlots,
   lagSlots,
-  numbersFine,
+  analysisNumbersFine,
   roomOf,
   suffices,
   envelopeRefusal,
@@ -135,9 +135,9 @@ none-enough r s =
     }
 
 -- a room with a slice too short for it has its numbers in bounds
-short-bounds : (rows rate : ℕ) (o : TempoOpts) (r : Results) (s : Spare) → Short (roomOf rows rate o) r s → numbersFine rows rate o ≡ true
+short-bounds : (rows rate : ℕ) (o : TempoOpts) (r : Results) (s : Spare) → Short (roomOf rows rate o) r s → analysisNumbersFine rows rate o ≡ true
 short-bounds rows rate o r s w =
-    ⊎-elim (λ e. e) (λ e. absurd (enough-not-short outside r s (none-enough r s) (subst (λ (x : Room). Short x r s) (room-outside rows rate o e) w))) (which (numbersFine rows rate o))
+    ⊎-elim (λ e. e) (λ e. absurd (enough-not-short outside r s (none-enough r s) (subst (λ (x : Room). Short x r s) (room-outside rows rate o e) w))) (which (analysisNumbersFine rows rate o))
 
 -- ---- an envelope
 
@@ -149,7 +149,7 @@ never-3 true false r v e z = omega arith
 never-3 false l r v e z = omega arith
 
 -- the room that is named for an envelope in bounds is what an analysis asks for
-room-ready : (env : List Float) (rate : ℕ) (o : TempoOpts) (r : Results) (s : Spare) → numbersFine (length env) rate o ≡ true
+room-ready : (env : List Float) (rate : ℕ) (o : TempoOpts) (r : Results) (s : Spare) → analysisNumbersFine (length env) rate o ≡ true
     → Enough (inBounds (length env) rate o) r s → every valueFine env ≡ true → Ready env rate o r s
 room-ready env rate o r s b e v =
     record {
@@ -174,13 +174,13 @@ module _ (env : List Float) (rate : ℕ) (o : TempoOpts) (r : Results) (s : Spar
   -- with each slice at least what `room_of` names, number 3 is never given
   pub exact-room : Enough (roomOf (length env) rate o) r s → envelopeNumber env rate o r s ≡ 3 → ⊥
   unfolding envelopeRefusal
-  exact-room e = never-3 (numbersFine (length env) rate o) true (enough? (roomOf (length env) rate o) r s) (every valueFine env) (enough-suffices (roomOf (length env) rate o) r s e)
+  exact-room e = never-3 (analysisNumbersFine (length env) rate o) true (enough? (roomOf (length env) rate o) r s) (every valueFine env) (enough-suffices (roomOf (length env) rate o) r s e)
 
   -- with one slot fewer anywhere it is
   pub one-slot-fewer : Short (roomOf (length env) rate o) r s → envelopeNumber env rate o r s ≡ 3
   unfolding envelopeRefusal
   one-slot-fewer w =
-      lowest-3 (numbersFine (length env) rate o) true (enough? (roomOf (length env) rate o) r s) (every valueFine env)
+      lowest-3 (analysisNumbersFine (length env) rate o) true (enough? (roomOf (length env) rate o) r s) (every valueFine env)
       (short-bounds (length env) rate o r s w)
       refl
       (short-fails (roomOf (length env) rate o) r s w)
@@ -189,14 +189,14 @@ module _ (env : List Float) (rate : ℕ) (o : TempoOpts) (r : Results) (s : Spar
   pub ready-of : envelopeNumber env rate o r s ≡ 0 → Ready env rate o r s
   unfolding envelopeRefusal
   ready-of e =
-      let p = lowest-zero (numbersFine (length env) rate o) true (enough? (roomOf (length env) rate o) r s) (every valueFine env) e in
+      let p = lowest-zero (analysisNumbersFine (length env) rate o) true (enough? (roomOf (length env) rate o) r s) (every valueFine env) e in
       room-ready env rate o r s (p .bounds) (suffices-enough (inBounds (length env) rate o) r s (sym (ap (λ (x : Room). enough? x r s) (room-inside (length env) rate o (p .bounds))) ∙ p .room)) (p .values)
 
 -- ---- magnitudes
 
 -- what number 0 says
 pub record Told (m : List Float) (rows bins rate : ℕ) (o : TempoOpts) (flux : ℕ) (r : Results) (s : Spare) : Type 0 where
-  pub numbers : numbersFine rows rate o ≡ true
+  pub numbers : analysisNumbersFine rows rate o ≡ true
   pub some-bins : 1 ≤ bins
   pub bins-fit : bins ≤ mostBins
   pub whole : length m ≡ rows * bins
@@ -211,9 +211,9 @@ module _ (m : List Float) (rows bins rate : ℕ) (o : TempoOpts) (flux : List Fl
   pub told : magnitudesNumber m rows bins rate o flux r s ≡ 0 → Told m rows bins rate o (length flux) r s
   unfolding magnitudesRefusal
   told e =
-      let p = lowest-zero (numbersFine rows rate o && between 1 mostBins bins) (eqb (length m) (rows * bins)) wide? (every magnitudeFine m) e in
-      let n = and-left (numbersFine rows rate o) (between 1 mostBins bins) (p .bounds) in
-      let b = and-right (numbersFine rows rate o) (between 1 mostBins bins) (p .bounds) in
+      let p = lowest-zero (analysisNumbersFine rows rate o && between 1 mostBins bins) (eqb (length m) (rows * bins)) wide? (every magnitudeFine m) e in
+      let n = and-left (analysisNumbersFine rows rate o) (between 1 mostBins bins) (p .bounds) in
+      let b = and-right (analysisNumbersFine rows rate o) (between 1 mostBins bins) (p .bounds) in
       let w = and-right (leb rows (length flux)) (enough? (roomOf rows rate o) r s) (p .room) in
       record {
         numbers = n;
@@ -229,16 +229,16 @@ module _ (m : List Float) (rows bins rate : ℕ) (o : TempoOpts) (flux : List Fl
   pub exact-room-of-magnitudes : rows ≤ length flux → Enough (roomOf rows rate o) r s → magnitudesNumber m rows bins rate o flux r s ≡ 3 → ⊥
   unfolding magnitudesRefusal
   exact-room-of-magnitudes f e =
-      never-3 (numbersFine rows rate o && between 1 mostBins bins) (eqb (length m) (rows * bins)) wide? (every magnitudeFine m)
+      never-3 (analysisNumbersFine rows rate o && between 1 mostBins bins) (eqb (length m) (rows * bins)) wide? (every magnitudeFine m)
       (and-both (leb rows (length flux)) (enough? (roomOf rows rate o) r s) (le-leb _ _ f) (enough-suffices (roomOf rows rate o) r s e))
 
   -- with one slot fewer anywhere it is, where neither number 1 nor number 2 applies
-  pub one-slot-fewer-of-magnitudes : numbersFine rows rate o ≡ true → 1 ≤ bins → bins ≤ mostBins → length m ≡ rows * bins
+  pub one-slot-fewer-of-magnitudes : analysisNumbersFine rows rate o ≡ true → 1 ≤ bins → bins ≤ mostBins → length m ≡ rows * bins
       → (length flux < rows) ⊎ Short (roomOf rows rate o) r s → magnitudesNumber m rows bins rate o flux r s ≡ 3
   unfolding magnitudesRefusal
   one-slot-fewer-of-magnitudes n l h w short =
-      lowest-3 (numbersFine rows rate o && between 1 mostBins bins) (eqb (length m) (rows * bins)) wide? (every magnitudeFine m)
-      (and-both (numbersFine rows rate o) (between 1 mostBins bins) n (and-both (leb 1 bins) (leb bins mostBins) (le-leb _ _ l) (le-leb _ _ h)))
+      lowest-3 (analysisNumbersFine rows rate o && between 1 mostBins bins) (eqb (length m) (rows * bins)) wide? (every magnitudeFine m)
+      (and-both (analysisNumbersFine rows rate o) (between 1 mostBins bins) n (and-both (leb 1 bins) (leb bins mostBins) (le-leb _ _ l) (le-leb _ _ h)))
       (eq-eqb _ _ w)
       (fails short)
     where
@@ -263,8 +263,8 @@ module _ (m : List Float) (rows bins rate : ℕ) (o : TempoOpts) (flux : List Fl
   flux-taken e =
       let t = told e in
       let env = curve (fluxAt m bins) rows in
-      let n : numbersFine (length env) rate o ≡ true = rw flux-long (t .numbers) in
+      let n : analysisNumbersFine (length env) rate o ≡ true = rw flux-long (t .numbers) in
       let q : enough? (roomOf (length env) rate o) r s ≡ true =
       ap (λ (j : ℕ). enough? (roomOf j rate o) r s) flux-long ∙ ap (λ (x : Room). enough? x r s) (room-inside rows rate o (t .numbers)) ∙ enough-suffices (inBounds rows rate o) r s (t .room) in
-      lowest-0 (numbersFine (length env) rate o) true (enough? (roomOf (length env) rate o) r s) (every valueFine env) n refl q
+      lowest-0 (analysisNumbersFine (length env) rate o) true (enough? (roomOf (length env) rate o) r s) (every valueFine env) n refl q
       (flux-curve-fine m rows bins (t .loud) (t .bins-fit))

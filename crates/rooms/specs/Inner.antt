@@ -8,7 +8,7 @@ use lib.Ieee.{Float}
 use Rattle.numbers.specs.Limits.{mostRows, valueFine}
 use Rattle.numbers.specs.Lists.{every}
 use Rattle.threshold.specs.Threshold.{sortingRoom}
-use Rattle.lags.specs.declared.TempoOpts.{TempoOpts}
+use Rattle.options.specs.declared.TempoOpts.{TempoOpts}
 use Rattle.lags.specs.Lags.{boundsFine}
 use Rattle.rooms.specs.Rooms.{Results, Spare, lagsOf}
 

@@ -12,7 +12,7 @@ use Rattle.numbers.specs.Limits.{mostRows, mostBins, between, magnitudeFine, va
 use Rattle.numbers.specs.Refusals.{outOfBounds, lowest}
 use Rattle.numbers.specs.Lists.{every}
 use Rattle.threshold.specs.Threshold.{windowRoom}
-use Rattle.lags.specs.declared.TempoOpts.{TempoOpts}
+use Rattle.options.specs.declared.TempoOpts.{TempoOpts}
 use Rattle.lags.specs.Lags.{minLag, maxLag, lagRoom, boundsFine}
 use Rattle.rooms.specs.declared.Room.{Room}
 
@@ -70,15 +70,15 @@ abbrev pub sortingOf : (rows lags : ℕ) → ℕ
 sortingOf rows lags = max lags (windowRoom rows)
 
 -- what number 1 looks at: N, the rate and the bounds in beats a minute
-unfoldable pub numbersFine : (rows rate : ℕ) → TempoOpts → Bool
+unfoldable pub analysisNumbersFine : (rows rate : ℕ) → TempoOpts → Bool
 unfolding boundsFine
-numbersFine rows rate o = leb rows mostRows && boundsFine rate o
+analysisNumbersFine rows rate o = leb rows mostRows && boundsFine rate o
 
 -- the answer of `room_of`: the formula, or number 1 and zeros
 unfoldable pub roomOf : (rows rate : ℕ) → TempoOpts → Room
-unfolding numbersFine minLag maxLag
+unfolding analysisNumbersFine minLag maxLag
 roomOf rows rate o =
-    pick (numbersFine rows rate o)
+    pick (analysisNumbersFine rows rate o)
     (record { number = 0; rows = rows; lags = lagsOf rate o; sorting = sortingOf rows (lagsOf rate o) })
     (record { number = outOfBounds; rows = 0; lags = 0; sorting = 0 })
 
@@ -91,15 +91,15 @@ suffices room frames lags work = every (leb (room .rows)) frames && (every (leb 
 
 -- the number of `analyse_envelope`, by the lengths that are lent
 unfoldable pub envelopeRefusal : List Float → (rate : ℕ) → TempoOpts → (frames lags : List ℕ) → (work : ℕ) → ℕ
-unfolding numbersFine roomOf suffices
+unfolding analysisNumbersFine roomOf suffices
 envelopeRefusal env rate o frames lags work =
-    lowest (numbersFine (length env) rate o) true (suffices (roomOf (length env) rate o) frames lags work) (every valueFine env)
+    lowest (analysisNumbersFine (length env) rate o) true (suffices (roomOf (length env) rate o) frames lags work) (every valueFine env)
 
 -- the number of `analyse_magnitudes`: bins are looked at too, the length, and room for the flux
 unfoldable pub magnitudesRefusal : List Float → (rows bins rate : ℕ) → TempoOpts → (flux : ℕ) → (frames lags : List ℕ) → (work : ℕ) → ℕ
-unfolding numbersFine roomOf suffices
+unfolding analysisNumbersFine roomOf suffices
 magnitudesRefusal magnitudes rows bins rate o flux frames lags work =
-    lowest (numbersFine rows rate o && between 1 mostBins bins) (eqb (length magnitudes) (rows * bins))
+    lowest (analysisNumbersFine rows rate o && between 1 mostBins bins) (eqb (length magnitudes) (rows * bins))
     (leb rows flux && suffices (roomOf rows rate o) frames lags work)
     (every magnitudeFine magnitudes)
 

@@ -1,7 +1,7 @@
 // The room of one whole analysis, and the number that one is refused with.
 //
 // Document 01, its room and its numbers. Every refusal of an analysis is decided here, before any part of it is called.
-use lags::TempoOpts;
+use options::TempoOpts;
 use lags::bounds_fine;
 use lags::lag_range;
 use numbers::MOST_BINS;
@@ -49,7 +49,7 @@ pub fn room_of(rows: usize, rate: u32, opts: TempoOpts) -> Room
         return no_room();
     }
     let range = lag_range(rate, opts);
-    let slots = lags::room_of(range.min_lag, range.max_lag);
+    let slots = lags::lag_slots(range.min_lag, range.max_lag);
     Room {
         number: 0,
         rows,

@@ -13,7 +13,7 @@ use Rattle.numbers.specs.Lists.{listed}
 use Rattle.onsets.proofs.Picks.{peaks-ascend, peaks-length, suppressed-ascends, suppressed-length}
 use Rattle.onsets.specs.Peaks.{at, peaksOf, suppressed}
 use Rattle.onsets.specs.Steps.{Picked}
-use Rattle.section_peaks.specs.Greatest.{greatest}
+use Rattle.section_peaks.specs.Greatest.{keptGreatest}
 use Rattle.section_peaks.specs.Steps.{keptFrom, CutAt, chosen, Noted, PickedIn}
 use Rattle.section_peaks.specs.declared.Cut.{Cut}
 use Rattle.section_peaks.proofs.Cuts.{cut-takes, few-stay, none-asked}
@@ -24,9 +24,9 @@ module _ (curve : List Float) (level : Float) (gap most : ℕ) (rows : List ℕ)
   kept = suppressed curve gap (peaksOf curve (λ _. level))
 
   -- none is asked for
-  pub picked-none : most ≡ 0 → PickedIn (length curve) (greatest curve most kept) rows work 0 rows work
+  pub picked-none : most ≡ 0 → PickedIn (length curve) (keptGreatest curve most kept) rows work 0 rows work
   picked-none z =
-      let e : greatest curve most kept ≡ [] = rw z (none-asked curve kept) in
+      let e : keptGreatest curve most kept ≡ [] = rw z (none-asked curve kept) in
       record { picked = record { count-is = rw e; frames-are = rw e (sym (listed-none rows)) }; work-keeps = refl }
 
   module _ (count : ℕ) (work′ : List Float) (noted : Noted (map (at curve) (keptFrom curve level gap 1)) work count work′) where
@@ -58,19 +58,19 @@ module _ (curve : List Float) (level : Float) (gap most : ℕ) (rows : List ℕ)
     rest-is = rw noted-slots (drop-at values (drop (length values) work) count values-many) ∙ ap (λ (j : ℕ). drop j work) values-many
 
     -- no more are kept than are asked for
-    pub picked-few : (r : ℕ) (rows′ : List ℕ) → count ≤ most → Picked kept rows r rows′ → PickedIn (length curve) (greatest curve most kept) rows work r rows′ work′
+    pub picked-few : (r : ℕ) (rows′ : List ℕ) → count ≤ most → Picked kept rows r rows′ → PickedIn (length curve) (keptGreatest curve most kept) rows work r rows′ work′
     picked-few r rows′ h p =
-        let e : greatest curve most kept ≡ kept = few-stay curve most kept (omega (arith, noted-count)) in
+        let e : keptGreatest curve most kept ≡ kept = few-stay curve most kept (omega (arith, noted-count)) in
         record { picked = rw e p; work-keeps = drop-later _ _ _ _ count-most rest-is }
 
     -- more are kept, and a cut takes some
     pub picked-cut : (r : ℕ) (rows′ : List ℕ) (cut : Cut) (part : List Float) → most < count → CutAt most (take count work′) cut → length part ≡ length (take count work′)
         → Picked (chosen curve (key (cut .level)) (cut .spare) (keptFrom curve level gap 1)) rows r rows′
-        → PickedIn (length curve) (greatest curve most kept) rows work r rows′ (part ++ drop count work′)
+        → PickedIn (length curve) (keptGreatest curve most kept) rows work r rows′ (part ++ drop count work′)
     picked-cut r rows′ cut part h c l p =
         let k = rw lent-is at c in
         let n : length part ≡ count = l ∙ lent-many in
-        let e : chosen curve (key (cut .level)) (cut .spare) kept ≡ greatest curve most kept =
+        let e : chosen curve (key (cut .level)) (cut .spare) kept ≡ keptGreatest curve most kept =
         sym (cut-takes curve most (key (cut .level)) (cut .spare) 1 kept
         (suppressed-ascends curve gap 1 _ (peaks-ascend curve (λ _. level))) (omega (arith, noted-count)) (k .reaches) (k .stays) (k .spares)) in
         record {

@@ -16,15 +16,15 @@ use lib.Seq.{append-snoc, drop-cons}
 use borrow.Author.Tests.{ltb-true, leb-true, lt-ltb, le-ltb, le-leb, lt-leb, eq-eqb, ne-eqb}
 use Rattle.numbers.proofs.Everys.{every-append}
 use Rattle.numbers.proofs.Tests.{which, lt-or-le, and-left, and-right, and-both}
-use Rattle.numbers.specs.Lists.{every}
+use Rattle.numbers.specs.Lists.{every, oneIf, ascending}
 use Rattle.numbers.specs.Rounded.{pick}
 use Rattle.floats.specs.TotalOrder.{key}
 use Rattle.median.proofs.Ranks.{same-sort, sort-ordered}
 use Rattle.median.specs.Median.{sort}
-use Rattle.median.specs.Ranks.{keyAt, one, below}
+use Rattle.median.specs.Ranks.{keyAt, below}
 use Rattle.onsets.proofs.Onsets.{every-weaken}
-use Rattle.onsets.specs.Peaks.{at, those, ascending}
-use Rattle.section_peaks.specs.Greatest.{goesBefore, placeOf, greatest}
+use Rattle.onsets.specs.Peaks.{at, those}
+use Rattle.section_peaks.specs.Greatest.{goesBefore, placeOf, keptGreatest}
 use Rattle.section_peaks.specs.Steps.{CutAt, taken, spared, chosen}
 use Rattle.section_peaks.specs.declared.Cut.{Cut}
 
@@ -39,30 +39,30 @@ three : (a b : ℕ) → Three a b
 three a b = ⊎-elim (λ h. less h) (λ h. ⊎-elim (λ k. more k) (λ k. same (omega arith)) (lt-or-le b a)) (lt-or-le a b)
 
 -- where a value v stands to a level k: the two tests of it
-one-lt : (k v : ℕ) → k < v → one (ltb k v) ≡ 1
+one-lt : (k v : ℕ) → k < v → oneIf (ltb k v) ≡ 1
 one-lt k v h = rw (lt-ltb k v h)
 
-one-ge : (k v : ℕ) → v ≤ k → one (ltb k v) ≡ 0
+one-ge : (k v : ℕ) → v ≤ k → oneIf (ltb k v) ≡ 0
 one-ge k v h = rw (le-ltb k v h)
 
-one-eq : (k v : ℕ) → k ≡ v → one (eqb k v) ≡ 1
+one-eq : (k v : ℕ) → k ≡ v → oneIf (eqb k v) ≡ 1
 one-eq k v h = rw (eq-eqb k v h)
 
-one-ne : (k v : ℕ) → (k ≡ v → ⊥) → one (eqb k v) ≡ 0
+one-ne : (k v : ℕ) → (k ≡ v → ⊥) → oneIf (eqb k v) ≡ 0
 one-ne k v h = rw (ne-eqb k v h)
 
-above-either : (l k v : ℕ) → l < k → one (ltb k v) + one (eqb k v) ≤ one (ltb l v)
+above-either : (l k v : ℕ) → l < k → oneIf (ltb k v) + oneIf (eqb k v) ≤ oneIf (ltb l v)
 above-either l k v h = go (three k v)
   where
-    go : Three k v → one (ltb k v) + one (eqb k v) ≤ one (ltb l v)
+    go : Three k v → oneIf (ltb k v) + oneIf (eqb k v) ≤ oneIf (ltb l v)
     go (less a) = omega (arith, one-lt k v a, one-ne k v (λ e. omega arith), one-lt l v (omega arith))
     go (same a) = omega (arith, one-ge k v (omega arith), one-eq k v a, one-lt l v (omega arith))
     go (more a) = omega (arith, one-ge k v (omega arith), one-ne k v (λ e. omega arith))
 
-above-or-below : (k l v : ℕ) → k < l → 1 ≤ one (ltb k v) + one (ltb v l)
+above-or-below : (k l v : ℕ) → k < l → 1 ≤ oneIf (ltb k v) + oneIf (ltb v l)
 above-or-below k l v h = ⊎-elim (λ a. omega (arith, one-lt v l a)) (λ a. omega (arith, one-lt k v (omega arith))) (lt-or-le v l)
 
-above-or-not : (l v : ℕ) → one (ltb l v) + one (ltb v (suc l)) ≡ 1
+above-or-not : (l v : ℕ) → oneIf (ltb l v) + oneIf (ltb v (suc l)) ≡ 1
 above-or-not l v =
     ⊎-elim
     (λ a. omega (arith, one-lt l v a, one-ge v (suc l) a))
@@ -70,18 +70,18 @@ above-or-not l v =
     (lt-or-le l v)
 
 -- an earlier row goes before where it isn't less, a later one where it is greater
-before-early : (k v y x : ℕ) → y < x → one (ltb k v || (eqb k v && ltb y x)) ≡ one (ltb k v) + one (eqb k v)
+before-early : (k v y x : ℕ) → y < x → oneIf (ltb k v || (eqb k v && ltb y x)) ≡ oneIf (ltb k v) + oneIf (eqb k v)
 before-early k v y x h = rw (lt-ltb y x h) (go (three k v))
   where
-    go : Three k v → one (ltb k v || (eqb k v && true)) ≡ one (ltb k v) + one (eqb k v)
+    go : Three k v → oneIf (ltb k v || (eqb k v && true)) ≡ oneIf (ltb k v) + oneIf (eqb k v)
     go (less a) = rw (lt-ltb k v a, ne-eqb k v (λ e. omega arith))
     go (same a) = rw (le-ltb k v (omega arith), eq-eqb k v a)
     go (more a) = rw (le-ltb k v (omega arith), ne-eqb k v (λ e. omega arith))
 
-before-late : (k v y x : ℕ) → x ≤ y → one (ltb k v || (eqb k v && ltb y x)) ≡ one (ltb k v)
+before-late : (k v y x : ℕ) → x ≤ y → oneIf (ltb k v || (eqb k v && ltb y x)) ≡ oneIf (ltb k v)
 before-late k v y x h = rw (le-ltb y x h) (go (three k v))
   where
-    go : Three k v → one (ltb k v || (eqb k v && false)) ≡ one (ltb k v)
+    go : Three k v → oneIf (ltb k v || (eqb k v && false)) ≡ oneIf (ltb k v)
     go (less a) = rw (lt-ltb k v a)
     go (same a) = rw (le-ltb k v (omega arith), eq-eqb k v a)
     go (more a) = rw (le-ltb k v (omega arith), ne-eqb k v (λ e. omega arith))
@@ -91,7 +91,7 @@ before-late k v y x h = rw (le-ltb y x h) (go (three k v))
 -- how many entries pass a test
 abbrev cnt : (ℕ → Bool) → List ℕ → ℕ
 cnt p [] = 0
-cnt p (x ∷ xs) = one (p x) + cnt p xs
+cnt p (x ∷ xs) = oneIf (p x) + cnt p xs
 
 those-cnt : (p : ℕ → Bool) (xs : List ℕ) → length (those p xs) ≡ cnt p xs
 unfolding those
@@ -242,8 +242,8 @@ module _ (curve : List Float) where
       → below l (map (at curve) xs) + most ≤ length (map (at curve) xs)
       → length (map (at curve) xs) < most + below (suc l) (map (at curve) xs)
       → spare + length (map (at curve) xs) ≡ most + below (suc l) (map (at curve) xs)
-      → greatest curve most xs ≡ chosen curve l spare xs
-  unfolding greatest every
+      → keptGreatest curve most xs ≡ chosen curve l spare xs
+  unfolding keptGreatest every
   cut-takes most l spare low xs a h reaches stays spares =
       let n = length-map xs (at curve) in
       let u = below-map l xs in
@@ -253,8 +253,8 @@ module _ (curve : List Float) where
       (sym (takes most l spare xs (omega arith) (omega arith) (omega arith) [] xs spare low refl refl a (omega arith)))
 
   -- where they are no more, and where none is asked for
-  pub few-stay : (most : ℕ) (xs : List ℕ) → length xs ≤ most → greatest curve most xs ≡ xs
-  unfolding greatest
+  pub few-stay : (most : ℕ) (xs : List ℕ) → length xs ≤ most → keptGreatest curve most xs ≡ xs
+  unfolding keptGreatest
   few-stay most xs h = rw (le-leb (length xs) most h)
 
   none-passes : (p : ℕ → Bool) (xs : List ℕ) → ((x : ℕ) → p x ≡ false) → those p xs ≡ []
@@ -262,8 +262,8 @@ module _ (curve : List Float) where
   none-passes p [] h = refl
   none-passes p (x ∷ xs) h = rw (h x) (none-passes p xs h)
 
-  pub none-asked : (xs : List ℕ) → greatest curve 0 xs ≡ []
-  unfolding greatest
+  pub none-asked : (xs : List ℕ) → keptGreatest curve 0 xs ≡ []
+  unfolding keptGreatest
   none-asked [] = refl
   none-asked (x ∷ xs) =
       rw (lt-leb (length (x ∷ xs)) 0 (omega arith))
@@ -279,7 +279,7 @@ count-high k zero (x ∷ xs) h =
     omega (arith, count-high k zero xs (λ j a b. h (suc j) zero-le (omega arith)), one-ge (key x) k (h zero (le-refl 0) (omega arith)))
 count-high k (suc i) (x ∷ xs) h = omega (arith, count-high k i xs (λ j a b. h (suc j) (omega arith) (omega arith)), one-most (ltb (key x) k))
   where
-    one-most : (b : Bool) → one b ≤ 1
+    one-most : (b : Bool) → oneIf b ≤ 1
     one-most true = le-refl 1
     one-most false = zero-le
 
@@ -334,10 +334,10 @@ module _ (most : ℕ) (xs : List Float) (fit : most < length xs) (some : 0 < mos
 
 -- no more than lie above the level and are spared at it
 taken-most : (l s k n : ℕ) (x : ℕ) (rest : ℕ → List ℕ) → ((s′ : ℕ) → length (rest s′) ≤ n + s′)
-    → length (pick (taken l s k) (x ∷ rest (spared l s k)) (rest (spared l s k))) ≤ one (ltb l k) + n + s
+    → length (pick (taken l s k) (x ∷ rest (spared l s k)) (rest (spared l s k))) ≤ oneIf (ltb l k) + n + s
 taken-most l s k n x rest h = go (three l k)
   where
-    go : Three l k → length (pick (taken l s k) (x ∷ rest (spared l s k)) (rest (spared l s k))) ≤ one (ltb l k) + n + s
+    go : Three l k → length (pick (taken l s k) (x ∷ rest (spared l s k)) (rest (spared l s k))) ≤ oneIf (ltb l k) + n + s
     go (less a) = rw (lt-ltb l k a) (omega (arith, h s))
     go (more a) = rw (le-ltb l k (omega arith), lt-ltb k l a) (omega (arith, h s))
     go (same a) =
@@ -350,7 +350,7 @@ chosen-most curve l s [] = zero-le
 chosen-most curve l s (x ∷ xs) = taken-most l s (f curve x) (above curve l xs) x (λ s′. chosen curve l s′ xs) (λ s′. chosen-most curve l s′ xs)
 
 -- where a cut takes them, they are no more than were asked for
-over-most : (curve : List Float) (most low : ℕ) (xs : List ℕ) → ascending low xs ≡ true → 0 < most → most < length (map (at curve) xs) → length (greatest curve most xs) ≤ most
+over-most : (curve : List Float) (most low : ℕ) (xs : List ℕ) → ascending low xs ≡ true → 0 < most → most < length (map (at curve) xs) → length (keptGreatest curve most xs) ≤ most
 over-most curve most low xs a some fit =
     let vs : List Float = map (at curve) xs in
     let n : length vs ≡ length xs = length-map xs (at curve) in
@@ -360,10 +360,10 @@ over-most curve most low xs a some fit =
     let spare : ℕ = most + below (suc l) vs - length vs in
     let spares : spare + length vs ≡ most + below (suc l) vs = omega arith in
     let h : most < length xs = omega arith in
-    let e : greatest curve most xs ≡ chosen curve l spare xs = cut-takes curve most l spare low xs a h reaches stays spares in
+    let e : keptGreatest curve most xs ≡ chosen curve l spare xs = cut-takes curve most l spare low xs a h reaches stays spares in
     rw e (omega (arith, chosen-most curve l spare xs, below-map curve (suc l) xs, above-rest curve l xs))
 
-pub greatest-most : (curve : List Float) (most low : ℕ) (xs : List ℕ) → ascending low xs ≡ true → length (greatest curve most xs) ≤ most
+pub greatest-most : (curve : List Float) (most low : ℕ) (xs : List ℕ) → ascending low xs ≡ true → length (keptGreatest curve most xs) ≤ most
 greatest-most curve zero low xs a = rw (none-asked curve xs) zero-le
 greatest-most curve (suc m) low xs a =
     ⊎-elim

@@ -18,5 +18,5 @@ unfoldable pub placeOf : List Float → List ℕ → ℕ → ℕ
 placeOf novelty rows y = length (those (λ x. goesBefore novelty x y) rows)
 
 -- the list itself where it has at most `most` rows, and else those rows of it before which fewer than `most` go
-unfoldable pub greatest : List Float → (most : ℕ) → List ℕ → List ℕ
-greatest novelty most rows = pick (leb (length rows) most) rows (those (λ y. ltb (placeOf novelty rows y) most) rows)
+unfoldable pub keptGreatest : List Float → (most : ℕ) → List ℕ → List ℕ
+keptGreatest novelty most rows = pick (leb (length rows) most) rows (those (λ y. ltb (placeOf novelty rows y) most) rows)

@@ -12,7 +12,7 @@ ghost use Rattle.floats.specs.TotalOrder.{key};
 ghost use Rattle.median.specs.Ranks.{below};
 ghost use Rattle.onsets.specs.Peaks.{at, isPeak, peaksOf, suppressed, better};
 ghost use Rattle.onsets.specs.Steps.{Picked};
-ghost use Rattle.section_peaks.specs.Greatest.{greatest};
+ghost use Rattle.section_peaks.specs.Greatest.{keptGreatest};
 ghost use Rattle.section_peaks.specs.Steps.{keptFrom, AtPeak, Next, Grouped, CutAt, Judged, chosen, Noted, PickedIn};
 
 // Inner: lists at most `most` of the kept peaks of a curve above a level, the greatest, and says how many they are.
@@ -25,7 +25,7 @@ pub fn pick_boundaries(
     work: &mut [f64],
 ) -> usize
     requires { ⌜ (length (now curve) ≤ mostFeatures) × (length (now curve) ≤ length (now rows)) × (length (now curve) ≤ length (now work)) ⌝ }
-    ensures { λ r. ⌜ PickedIn (length (now (curve .entry))) (greatest (now (curve .entry)) most (suppressed (now (curve .entry)) gap (peaksOf (now (curve .entry)) (λ _. level)))) (now (rows .entry)) (now (work .entry)) r (now (rows .exit)) (now (work .exit)) ⌝ }
+    ensures { λ r. ⌜ PickedIn (length (now (curve .entry))) (keptGreatest (now (curve .entry)) most (suppressed (now (curve .entry)) gap (peaksOf (now (curve .entry)) (λ _. level)))) (now (rows .entry)) (now (work .entry)) r (now (rows .exit)) (now (work .exit)) ⌝ }
 {
     if most == 0 {
         return 0;

@@ -10,15 +10,15 @@ use lib.Ieee.{Float}
 use lib.ListN.{length}
 use borrow.Author.Tests.{leb-true, le-leb, ltb-true, lt-ltb}
 use Rattle.numbers.proofs.Tests.{and-left, and-right, and-both, lowest-zero, lowest-0}
-use Rattle.numbers.specs.Limits.{mostFeatures, valueFine}
-use Rattle.numbers.specs.Lists.{every}
+use Rattle.numbers.specs.Limits.{mostFeatures, valueFine, rowFine}
+use Rattle.numbers.specs.Lists.{every, ascending}
 use Rattle.numbers.specs.Rounded.{pick}
 use Rattle.onsets.proofs.Onsets.{every-weaken}
 use Rattle.onsets.proofs.Picks.{those-length, those-every, those-ascending, peaks-ascend, peaks-inside, peaks-length, suppressed-ascends, suppressed-every, suppressed-length}
-use Rattle.onsets.specs.Peaks.{peaksOf, ascending, pointInto}
-use Rattle.section_peaks.specs.Greatest.{placeOf, greatest}
-use Rattle.sections.specs.Boundaries.{leastRows, gapOf, thresholdOf, candidatesOf, mostBoundaries, boundariesOf, gridFine, boundariesRefusal}
-use Rattle.sections.specs.Times.{rowFine, timesRefusal}
+use Rattle.onsets.specs.Peaks.{peaksOf, pointInto}
+use Rattle.section_peaks.specs.Greatest.{placeOf, keptGreatest}
+use Rattle.sections.specs.Boundaries.{leastRows, sectionGap, sectionLevel, sectionPeaks, mostBoundaries, boundariesOf, gridFine, boundariesRefusal}
+use Rattle.sections.specs.Times.{rowTimesRefusal}
 use Rattle.section_peaks.proofs.Cuts.{greatest-most}
 
 -- what holds of both holds of the one that is picked
@@ -32,83 +32,83 @@ module _ (novelty : List Float) (most : ℕ) (rows : List ℕ) where
   abbrev test : ℕ → Bool
   test y = ltb (placeOf novelty rows y) most
 
-  pub greatest-length : length (greatest novelty most rows) ≤ length rows
-  unfolding greatest
+  pub greatest-length : length (keptGreatest novelty most rows) ≤ length rows
+  unfolding keptGreatest
   greatest-length = by-pick (λ (r : List ℕ). length r ≤ length rows) (leb (length rows) most) (omega arith) (those-length test rows)
 
-  pub greatest-every : (q : ℕ → Bool) → every q rows ≡ true → every q (greatest novelty most rows) ≡ true
-  unfolding greatest
+  pub greatest-every : (q : ℕ → Bool) → every q rows ≡ true → every q (keptGreatest novelty most rows) ≡ true
+  unfolding keptGreatest
   greatest-every q e = by-pick (λ (r : List ℕ). every q r ≡ true) (leb (length rows) most) e (those-every test q rows e)
 
-  pub greatest-ascends : (low : ℕ) → ascending low rows ≡ true → ascending low (greatest novelty most rows) ≡ true
-  unfolding greatest
+  pub greatest-ascends : (low : ℕ) → ascending low rows ≡ true → ascending low (keptGreatest novelty most rows) ≡ true
+  unfolding keptGreatest
   greatest-ascends low e = by-pick (λ (r : List ℕ). ascending low r ≡ true) (leb (length rows) most) e (those-ascending test low rows e)
 
 -- ---- candidates, and boundaries
 
 module _ (novelty : List Float) (gap : ℕ) where
   abbrev peaks : List ℕ
-  peaks = peaksOf novelty (λ _. thresholdOf novelty)
+  peaks = peaksOf novelty (λ _. sectionLevel novelty)
 
-  pub candidates-ascend : ascending 1 (candidatesOf novelty gap) ≡ true
-  unfolding candidatesOf
-  candidates-ascend = suppressed-ascends novelty gap 1 peaks (peaks-ascend novelty (λ _. thresholdOf novelty))
+  pub candidates-ascend : ascending 1 (sectionPeaks novelty gap) ≡ true
+  unfolding sectionPeaks
+  candidates-ascend = suppressed-ascends novelty gap 1 peaks (peaks-ascend novelty (λ _. sectionLevel novelty))
 
-  pub candidates-inside : pointInto (length novelty - 1) (candidatesOf novelty gap) ≡ true
-  unfolding candidatesOf
-  candidates-inside = suppressed-every novelty gap (λ x. ltb x (length novelty - 1)) peaks (peaks-inside novelty (λ _. thresholdOf novelty))
+  pub candidates-inside : pointInto (length novelty - 1) (sectionPeaks novelty gap) ≡ true
+  unfolding sectionPeaks
+  candidates-inside = suppressed-every novelty gap (λ x. ltb x (length novelty - 1)) peaks (peaks-inside novelty (λ _. sectionLevel novelty))
 
-  pub candidates-length : length (candidatesOf novelty gap) ≤ length novelty - 2
-  unfolding candidatesOf
-  candidates-length = omega (arith, suppressed-length novelty gap peaks, peaks-length novelty (λ _. thresholdOf novelty))
+  pub candidates-length : length (sectionPeaks novelty gap) ≤ length novelty - 2
+  unfolding sectionPeaks
+  candidates-length = omega (arith, suppressed-length novelty gap peaks, peaks-length novelty (λ _. sectionLevel novelty))
 
   -- the greatest of them point into the curve, and are no more than its slots
-  pub picked-inside : (most : ℕ) → pointInto (length novelty) (greatest novelty most (candidatesOf novelty gap)) ≡ true
+  pub picked-inside : (most : ℕ) → pointInto (length novelty) (keptGreatest novelty most (sectionPeaks novelty gap)) ≡ true
   picked-inside most =
-      greatest-every novelty most (candidatesOf novelty gap) (λ x. ltb x (length novelty))
+      greatest-every novelty most (sectionPeaks novelty gap) (λ x. ltb x (length novelty))
       (every-weaken (λ x. ltb x (length novelty - 1)) (λ x. ltb x (length novelty)) (λ x e. lt-ltb x (length novelty) (omega (arith, ltb-true x (length novelty - 1) e)))
-      (candidatesOf novelty gap) candidates-inside)
+      (sectionPeaks novelty gap) candidates-inside)
 
-  pub picked-length : (most : ℕ) → length (greatest novelty most (candidatesOf novelty gap)) ≤ length novelty - 2
-  picked-length most = omega (arith, greatest-length novelty most (candidatesOf novelty gap), candidates-length)
+  pub picked-length : (most : ℕ) → length (keptGreatest novelty most (sectionPeaks novelty gap)) ≤ length novelty - 2
+  picked-length most = omega (arith, greatest-length novelty most (sectionPeaks novelty gap), candidates-length)
 
 module _ (novelty : List Float) (samples rate maxSections : ℕ) where
   abbrev bounds : List ℕ
   bounds = boundariesOf novelty samples rate maxSections
 
   abbrev rows : List ℕ
-  rows = candidatesOf novelty (gapOf samples rate)
+  rows = sectionPeaks novelty (sectionGap samples rate)
 
   -- the listed rows ascend strictly, from row 1
   pub boundaries-ascend : ascending 1 bounds ≡ true
   unfolding boundariesOf ascending
   boundaries-ascend =
       by-pick (λ (r : List ℕ). ascending 1 r ≡ true) (ltb (length novelty) leastRows) refl
-      (greatest-ascends novelty (mostBoundaries maxSections) rows 1 (candidates-ascend novelty (gapOf samples rate)))
+      (greatest-ascends novelty (mostBoundaries maxSections) rows 1 (candidates-ascend novelty (sectionGap samples rate)))
 
   -- to the last but one
   pub boundaries-inside : pointInto (length novelty - 1) bounds ≡ true
   unfolding boundariesOf every
   boundaries-inside =
       by-pick (λ (r : List ℕ). pointInto (length novelty - 1) r ≡ true) (ltb (length novelty) leastRows) refl
-      (greatest-every novelty (mostBoundaries maxSections) rows (λ x. ltb x (length novelty - 1)) (candidates-inside novelty (gapOf samples rate)))
+      (greatest-every novelty (mostBoundaries maxSections) rows (λ x. ltb x (length novelty - 1)) (candidates-inside novelty (sectionGap samples rate)))
 
   -- no more than the curve has room for, and no more than were asked for
   pub boundaries-length : length bounds ≤ length novelty - 2
   unfolding boundariesOf
   boundaries-length =
       by-pick (λ (r : List ℕ). length r ≤ length novelty - 2) (ltb (length novelty) leastRows) zero-le
-      (picked-length novelty (gapOf samples rate) (mostBoundaries maxSections))
+      (picked-length novelty (sectionGap samples rate) (mostBoundaries maxSections))
 
   pub boundaries-most : length bounds ≤ mostBoundaries maxSections
   unfolding boundariesOf
   boundaries-most =
       by-pick (λ (r : List ℕ). length r ≤ mostBoundaries maxSections) (ltb (length novelty) leastRows) zero-le
-      (greatest-most novelty (mostBoundaries maxSections) 1 rows (candidates-ascend novelty (gapOf samples rate)))
+      (greatest-most novelty (mostBoundaries maxSections) 1 rows (candidates-ascend novelty (sectionGap samples rate)))
 
   -- so `boundary_times` takes them
-  pub boundaries-timed : (room : ℕ) → length novelty ≤ mostFeatures → gridFine samples rate ≡ true → length bounds ≤ room → timesRefusal bounds samples rate room ≡ 0
-  unfolding timesRefusal
+  pub boundaries-timed : (room : ℕ) → length novelty ≤ mostFeatures → gridFine samples rate ≡ true → length bounds ≤ room → rowTimesRefusal bounds samples rate room ≡ 0
+  unfolding rowTimesRefusal
   boundaries-timed room f g h =
       lowest-0 (gridFine samples rate && every rowFine bounds) true (leb (length bounds) room) true
       (and-both (gridFine samples rate) (every rowFine bounds) g
@@ -144,8 +144,8 @@ pub record TimesFine (rows : List ℕ) (samples rate room : ℕ) : Type 0 where
   pub rows-fit : every rowFine rows ≡ true
   pub has-room : length rows ≤ room
 
-pub times-told : (rows : List ℕ) (samples rate room : ℕ) → timesRefusal rows samples rate room ≡ 0 → TimesFine rows samples rate room
-unfolding timesRefusal
+pub times-told : (rows : List ℕ) (samples rate room : ℕ) → rowTimesRefusal rows samples rate room ≡ 0 → TimesFine rows samples rate room
+unfolding rowTimesRefusal
 times-told rows samples rate room e =
     let p = lowest-zero (gridFine samples rate && every rowFine rows) true (leb (length rows) room) true e in
     record {

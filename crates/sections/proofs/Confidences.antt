@@ -19,7 +19,7 @@ use Rattle.median.specs.Median.{medianOf}
 use Rattle.numbers.proofs.Tests.{which, and-left}
 use Rattle.numbers.specs.Limits.{mostFeatures, valueTop, valueFine}
 use Rattle.numbers.specs.Lists.{every}
-use Rattle.numbers.specs.Rounded.{_⊕_, _⊖_, _⊘_, real, nought, pick, sumFrom, sumOf, held}
+use Rattle.numbers.specs.Rounded.{_⊕_, _⊖_, _⊘_, real, nought, pick, sumFrom, sumOf, held, one}
 use Rattle.onsets.specs.Peaks.{at, pointInto}
 use Rattle.sizes.proofs.Least.{real-least, least-above}
 use Rattle.sizes.proofs.Lists.{each-head, each-tail, each-at, each-image, every-each, values-within}
@@ -29,7 +29,7 @@ use Rattle.sizes.proofs.Signs.{nought-plus, plus-not-nan, positivePart-plus, su
 use Rattle.sizes.proofs.Sizes.{most-finite, most-not-nan, pick-most, positivePart-most, sub-within, div-within}
 use Rattle.sizes.proofs.Sums.{sum-within}
 use Rattle.sizes.specs.Sizes.{Within, AtLeast, Plus, Each, none, more}
-use Rattle.sections.specs.Confidence.{one, lowestFloat, greatestFrom, rangeOf, prominence, meanOf, confidenceOf}
+use Rattle.sections.specs.Confidence.{lowestFloat, greatestFrom, rangeOf, prominence, meanProminence, confidenceOf}
 
 pub greatest-step : (top : Float) (xs : List Float) (i : ℕ) → i < length xs
     → greatestFrom top (drop i xs) ≡ greatestFrom (pick (lt top (getD xs i nan)) (getD xs i nan) top) (drop (i + 1) xs)
@@ -60,8 +60,8 @@ unfolding rangeOf
 range-is novelty top med e h = rw (e, h)
 
 pub mean-is : (novelty : List Float) (rows : List ℕ) (sum med n : Float) → sum ≡ sumOf (map (prominence novelty med) rows) → med ≡ medianOf novelty
-    → n ≡ real (length rows) → sum ⊘ n ≡ meanOf novelty rows
-unfolding meanOf
+    → n ≡ real (length rows) → sum ⊘ n ≡ meanProminence novelty rows
+unfolding meanProminence
 mean-is novelty rows sum med n e h k = rw (e, k, h)
 
 module _ (novelty : List Float) (rows : List ℕ) (some : length rows ≡ 0 → ⊥) where
@@ -69,7 +69,7 @@ module _ (novelty : List Float) (rows : List ℕ) (some : length rows ≡ 0 → 
   unfolding confidenceOf
   confidence-flat e = rw (ne-eqb (length rows) 0 some, e)
 
-  pub confidence-some : le (rangeOf novelty) nought ≡ false → confidenceOf novelty rows ≡ held nought one (meanOf novelty rows ⊘ rangeOf novelty)
+  pub confidence-some : le (rangeOf novelty) nought ≡ false → confidenceOf novelty rows ≡ held nought one (meanProminence novelty rows ⊘ rangeOf novelty)
   unfolding confidenceOf
   confidence-some e = rw (ne-eqb (length rows) 0 some, e)
 
@@ -130,15 +130,15 @@ module _ (novelty : List Float) (some : 0 < length novelty) (fine : every valueF
     count-above : lt nought (real (length rows)) ≡ true
     count-above = least-above (omega arith) (real-plus (length rows)) count-least
 
-    mean-finite : T (finite (meanOf novelty rows))
-    unfolding meanOf
+    mean-finite : T (finite (meanProminence novelty rows))
+    unfolding meanProminence
     mean-finite = most-finite (div-within binary64 167 0 (omega arith) sum-bounded count-least)
 
-    mean-plus : Plus (meanOf novelty rows)
-    unfolding meanOf
+    mean-plus : Plus (meanProminence novelty rows)
+    unfolding meanProminence
     mean-plus = div-plus binary64 (real (length rows)) (most-finite sum-bounded) sum-is-plus count-above
 
-    part-not-nan : le (rangeOf novelty) nought ≡ false → T (not (isNan (meanOf novelty rows ⊘ rangeOf novelty)))
+    part-not-nan : le (rangeOf novelty) nought ≡ false → T (not (isNan (meanProminence novelty rows ⊘ rangeOf novelty)))
     part-not-nan e =
         plus-not-nan (div-plus binary64 (rangeOf novelty) mean-finite mean-plus
         (not-le (rangeOf novelty) nought (most-not-nan range-within) (plus-not-nan nought-plus) e))
@@ -153,10 +153,10 @@ unfolding confidenceOf
 confidence-unit novelty rows some fine inside few = go (eqb (length rows) 0) refl (le (rangeOf novelty) nought) refl
   where
     go : (b : Bool) → eqb (length rows) 0 ≡ b → (d : Bool) → le (rangeOf novelty) nought ≡ d
-        → (le nought (pick b nought (pick d nought (held nought one (meanOf novelty rows ⊘ rangeOf novelty)))) ≡ true)
-        × (le (pick b nought (pick d nought (held nought one (meanOf novelty rows ⊘ rangeOf novelty)))) one ≡ true)
+        → (le nought (pick b nought (pick d nought (held nought one (meanProminence novelty rows ⊘ rangeOf novelty)))) ≡ true)
+        × (le (pick b nought (pick d nought (held nought one (meanProminence novelty rows ⊘ rangeOf novelty)))) one ≡ true)
     go true e d h = (zero-zero, zero-one)
     go false e true h = (zero-zero, zero-one)
     go false e false h =
         let n = part-not-nan novelty some fine rows inside few (eqb-false (length rows) 0 e) h in
-        (held-low nought one (meanOf novelty rows ⊘ rangeOf novelty) n zero-one, held-high nought one (meanOf novelty rows ⊘ rangeOf novelty) n zero-one)
+        (held-low nought one (meanProminence novelty rows ⊘ rangeOf novelty) n zero-one, held-high nought one (meanProminence novelty rows ⊘ rangeOf novelty) n zero-one)

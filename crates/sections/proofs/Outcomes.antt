@@ -15,8 +15,8 @@ use Rattle.numbers.specs.Lists.{listed}
 use Rattle.numbers.specs.Rounded.{_⊕_, _⊗_, nought}
 use Rattle.onsets.specs.Peaks.{peaksOf, suppressed}
 use Rattle.onsets.specs.Steps.{Picked}
-use Rattle.section_peaks.specs.Greatest.{greatest}
-use Rattle.sections.specs.Boundaries.{madScale, leastRows, gapOf, thresholdOf, candidatesOf, mostBoundaries, boundariesOf, sectionsOf}
+use Rattle.section_peaks.specs.Greatest.{keptGreatest}
+use Rattle.sections.specs.Boundaries.{sectionMadScale, leastRows, sectionGap, sectionLevel, sectionPeaks, mostBoundaries, boundariesOf, sectionsOf}
 use Rattle.sections.specs.Confidence.{confidenceOf}
 use Rattle.sections.specs.Outcomes.{workedIn, Found}
 use Rattle.section_peaks.specs.Steps.{PickedIn}
@@ -77,14 +77,14 @@ found-short number novelty samples rate maxSections rows work answer z h a s n c
 
 -- what is picked at a level that is the threshold
 candidates-at : (novelty : List Float) (gap : ℕ) (med mad : Float) → med ≡ medianOf novelty → mad ≡ madOf novelty med
-    → suppressed novelty gap (peaksOf novelty (λ _. med ⊕ madScale ⊗ mad)) ≡ candidatesOf novelty gap
-unfolding candidatesOf thresholdOf
+    → suppressed novelty gap (peaksOf novelty (λ _. med ⊕ sectionMadScale ⊗ mad)) ≡ sectionPeaks novelty gap
+unfolding sectionPeaks sectionLevel
 candidates-at novelty gap med mad e h = rw (h, e)
 
 pub picked-at : (novelty : List Float) (gap most : ℕ) (med mad : Float) → med ≡ medianOf novelty → mad ≡ madOf novelty med
     → {n count : ℕ} {rows rows′ : List ℕ} {work work′ : List Float}
-    → PickedIn n (greatest novelty most (suppressed novelty gap (peaksOf novelty (λ _. med ⊕ madScale ⊗ mad)))) rows work count rows′ work′
-    → PickedIn n (greatest novelty most (candidatesOf novelty gap)) rows work count rows′ work′
+    → PickedIn n (keptGreatest novelty most (suppressed novelty gap (peaksOf novelty (λ _. med ⊕ sectionMadScale ⊗ mad)))) rows work count rows′ work′
+    → PickedIn n (keptGreatest novelty most (sectionPeaks novelty gap)) rows work count rows′ work′
 picked-at novelty gap most med mad e h p = rw (candidates-at novelty gap med mad e h) at p
 
 -- the part of rows that is listed
@@ -116,8 +116,8 @@ found-picked novelty bounds rows work answer rows′ work₁ work′ h a s c l w
     }
 
 pub found-long : (number : ℕ) (novelty : List Float) (samples rate maxSections gap most : ℕ) (rows : List ℕ) (work : List Float) (answer : Sections) (rows′ : List ℕ) (work′ : List Float)
-    → number ≡ 0 → leastRows ≤ length novelty → gap ≡ gapOf samples rate → most ≡ mostBoundaries maxSections
-    → Found 0 novelty (greatest novelty most (candidatesOf novelty gap)) rows work answer rows′ work′
+    → number ≡ 0 → leastRows ≤ length novelty → gap ≡ sectionGap samples rate → most ≡ mostBoundaries maxSections
+    → Found 0 novelty (keptGreatest novelty most (sectionPeaks novelty gap)) rows work answer rows′ work′
     → Found number novelty (boundariesOf novelty samples rate maxSections) rows work answer rows′ work′
 unfolding boundariesOf
 found-long number novelty samples rate maxSections gap most rows work answer rows′ work′ z h g m f = rw (z, le-ltb (length novelty) leastRows h) (rw (g, m) at f)

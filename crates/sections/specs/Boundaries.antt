@@ -5,26 +5,22 @@ use mathlib.Core.List.{List, []}
 use lib.Dec.{leb, ltb}
 use lib.ListN.{length}
 use lib.Ieee.{Float}
-use Rattle.numbers.specs.Rounded.{_⊕_, _⊗_, _⊘_, bits, real, pick}
+use Rattle.numbers.specs.Rounded.{_⊕_, _⊗_, _⊘_, bits, real, pick, thousand}
 use Rattle.numbers.specs.Limits.{mostFeatures, mostLength, between, rateFine, valueFine}
 use Rattle.numbers.specs.Refusals.{lowest}
 use Rattle.numbers.specs.Lists.{every}
 use Rattle.floats.specs.Wholes.{ceilOf}
 use Rattle.median.specs.Median.{medianOf, madOf}
 use Rattle.onsets.specs.Peaks.{peaksOf, suppressed}
-use Rattle.section_peaks.specs.Greatest.{greatest}
-
--- 1000
-abbrev pub thousand : Float
-thousand = bits 0x408F_4000_0000_0000
+use Rattle.section_peaks.specs.Greatest.{keptGreatest}
 
 -- 4000, the milliseconds between boundaries
-abbrev pub gapMs : Float
-gapMs = bits 0x40AF_4000_0000_0000
+abbrev pub sectionGapMs : Float
+sectionGapMs = bits 0x40AF_4000_0000_0000
 
 -- 1.5
-abbrev pub madScale : Float
-madScale = bits 0x3FF8_0000_0000_0000
+abbrev pub sectionMadScale : Float
+sectionMadScale = bits 0x3FF8_0000_0000_0000
 
 -- "F 1 to 15 .. one section": fewer rows have no boundary
 abbrev pub leastRows : ℕ
@@ -35,16 +31,16 @@ unfoldable pub frameMs : (samples rate : ℕ) → Float
 frameMs samples rate = real samples ⊘ real rate ⊗ thousand
 
 -- "Gap = max(1, ceil(4000/frame ms))"
-unfoldable pub gapOf : (samples rate : ℕ) → ℕ
-gapOf samples rate = max 1 (ceilOf (gapMs ⊘ frameMs samples rate))
+unfoldable pub sectionGap : (samples rate : ℕ) → ℕ
+sectionGap samples rate = max 1 (ceilOf (sectionGapMs ⊘ frameMs samples rate))
 
 -- "Threshold med + 1.5·mad"
-unfoldable pub thresholdOf : List Float → Float
-thresholdOf novelty = let med = medianOf novelty in med ⊕ madScale ⊗ madOf novelty med
+unfoldable pub sectionLevel : List Float → Float
+sectionLevel novelty = let med = medianOf novelty in med ⊕ sectionMadScale ⊗ madOf novelty med
 
 -- "then peaks and suppression as above"
-unfoldable pub candidatesOf : List Float → (gap : ℕ) → List ℕ
-candidatesOf novelty gap = suppressed novelty gap (peaksOf novelty (λ _. thresholdOf novelty))
+unfoldable pub sectionPeaks : List Float → (gap : ℕ) → List ℕ
+sectionPeaks novelty gap = suppressed novelty gap (peaksOf novelty (λ _. sectionLevel novelty))
 
 -- "max(1, max_sections) - 1 boundaries"
 unfoldable pub mostBoundaries : (maxSections : ℕ) → ℕ
@@ -53,7 +49,7 @@ mostBoundaries maxSections = max 1 maxSections - 1
 -- the rows at which a section begins, the first section's aside
 unfoldable pub boundariesOf : List Float → (samples rate maxSections : ℕ) → List ℕ
 boundariesOf novelty samples rate maxSections =
-    pick (ltb (length novelty) leastRows) [] (greatest novelty (mostBoundaries maxSections) (candidatesOf novelty (gapOf samples rate)))
+    pick (ltb (length novelty) leastRows) [] (keptGreatest novelty (mostBoundaries maxSections) (sectionPeaks novelty (sectionGap samples rate)))
 
 -- "F = 0: zero sections; F 1 to 15, or no boundary: one section": of so many rows with so many boundaries
 unfoldable pub sectionsOf : (rows boundaries : ℕ) → ℕ

@@ -4,13 +4,9 @@ use mathlib.Core.List.{List, [], _∷_, map}
 use lib.Dec.{eqb}
 use lib.ListN.{length}
 use lib.Ieee.{Float, lt, le, neg}
-use Rattle.numbers.specs.Rounded.{_⊖_, _⊘_, bits, real, nought, pick, sumOf, positivePart, held}
+use Rattle.numbers.specs.Rounded.{_⊖_, _⊘_, bits, real, nought, pick, sumOf, positivePart, held, one}
 use Rattle.median.specs.Median.{medianOf}
 use Rattle.onsets.specs.Peaks.{at}
-
--- 1
-abbrev pub one : Float
-one = bits 0x3FF0_0000_0000_0000
 
 -- the lowest float, -(2 - 2^-52)·2^1023
 abbrev pub lowestFloat : Float
@@ -31,11 +27,11 @@ unfoldable pub prominence : List Float → (med : Float) → ℕ → Float
 prominence novelty med row = positivePart (at novelty row ⊖ med)
 
 -- the mean prominence of the boundaries
-unfoldable pub meanOf : List Float → List ℕ → Float
-meanOf novelty boundaries = sumOf (map (prominence novelty (medianOf novelty)) boundaries) ⊘ real (length boundaries)
+unfoldable pub meanProminence : List Float → List ℕ → Float
+meanProminence novelty boundaries = sumOf (map (prominence novelty (medianOf novelty)) boundaries) ⊘ real (length boundaries)
 
 -- their mean as a part of the range, held to 0..1; 0 where there is no boundary or no range
 unfoldable pub confidenceOf : List Float → List ℕ → Float
 confidenceOf novelty boundaries =
     pick (eqb (length boundaries) 0) nought
-    (pick (le (rangeOf novelty) nought) nought (held nought one (meanOf novelty boundaries ⊘ rangeOf novelty)))
+    (pick (le (rangeOf novelty) nought) nought (held nought one (meanProminence novelty boundaries ⊘ rangeOf novelty)))

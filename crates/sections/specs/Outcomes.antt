@@ -12,7 +12,7 @@ use Rattle.numbers.specs.Refusals.{unlessRefused}
 use Rattle.numbers.specs.Outcomes.{Written}
 use Rattle.sections.specs.Boundaries.{leastRows, boundariesOf, sectionsOf, boundariesRefusal}
 use Rattle.sections.specs.Confidence.{confidenceOf}
-use Rattle.sections.specs.Times.{rowTime, timesRefusal}
+use Rattle.sections.specs.Times.{rowTime, rowTimesRefusal}
 use Rattle.sections.specs.declared.Sections.{Sections}
 
 -- how many slots of the work slice, from its start on, may differ afterwards: one for each row where the curve is searched, and none at a
@@ -41,5 +41,5 @@ BoundariesPromise novelty samples rate maxSections rows work =
     Found (boundariesRefusal novelty samples rate (length rows) (length work)) novelty (boundariesOf novelty samples rate maxSections) rows work
 
 -- what `boundary_times` promises
-abbrev pub TimesPromise : (rows : List ℕ) (samples rate : ℕ) (ms : List Float) (answer : ℕ) (ms′ : List Float) → Type 0
-TimesPromise rows samples rate ms = Written (timesRefusal rows samples rate (length ms)) (listed (map (rowTime samples rate) rows) ms) ms
+abbrev pub RowTimesPromise : (rows : List ℕ) (samples rate : ℕ) (ms : List Float) (answer : ℕ) (ms′ : List Float) → Type 0
+RowTimesPromise rows samples rate ms = Written (rowTimesRefusal rows samples rate (length ms)) (listed (map (rowTime samples rate) rows) ms) ms

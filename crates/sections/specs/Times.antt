@@ -6,7 +6,7 @@ use lib.Dec.{leb, ltb}
 use lib.ListN.{length}
 use lib.Ieee.{Float}
 use Rattle.numbers.specs.Rounded.{_⊗_, real}
-use Rattle.numbers.specs.Limits.{mostFeatures}
+use Rattle.numbers.specs.Limits.{mostFeatures, rowFine}
 use Rattle.numbers.specs.Refusals.{lowest}
 use Rattle.numbers.specs.Lists.{every}
 use Rattle.sections.specs.Boundaries.{frameMs, gridFine}
@@ -15,11 +15,7 @@ use Rattle.sections.specs.Boundaries.{frameMs, gridFine}
 unfoldable pub rowTime : (samples rate row : ℕ) → Float
 rowTime samples rate row = real row ⊗ frameMs samples rate
 
--- a row that a curve of at most 50,000 slots has
-abbrev pub rowFine : ℕ → Bool
-rowFine row = ltb row mostFeatures
-
 -- 1: a feature row has 1 to 2 ^ 31 samples, the rate is fine, and each row is below 50,000. 3: room for each row.
-unfoldable pub timesRefusal : List ℕ → (samples rate room : ℕ) → ℕ
-timesRefusal rows samples rate room =
+unfoldable pub rowTimesRefusal : List ℕ → (samples rate room : ℕ) → ℕ
+rowTimesRefusal rows samples rate room =
     lowest (gridFine samples rate && every rowFine rows) true (leb (length rows) room) true

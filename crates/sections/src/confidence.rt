@@ -7,10 +7,10 @@ ghost use mathlib.Core.List.{map};
 ghost use Prim.Native.Nat.{_<_};
 ghost use lib.ListN.{length};
 ghost use lib.Ieee.{lt};
-ghost use Rattle.numbers.specs.Rounded.{nought, pick, sumOf, held};
+ghost use Rattle.numbers.specs.Rounded.{nought, pick, sumOf, held, one};
 ghost use Rattle.median.specs.Median.{medianOf};
 ghost use Rattle.onsets.specs.Peaks.{pointInto};
-ghost use Rattle.sections.specs.Confidence.{one, lowestFloat, greatestFrom, prominence, confidenceOf};
+ghost use Rattle.sections.specs.Confidence.{lowestFloat, greatestFrom, prominence, confidenceOf};
 
 pub fn confidence_of(novelty: &[f64], med: f64, rows: &[u32]) -> f64
     requires { ⌜ (med ≡ medianOf (now novelty)) × (pointInto (length (now novelty)) (now rows) ≡ true) ⌝ }

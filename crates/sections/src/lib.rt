@@ -8,12 +8,12 @@ ghost use mathlib.Core.List.{map};
 ghost use Prim.Native.Nat.{_≤_};
 ghost use lib.ListN.{length};
 ghost use Rattle.numbers.specs.Rounded.{_⊗_, real};
-ghost use Rattle.numbers.specs.Limits.{mostFeatures};
+ghost use Rattle.numbers.specs.Limits.{mostFeatures, rowFine};
 ghost use Rattle.numbers.specs.Lists.{every, listed};
-ghost use Rattle.section_peaks.specs.Greatest.{greatest};
-ghost use Rattle.sections.specs.Boundaries.{leastRows, frameMs, gapOf, candidatesOf, gridFine, boundariesRefusal};
-ghost use Rattle.sections.specs.Times.{rowFine, timesRefusal};
-ghost use Rattle.sections.specs.Outcomes.{Found, BoundariesPromise, TimesPromise};
+ghost use Rattle.section_peaks.specs.Greatest.{keptGreatest};
+ghost use Rattle.sections.specs.Boundaries.{leastRows, frameMs, sectionGap, sectionPeaks, gridFine, boundariesRefusal};
+ghost use Rattle.sections.specs.Times.{rowTimesRefusal};
+ghost use Rattle.sections.specs.Outcomes.{Found, BoundariesPromise, RowTimesPromise};
 
 // What `boundaries` answers: its number, how many sections there are, how many boundaries are listed (one less, or none), and how far
 // they stand out, from 0 to 1. All are 0 at a refusal, but the number.
@@ -64,7 +64,7 @@ pub fn boundaries(
             confidence: 0.0,
         };
     }
-    let most = numbers::greatest(1, max_sections) - 1;
+    let most = numbers::keptGreatest(1, max_sections) - 1;
     find(novelty, section_gap(length, rate), most, rows, work)
 }
 
@@ -77,7 +77,7 @@ fn find(novelty: &[f64], gap: usize, most: usize, rows: &mut [u32], work: &mut [
         × (length (now novelty) ≤ length (now work))
         ⌝ }
     ensures { λ r. ⌜
-        Found 0 (now (novelty .entry)) (greatest (now (novelty .entry)) most (candidatesOf (now (novelty .entry)) gap))
+        Found 0 (now (novelty .entry)) (keptGreatest (now (novelty .entry)) most (sectionPeaks (now (novelty .entry)) gap))
         (now (rows .entry)) (now (work .entry))
         r (now (rows .exit)) (now (work .exit))
         ⌝ }
@@ -137,17 +137,17 @@ pub fn frame_ms(length: u64, rate: u32) -> f64
 
 // Inner: the rows within which one boundary is kept.
 pub fn section_gap(length: u64, rate: u32) -> usize
-    ensures { λ r. ⌜ r ≡ gapOf length rate ⌝ }
+    ensures { λ r. ⌜ r ≡ sectionGap length rate ⌝ }
 {
     let rows = floats::wholes::ceil_of(4000.0 / frame_ms(length, rate)) as usize;
-    numbers::greatest(1, rows)
+    numbers::keptGreatest(1, rows)
 }
 
 // Writes the time in milliseconds at which each row begins, in the rows' order. Room: one slot for each row.
 // Refuses: 1 a length outside 1 to 2^31, a rate outside 1 to 192,000 or a row of 50,000 and above; 3 ms shorter than rows. A refusal
 // writes nothing. The rows need not ascend. Slots past them stay.
 pub fn boundary_times(rows: &[u32], length: u64, rate: u32, ms: &mut [f64]) -> u32
-    ensures { λ r. ⌜ TimesPromise (now (rows .entry)) length rate (now (ms .entry)) r (now (ms .exit)) ⌝ }
+    ensures { λ r. ⌜ RowTimesPromise (now (rows .entry)) length rate (now (ms .entry)) r (now (ms .exit)) ⌝ }
 {
     let number = times_refusal(rows, length, rate, ms.len());
     if number != 0 {
@@ -158,31 +158,18 @@ pub fn boundary_times(rows: &[u32], length: u64, rate: u32, ms: &mut [f64]) -> u
 }
 
 fn times_refusal(rows: &[u32], length: u64, rate: u32, room: usize) -> u32
-    ensures { λ r. ⌜ r ≡ timesRefusal (now (rows .entry)) length rate room ⌝ }
+    ensures { λ r. ⌜ r ≡ rowTimesRefusal (now (rows .entry)) length rate room ⌝ }
 {
     if !grid_fine(length, rate) {
         return numbers::OUT_OF_BOUNDS;
     }
-    if !rows_fine(rows) {
+    if !lists::all_at_most(rows, numbers::MOST_LISTED_ROW) {
         return numbers::OUT_OF_BOUNDS;
     }
     if room < rows.len() {
         return numbers::TOO_LITTLE_ROOM;
     }
     0
-}
-
-fn rows_fine(rows: &[u32]) -> bool
-    ensures { λ r. ⌜ r ≡ every rowFine (now (rows .entry)) ⌝ }
-{
-    let mut i = 0;
-    while i < rows.len() {
-        if rows[i] as usize >= numbers::MOST_FEATURES {
-            return false;
-        }
-        i += 1;
-    }
-    true
 }
 
 fn write_times(rows: &[u32], each: f64, ms: &mut [f64])

@@ -16,7 +16,7 @@ use Rattle.numbers.proofs.Tabs.{getD-curve, filled-ext, getD-filled-in, getD-fi
 use Rattle.roots.specs.Roots.{sqrtOf}
 use Rattle.roots.proofs.Roots.{sqrt-of-nought}
 use Rattle.row_pairs.specs.Pairs.{featureRow, dotOf, normOf, isZero, settled, slotAt, similarityAt}
-use Rattle.similarities.specs.Lanes.{turnedAt, columnOf, squareAt, rootAt, Block, laneQuotient, settledFrom}
+use Rattle.similarities.specs.Lanes.{turnedAt, turnedColumn, squareAt, rootAt, Block, laneQuotient, settledFrom}
 use Rattle.row_pairs.proofs.Slots.{slot-past, slot-of, norm-is, slot-at}
 
 -- ---- a block of rows, turned
@@ -27,12 +27,12 @@ turned-is features first r k h =
     let e : (first + (k * 128 + r) % 128) * 16 + (k * 128 + r) / 128 ≡ (first + r) * 16 + k = omega arith in
     ap (λ (p : ℕ). getD features p nan) e
 
-pub length-column : (turned : List Float) (r : ℕ) → length (columnOf turned r) ≡ 16
-unfolding columnOf
+pub length-column : (turned : List Float) (r : ℕ) → length (turnedColumn turned r) ≡ 16
+unfolding turnedColumn
 length-column turned r = refl
 
-pub getD-column : (turned : List Float) (r k : ℕ) → k < 16 → getD (columnOf turned r) k nan ≡ getD turned (k * 128 + r) nan
-unfolding columnOf
+pub getD-column : (turned : List Float) (r k : ℕ) → k < 16 → getD (turnedColumn turned r) k nan ≡ getD turned (k * 128 + r) nan
+unfolding turnedColumn
 getD-column turned r k h = getD-curve (λ k. getD turned (k * 128 + r) nan) 16 k nan h
 
 -- a block made: the values turned, then the sums of the squares over zeros, then the norms over any array
@@ -75,9 +75,9 @@ module _ (features : List Float) (rows first : ℕ) (turned squares norms : List
     held-row : r < min 128 (rows - first)
     held-row = omega arith
 
-    pub column-is : columnOf turned r ≡ featureRow features (first + r)
+    pub column-is : turnedColumn turned r ≡ featureRow features (first + r)
     column-is =
-        ext-getD nan (columnOf turned r) (featureRow features (first + r)) (length-column turned r ∙ sym (length-row features rows 16 (first + r) whole there))
+        ext-getD nan (turnedColumn turned r) (featureRow features (first + r)) (length-column turned r ∙ sym (length-row features rows 16 (first + r) whole there))
         (λ k h.
         let h′ : k < 16 = omega (arith, length-column turned r) in
         getD-column turned r k h′ ∙ b .column r k held-row h′ ∙ sym (getD-row features 16 (first + r) k nan h′))
@@ -96,7 +96,7 @@ module _ (features : List Float) (rows first : ℕ) (turned squares norms : List
   -- the slots of the row in column c, from its seventeen dot products
   module _ (c d : ℕ) (few : c < 112) (there : first + c < rows) (band : d < 17) (sums : List Float)
       (own : getD sums 0 nan ≡ getD squares c nan)
-      (others : (e : ℕ) → 0 < e → e < 17 → getD sums e nan ≡ dotOf (featureRow features (first + c)) (columnOf turned (c + e))) where
+      (others : (e : ℕ) → 0 < e → e < 17 → getD sums e nan ≡ dotOf (featureRow features (first + c)) (turnedColumn turned (c + e))) where
     its-dot : first + c + d < rows → getD sums d nan ≡ dotOf (featureRow features (first + c)) (featureRow features (first + c + d))
     its-dot h = go (lt-or-le 0 d)
       where
@@ -129,7 +129,7 @@ module _ (features : List Float) (rows first : ℕ) (turned squares norms : List
   -- all seventeen, laid out
   pub row-slots : (i c : ℕ) → first + c ≡ i → c < 112 → i < rows → (sums quotients : List Float) → length sums ≡ 17
       → getD sums 0 nan ≡ getD squares c nan
-      → ((e : ℕ) → 0 < e → e < 17 → getD sums e nan ≡ dotOf (featureRow features i) (columnOf turned (c + e)))
+      → ((e : ℕ) → 0 < e → e < 17 → getD sums e nan ≡ dotOf (featureRow features i) (turnedColumn turned (c + e)))
       → quotients ≡ filled (laneQuotient sums norms c) sums 0 17
       → (d : List Float) → filled (settledFrom quotients norms c (i * 17)) d (i * 17) (i * 17 + 17) ≡ filled (similarityAt features rows) d (i * 17) (i * 17 + 17)
   unfolding settledFrom laneQuotient
@@ -144,7 +144,7 @@ module _ (features : List Float) (rows first : ℕ) (turned squares norms : List
       ap (λ (x : List Float). getD x e nan) q
       ∙ getD-filled-in (laneQuotient sums norms c) sums 0 17 (omega arith) (omega arith) e nan (omega arith) e-in in
       ap (λ (x : Float). settled x (getD norms c nan) (getD norms (c + e) nan)) value
-      ∙ block-slot c e few there′ e-in sums own (λ n p r. others n p r ∙ ap (λ (j : ℕ). dotOf (featureRow features j) (columnOf turned (c + n))) (sym place))
+      ∙ block-slot c e few there′ e-in sums own (λ n p r. others n p r ∙ ap (λ (j : ℕ). dotOf (featureRow features j) (turnedColumn turned (c + n))) (sym place))
       ∙ ap (λ (j : ℕ). slotAt features rows j e) place
       ∙ sym (slot-at features rows i e e-in)
       ∙ ap (similarityAt features rows) back)

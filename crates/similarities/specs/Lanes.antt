@@ -15,8 +15,8 @@ unfoldable pub turnedAt : (features : List Float) (first p : ℕ) → Float
 turnedAt features first p = getD features ((first + p % 128) * 16 + p / 128) nan
 
 -- the block's row r, read back
-unfoldable pub columnOf : (turned : List Float) (r : ℕ) → List Float
-columnOf turned r = curve (λ k. getD turned (k * 128 + r) nan) 16
+unfoldable pub turnedColumn : (turned : List Float) (r : ℕ) → List Float
+turnedColumn turned r = curve (λ k. getD turned (k * 128 + r) nan) 16
 
 -- the sum of the squares of the block's row r, and the norm from it
 unfoldable pub squareAt : (features : List Float) (first r : ℕ) → Float

@@ -18,6 +18,6 @@ similarityNumber features rows room =
     lowest (leb rows mostFeatures) (eqb (length features) (rows * featureWidth)) (leb (rows * bandWidth) room) (every valueFine features)
 
 -- what `similarity` does: the number, and each lent slot afterwards
-pub record SimilarityDone (features : List Float) (rows : ℕ) (was : List Float) (number : ℕ) (similarity : List Float) : Type 0 where
+pub record SimilarityPromise (features : List Float) (rows : ℕ) (was : List Float) (number : ℕ) (similarity : List Float) : Type 0 where
   pub answer : number ≡ similarityNumber features rows (length was)
   pub slots : similarity ≡ unlessRefused (similarityNumber features rows (length was)) (filled (similarityAt features rows) was 0 (rows * bandWidth)) was

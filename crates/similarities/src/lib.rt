@@ -20,8 +20,8 @@ ghost use lib.ListN.{length, getD};
 ghost use lib.Ieee.{nan};
 ghost use Rattle.numbers.specs.Lists.{filled};
 ghost use Rattle.row_pairs.specs.Pairs.{dotOf, similarityAt};
-ghost use Rattle.similarities.specs.Similarity.{similarityNumber, SimilarityDone};
-ghost use Rattle.similarities.specs.Lanes.{turnedAt, columnOf, squareAt, rootAt, Block, laneProduct, laneQuotient, settledFrom};
+ghost use Rattle.similarities.specs.Similarity.{similarityNumber, SimilarityPromise};
+ghost use Rattle.similarities.specs.Lanes.{turnedAt, turnedColumn, squareAt, rootAt, Block, laneProduct, laneQuotient, settledFrom};
 
 // slots of a row of the similarity: the row with itself, and with the sixteen rows after it
 pub const BAND_WIDTH: usize = 17;
@@ -49,7 +49,7 @@ fn similarity_number(features: &[f64], rows: usize, room: usize) -> u32
 // Refuses 1 to 4 and then writes nothing: 1 for more than 50,000 rows, 2 for a length of the features other than rows * 16, 3 for fewer than
 // rows * 17 slots of similarity, 4 for a feature value that isn't finite or has size above 2^150.
 pub fn similarity(features: &[f64], rows: usize, similarity: &mut [f64]) -> u32
-    ensures { λ r. ⌜ SimilarityDone (now (features .entry)) rows (now (similarity .entry)) r (now (similarity .exit)) ⌝ }
+    ensures { λ r. ⌜ SimilarityPromise (now (features .entry)) rows (now (similarity .entry)) r (now (similarity .exit)) ⌝ }
 {
     let number = similarity_number(features, rows, similarity.len());
     if number != 0 {
@@ -144,7 +144,7 @@ fn add_products(sums: &mut [f64; 17], x: f64, turned: &[f64; 2048], at: usize)
 // the dot products of the block's row in column c with itself, which is `own`, and with the sixteen rows after it
 fn row_dots(row: &[f64], turned: &[f64; 2048], c: usize, own: f64) -> [f64; 17]
     requires { ⌜ (length (now row) ≡ 16) × (c < 112) ⌝ }
-    ensures { λ r. ⌜ (length r ≡ 17) × (getD r 0 nan ≡ own) × ((d : ℕ) → 0 < d → d < 17 → getD r d nan ≡ dotOf (now (row .entry)) (columnOf (now (turned .entry)) (c + d))) ⌝ }
+    ensures { λ r. ⌜ (length r ≡ 17) × (getD r 0 nan ≡ own) × ((d : ℕ) → 0 < d → d < 17 → getD r d nan ≡ dotOf (now (row .entry)) (turnedColumn (now (turned .entry)) (c + d))) ⌝ }
 {
     let mut sums = [0.0; 17];
     let mut k = 0;

@@ -14,10 +14,10 @@ use Rattle.numbers.specs.Rounded.{nought}
 use Rattle.numbers.specs.Limits.{valueFine}
 use Rattle.numbers.proofs.Tests.{pick-true, pick-false}
 use Rattle.numbers.proofs.Overs.{every-row}
-use Rattle.lags.specs.declared.TempoOpts.{TempoOpts}
+use Rattle.options.specs.declared.TempoOpts.{TempoOpts}
 use Rattle.lags.specs.Lags.{minLag, maxLag}
-use Rattle.candidates.specs.Candidates.{winnerOf}
-use Rattle.candidates.proofs.Winners.{FirstGreatest}
+use Rattle.lag_candidates.specs.Candidates.{winnerOf}
+use Rattle.lag_candidates.proofs.Winners.{FirstGreatest}
 use Rattle.lag_search.specs.Search.{weightCurve, flat, winnerAbove, winnerLag, winningLag}
 use Rattle.tempo.proofs.FirstGreatest.{Searchable, searchable-in, first-greatest, no-weight-above}
 use Rattle.stability.specs.Windows.{windowsOf, windowAt, windowAgrees}

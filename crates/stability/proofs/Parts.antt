@@ -11,13 +11,14 @@ use lib.Dec.{eqb}
 use lib.ListN.{length, take, drop, length-drop}
 use lib.Seq.{length-take-le}
 use lib.Ieee.{Float, le}
-use Rattle.numbers.specs.Rounded.{pick}
+use Rattle.numbers.specs.Rounded.{pick, epsilon}
 use Rattle.numbers.specs.Lists.{filled}
 use Rattle.numbers.proofs.Tests.{pick-true, pick-false}
 use Rattle.numbers.proofs.Overs.{row-end}
+use Rattle.lists.specs.Means.{meanOf}
 use Rattle.lags.specs.Lags.{lagRoom}
 use Rattle.lags.specs.Pairs.{agrees}
-use Rattle.lag_sums.specs.Sums.{meanOf, energyOf, leastEnergy}
+use Rattle.lag_sums.specs.Sums.{energyOf}
 use Rattle.lag_curves.specs.Curves.{clarityFrom, weightedBy}
 use Rattle.lag_curves.proofs.Weights.{weighted-by-is}
 use Rattle.lag_search.specs.Search.{winnerLag, winningLag}
@@ -65,7 +66,7 @@ module _ (env : List Float) (w i : ℕ) where
 
 module _ (window priors : List Float) (minLag maxLag : ℕ) (mean ac0 : Float) (m : mean ≡ meanOf window) (a : ac0 ≡ energyOf window mean)
     (clarity weight : List Float) where
-  pub window-flat : le ac0 leastEnergy ≡ true → WindowSearched window priors minLag maxLag clarity weight 0 clarity weight
+  pub window-flat : le ac0 epsilon ≡ true → WindowSearched window priors minLag maxLag clarity weight 0 clarity weight
   window-flat e =
       record {
         winner = λ rate was h p. searched-flat window rate minLag maxLag mean ac0 m a clarity weight e .winner;
@@ -73,7 +74,7 @@ module _ (window priors : List Float) (minLag maxLag : ℕ) (mean ac0 : Float) (
         weights = open-same _ weight;
       }
 
-  pub window-written : (clarity′ weight′ : List Float) (room lag : ℕ) → le ac0 leastEnergy ≡ false → room ≡ lagRoom minLag maxLag
+  pub window-written : (clarity′ weight′ : List Float) (room lag : ℕ) → le ac0 epsilon ≡ false → room ≡ lagRoom minLag maxLag
       → lagRoom minLag maxLag ≤ length clarity → lagRoom minLag maxLag ≤ length weight
       → clarity′ ≡ filled (clarityFrom window mean ac0 minLag) clarity 0 (lagRoom minLag maxLag)
       → weight′ ≡ filled (weightedBy clarity′ priors) weight 0 room

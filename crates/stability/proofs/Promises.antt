@@ -10,11 +10,11 @@ use lib.ListN.{length, drop}
 use lib.Ieee.{Float}
 use Rattle.numbers.specs.Rounded.{pick}
 use Rattle.numbers.specs.Refusals.{unlessRefused}
-use Rattle.lags.specs.declared.TempoOpts.{TempoOpts}
+use Rattle.options.specs.declared.TempoOpts.{TempoOpts}
 use Rattle.lags.specs.Lags.{minLag, maxLag}
 use Rattle.stability.specs.declared.Steadiness.{Steadiness}
 use Rattle.stability.specs.Windows.{windowsOf, windowAt, windowAgrees, agreeingTo}
-use Rattle.stability.specs.Answers.{stabilityRefusal, leftOpen, Lent, Steadied}
+use Rattle.stability.specs.Answers.{stabilityRefusal, leftOpen, Lent, StabilityPromise}
 
 -- two slices that are alike in length and in every slot that is not left open
 abbrev pub Alike : (number room : ℕ) → (xs ys : List Float) → Type 0
@@ -25,7 +25,7 @@ lent-coincide p q = (p .same-length ∙ sym (q .same-length), p .kept ∙ sym (q
 
 pub coincide : {env : List Float} {rate : ℕ} {o : TempoOpts} {whole : ℕ} {clarity weight work : List Float}
     {r s : Steadiness} {c d w v k l : List Float}
-    → Steadied env rate o whole clarity weight work r c w k → Steadied env rate o whole clarity weight work s d v l
+    → StabilityPromise env rate o whole clarity weight work r c w k → StabilityPromise env rate o whole clarity weight work s d v l
     → let number = stabilityRefusal env rate o whole (length clarity) (length weight) (length work) in
     let room = leftOpen (length env) (minLag rate o) (maxLag rate o) whole in
     (r ≡ s) × Alike number room c d × Alike number room w v × Alike number room k l

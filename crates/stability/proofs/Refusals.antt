@@ -12,7 +12,7 @@ use Rattle.numbers.specs.Limits.{mostRows, mostPeriod, valueFine}
 use Rattle.numbers.specs.Refusals.{lowest}
 use Rattle.numbers.specs.Lists.{every}
 use Rattle.numbers.proofs.Tests.{lowest-1, and-left, and-failed, Passed, lowest-zero}
-use Rattle.lags.specs.declared.TempoOpts.{TempoOpts}
+use Rattle.options.specs.declared.TempoOpts.{TempoOpts}
 use Rattle.lags.specs.declared.LagRange.{LagRange}
 use Rattle.lags.specs.Lags.{lagRoom}
 use Rattle.tempo.specs.Answers.{searchBounds, searchRoom, searchRefusal}

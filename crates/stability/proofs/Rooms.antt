@@ -7,7 +7,7 @@ use lib.Seq.{drop-at}
 use lib.Ieee.{Float}
 use Rattle.numbers.specs.Lists.{curve, filled}
 use Rattle.numbers.proofs.Tabs.{length-tab, length-filled, filled-whole}
-use Rattle.stability.specs.Windows.{Open}
+use Rattle.numbers.specs.Outcomes.{Open}
 
 pub open-same : (room : ℕ) (xs : List Float) → Open room xs xs
 open-same room xs = record { same-length = refl; kept = refl }

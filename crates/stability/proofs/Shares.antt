@@ -10,15 +10,16 @@ use lib.ListN.{length, drop}
 use lib.Ieee.{Float}
 use Rattle.numbers.specs.Rounded.{_⊘_, real}
 use Rattle.numbers.proofs.Tests.{pick-true, pick-false, refused-keeps, passed-does}
-use Rattle.lags.specs.declared.TempoOpts.{TempoOpts}
+use Rattle.numbers.specs.Outcomes.{Open}
+use Rattle.options.specs.declared.TempoOpts.{TempoOpts}
 use Rattle.lags.specs.declared.LagRange.{LagRange}
 use Rattle.lags.specs.Lags.{minLag, maxLag, lagRoom}
 use Rattle.tempo.proofs.Refusals.{Ranged}
 use Rattle.stability.specs.declared.Stability.{Stability}
 use Rattle.stability.specs.declared.Stability.the-variants.{None, Share}
 use Rattle.stability.specs.declared.Steadiness.{Steadiness}
-use Rattle.stability.specs.Windows.{windowsOf, agreeingTo, Open, Counted}
-use Rattle.stability.specs.Answers.{stabilityRefusal, leftOpen, shareOf, withoutStability, steadinessOf, Shared, Lent, Steadied}
+use Rattle.stability.specs.Windows.{windowsOf, agreeingTo, Counted}
+use Rattle.stability.specs.Answers.{stabilityRefusal, leftOpen, shareOf, withoutStability, steadinessOf, Shared, Lent, StabilityPromise}
 use Rattle.stability.proofs.Rooms.{open-same}
 
 -- so many windows lie in the envelope
@@ -94,7 +95,7 @@ module _ (env : List Float) (rate : ℕ) (o : TempoOpts) (whole : ℕ) (clarity 
   abbrev number : ℕ
   number = stabilityRefusal env rate o whole (length clarity) (length weight) (length work)
 
-  pub steadied-refused : (n : ℕ) → n ≡ number → (n ≡ 0 → ⊥) → Steadied env rate o whole clarity weight work (withoutStability n) clarity weight work
+  pub steadied-refused : (n : ℕ) → n ≡ number → (n ≡ 0 → ⊥) → StabilityPromise env rate o whole clarity weight work (withoutStability n) clarity weight work
   unfolding steadinessOf
   steadied-refused n e some =
       let left : number ≡ 0 → ⊥ = λ z. some (e ∙ z) in
@@ -107,7 +108,7 @@ module _ (env : List Float) (rate : ℕ) (o : TempoOpts) (whole : ℕ) (clarity 
 
   pub steadied-shared : (n : ℕ) (range : LagRange) (s : Stability) (clarity′ weight′ work′ : List Float) → n ≡ number → n ≡ 0 → Ranged rate o range
       → Shared env rate (range .«min_lag») (range .«max_lag») whole clarity weight work s clarity′ weight′ work′
-      → Steadied env rate o whole clarity weight work (record { number = 0; stability = s }) clarity′ weight′ work′
+      → StabilityPromise env rate o whole clarity weight work (record { number = 0; stability = s }) clarity′ weight′ work′
   unfolding steadinessOf
   steadied-shared n range s clarity′ weight′ work′ e z a told =
       let none : number ≡ 0 = sym e ∙ z in

@@ -10,13 +10,14 @@ use Rattle.numbers.specs.Rounded.{_⊘_, real, pick}
 use Rattle.numbers.specs.Limits.{mostPeriod, valueFine}
 use Rattle.numbers.specs.Refusals.{lowest, unlessRefused}
 use Rattle.numbers.specs.Lists.{every}
-use Rattle.lags.specs.declared.TempoOpts.{TempoOpts}
+use Rattle.numbers.specs.Outcomes.{Open}
+use Rattle.options.specs.declared.TempoOpts.{TempoOpts}
 use Rattle.lags.specs.Lags.{minLag, maxLag, lagRoom}
 use Rattle.tempo.specs.Answers.{searchBounds, searchRoom}
 use Rattle.stability.specs.declared.Stability.{Stability}
 use Rattle.stability.specs.declared.Stability.the-variants.{None, Share}
 use Rattle.stability.specs.declared.Steadiness.{Steadiness}
-use Rattle.stability.specs.Windows.{windowsOf, agreeingTo, Open}
+use Rattle.stability.specs.Windows.{windowsOf, agreeingTo}
 
 -- the number: what `estimate` looks at, and the whole lag, which is bounded as a period
 unfoldable pub stabilityRefusal : List Float → (rate : ℕ) → TempoOpts → (whole clarity weight work : ℕ) → ℕ
@@ -66,7 +67,7 @@ pub record Lent (number room : ℕ) (was now′ : List Float) : Type 0 where
 -- afterwards, one a lag, is left open, since no caller has a use for it: in the lag curves' room each window's curves go over those of the window
 -- before, but for a flat window, which writes none; in the work slice stand the priors that all of them are weighed by. Where no window is
 -- searched, every slot is as it was.
-pub record Steadied
+pub record StabilityPromise
     (env : List Float) (rate : ℕ) (o : TempoOpts) (whole : ℕ) (clarity weight work : List Float)
     (answer : Steadiness) (clarity′ weight′ work′ : List Float) : Type 0 where
   pub answered : answer ≡ steadinessOf env rate o whole (length clarity) (length weight) (length work)

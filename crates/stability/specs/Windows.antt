@@ -8,6 +8,7 @@ use lib.ListN.{length, drop}
 use lib.Ieee.{Float}
 use Rattle.numbers.specs.Rounded.{pick}
 use Rattle.numbers.specs.Lists.{row, filled}
+use Rattle.numbers.specs.Outcomes.{Open}
 use Rattle.lags.specs.Lags.{lagRoom}
 use Rattle.lags.specs.Pairs.{agrees}
 use Rattle.lag_curves.specs.Curves.{priorFrom}
@@ -36,11 +37,6 @@ agreeingTo env rate minLag maxLag whole w (suc k) =
     agreeingTo env rate minLag maxLag whole w k + pick (windowAgrees (windowAt env w k) rate minLag maxLag whole) 1 0
 
 -- ---- one window's search, with the priors given
-
--- A lent slice whose first slots, as many as there is room for, then hold anything; the others are unchanged.
-pub record Open (room : ℕ) (was now′ : List Float) : Type 0 where
-  pub same-length : length now′ ≡ length was
-  pub kept : drop room now′ ≡ drop room was
 
 -- The lag that is found is the winner's, at whichever rate the priors are those of.
 pub record WindowSearched

@@ -2,7 +2,7 @@
 //
 // Document 01, Tempo and candidates, "Stability". The Rust: tempo.rs `stability_of`.
 use crate::windows::count_agreeing;
-use lags::TempoOpts;
+use options::TempoOpts;
 use lags::lag_range;
 use numbers::MOST_PERIOD;
 use numbers::OUT_OF_BOUNDS;
@@ -13,7 +13,7 @@ ghost use Prim.Native.Nat.{_≤_};
 ghost use lib.ListN.{length};
 ghost use Rattle.numbers.specs.Limits.{mostPeriod, mostRows};
 ghost use Rattle.lags.specs.Lags.{lagRoom};
-ghost use Rattle.stability.specs.Answers.{stabilityRefusal, Steadied, Shared};
+ghost use Rattle.stability.specs.Answers.{stabilityRefusal, StabilityPromise, Shared};
 
 mod windows;
 
@@ -117,7 +117,7 @@ pub fn stability_of(
     work: &mut [f64],
 ) -> Steadiness
     ensures { λ r. ⌜
-        Steadied
+        StabilityPromise
         (now (envelope .entry)) rate opts «whole_lag»
         (now (clarity .entry)) (now (weight .entry)) (now (work .entry))
         r

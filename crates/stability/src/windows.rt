@@ -5,12 +5,12 @@
 use lag_curves::fill_clarity;
 use lag_curves::fill_priors;
 use lag_curves::weigh;
-use lag_search::LEAST_ENERGY;
+use numbers::EPSILON;
 use lag_search::lag_of_winner;
 use lag_sums::energy_of;
-use lag_sums::mean_of;
+use lists::mean_of;
 use lags::pairs::fold_fits;
-use lags::room_of;
+use lags::lag_slots;
 ghost use Prim.Native.Nat.{_+_, _*_, _≤_, _<_};
 ghost use lib.ListN.{length};
 ghost use Rattle.numbers.specs.Limits.{mostPeriod, mostRows};
@@ -45,11 +45,11 @@ fn window_lag(
 {
     let mean = mean_of(window);
     let ac0 = energy_of(window, mean);
-    if ac0 <= LEAST_ENERGY {
+    if ac0 <= EPSILON {
         return 0;
     }
     fill_clarity(window, mean, ac0, min_lag, max_lag, clarity);
-    let room = room_of(min_lag, max_lag);
+    let room = lag_slots(min_lag, max_lag);
     weigh(clarity, priors, room, weight);
     lag_of_winner(&weight[0..room], min_lag)
 }

@@ -9,7 +9,7 @@ use Rattle.tempo.specs.declared.Candidate.{Candidate}
 use Rattle.tempo.specs.declared.Tempo.{Tempo}
 use Rattle.tempo.specs.declared.Tempo.the-variants.{None, Found}
 use Rattle.tempo.specs.declared.TempoEstimate.{TempoEstimate}
-use Rattle.candidates.specs.Candidates.{winnerOf, candidatesOf}
+use Rattle.lag_candidates.specs.Candidates.{winnerOf, candidatesOf}
 use Rattle.tempo.specs.Answers.{unused, candidateAt, pairsOf, foundOf}
 
 -- the answer with these candidates

@@ -12,11 +12,12 @@ use lib.Dec.{T, leb, lit<, lit≤}
 use lib.ListN.{length, getD}
 use lib.Ieee.{Float, nan, binary64, isNan, lt, le, ofBits}
 use lib.Ieee.Fits.{div-fits}
-use Rattle.numbers.specs.Rounded.{_⊘_, real, nought}
+use Rattle.numbers.specs.Rounded.{_⊘_, real, nought, epsilon, one, hop}
 use Rattle.numbers.specs.Limits.{rateFine, mostRate, mostPeriod, mostRows, valueFine}
 use Rattle.numbers.specs.Lists.{every}
 use Rattle.numbers.proofs.Tests.{and-left, or-left, or-right}
 use Rattle.numbers.proofs.Tabs.{getD-curve, length-tab}
+use Rattle.lists.specs.Means.{meanOf}
 use Rattle.sizes.specs.Sizes.{AtMost, AtLeast, Within, isPlus, Plus}
 use Rattle.sizes.proofs.Numbers.{held-short, held-part}
 use Rattle.sizes.proofs.Sizes.{most-finite, most-not-nan, nought-most, real-most, mul-most, div-most}
@@ -24,20 +25,19 @@ use Rattle.sizes.proofs.Least.{real-least, least-above, mul-least, div-least}
 use Rattle.sizes.proofs.Signs.{real-plus, mul-plus, div-plus}
 use Rattle.sizes.proofs.Order.{not-le}
 use Rattle.sizes.proofs.Ranges.{between-most}
-use Rattle.leaf_sizes.proofs.LogSizes.{log2-most}
-use Rattle.leaf_sizes.proofs.ExpSizes.{exp-square-most}
-use Rattle.lags.specs.declared.TempoOpts.{TempoOpts}
-use Rattle.lags.specs.Lags.{one, sixty, hop, framesPerMinute, bpmAt, lagRoom, minLag, maxLag, boundsFine}
-use Rattle.lag_sums.specs.Sums.{meanOf, leastEnergy}
-use Rattle.lag_curves.specs.Curves.{centre, width, priorAt, clarityAt, weightAt}
+use Rattle.float_sizes.proofs.LogSizes.{log2-most}
+use Rattle.float_sizes.proofs.ExpSizes.{exp-square-most}
+use Rattle.options.specs.declared.TempoOpts.{TempoOpts}
+use Rattle.lags.specs.Lags.{sixty, framesPerMinute, bpmAt, lagRoom, minLag, maxLag, boundsFine}
+use Rattle.lag_curves.specs.Curves.{likeliest, likelyWidth, priorAt, clarityAt, weightAt}
 use Rattle.lags.proofs.Ranges.{range-of, fine-rate}
 use Rattle.lag_curves.proofs.CurveSizes.{mean-within, energy-within, clarity-low, clarity-high}
-use Rattle.candidates.specs.Candidates.{winnerOf}
+use Rattle.lag_candidates.specs.Candidates.{winnerOf}
 use Rattle.lag_search.specs.Search.{weightRule, weightCurve, ac0Of, flat, winnerAbove}
 use Rattle.tempo.specs.Answers.{searchRefusal, tooLittle, unwritten}
 use Rattle.tempo.proofs.Refusals.{accepted}
 use Rattle.tempo.proofs.Tells.{long-enough}
-use Rattle.candidates.proofs.Winners.{FirstGreatest, winner-is-first-greatest}
+use Rattle.lag_candidates.proofs.Winners.{FirstGreatest, winner-is-first-greatest}
 use Rattle.lag_search.proofs.Winners.{none-above}
 
 -- ---- the prior
@@ -56,11 +56,11 @@ sixty-size : Plus sixty × AtMost 60 sixty × AtLeast 60 1 sixty
 unfolding ofBits isPlus
 sixty-size = (record { sign = tt }, record { size = lit≤ tt }, record { size = lit≤ tt })
 
-centre-size : Plus centre × AtMost 120 centre × AtLeast 120 1 centre
+centre-size : Plus likeliest × AtMost 120 likeliest × AtLeast 120 1 likeliest
 unfolding ofBits isPlus
 centre-size = (record { sign = tt }, record { size = lit≤ tt }, record { size = lit≤ tt })
 
-width-least : AtLeast 1 1 width
+width-least : AtLeast 1 1 likelyWidth
 unfolding ofBits
 width-least = record { size = lit≤ tt }
 
@@ -104,11 +104,11 @@ module _ (rate lag : ℕ) (rate-from : 1 ≤ rate) (rate-to : rate ≤ mostRate)
         least = div-least {p = 1} {q = 2 ^ 8} {M = 45000} (lit< tt) (lit< tt) (held-part 24 (lit≤ tt)) (lit≤ tt) (f .least) m;
       }
 
-  ratio-sized : Sized 45000 31 (bpmAt rate lag ⊘ centre)
+  ratio-sized : Sized 45000 31 (bpmAt rate lag ⊘ likeliest)
   ratio-sized =
       let b = bpm-sized in
       record {
-        plus = div-plus binary64 centre (most-finite (b .most)) (b .plus) (least-above (lit< tt) (centre-size .0) (centre-size .2));
+        plus = div-plus binary64 likeliest (most-finite (b .most)) (b .plus) (least-above (lit< tt) (centre-size .0) (centre-size .2));
         most = div-most {N = 45000} {p = 120} {q = 1} {R = 45000} (lit< tt) (held-short (lit< tt)) (lit≤ tt) (b .most) (centre-size .2);
         least = div-least {p = 1} {q = 2 ^ 24} {M = 120} (lit< tt) (lit< tt) (held-part 31 (lit≤ tt)) (lit≤ tt) (b .least) (centre-size .1);
       }
@@ -119,7 +119,7 @@ module _ (rate lag : ℕ) (rate-from : 1 ≤ rate) (rate-to : rate ≤ mostRate)
       let r = ratio-sized in
       exp-square-most
       (div-most {N = 4096} {p = 1} {q = 1} {R = 4096} (lit< tt) (held-short (lit< tt)) (lit≤ tt)
-      (log2-most (bpmAt rate lag ⊘ centre) (div-fits binary64 (bpmAt rate lag) centre) (most-finite (r .most)) (least-above (lit< tt) (r .plus) (r .least)))
+      (log2-most (bpmAt rate lag ⊘ likeliest) (div-fits binary64 (bpmAt rate lag) likeliest) (most-finite (r .most)) (least-above (lit< tt) (r .plus) (r .least)))
       width-least)
 
 -- ---- an envelope that is searched, whole or as a window
@@ -143,7 +143,7 @@ clarity env lag = clarityAt env (meanOf env) (ac0Of env) lag
 abbrev weight : List Float → (rate lag : ℕ) → Float
 weight env rate lag = weightAt env (meanOf env) (ac0Of env) rate lag
 
-least-not-nan : T (not (isNan leastEnergy))
+least-not-nan : T (not (isNan epsilon))
 unfolding ofBits isNan
 least-not-nan = tt
 
@@ -151,9 +151,9 @@ module _ {env : List Float} {rate least most : ℕ} (s : Searchable env rate lea
   mean-sized : Within 150 (meanOf env)
   mean-sized = mean-within env (s .values) (s .rows) (omega arith)
 
-  enough : lt leastEnergy (ac0Of env) ≡ true
+  enough : lt epsilon (ac0Of env) ≡ true
   unfolding flat
-  enough = not-le (ac0Of env) leastEnergy (most-not-nan (energy-within env (s .values) (s .rows) (meanOf env) mean-sized)) least-not-nan (s .loud)
+  enough = not-le (ac0Of env) epsilon (most-not-nan (energy-within env (s .values) (s .rows) (meanOf env) mean-sized)) least-not-nan (s .loud)
 
   pub clarity-held : (lag : ℕ) → lag ≤ most → (le nought (clarity env lag) ≡ true) × (le (clarity env lag) one ≡ true)
   clarity-held lag h =

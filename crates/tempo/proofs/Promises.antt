@@ -18,25 +18,25 @@ use Rattle.numbers.proofs.Tests.{lt-or-le, and-left}
 use Rattle.numbers.proofs.Tabs.{length-tab, getD-listed-in, getD-listed-past}
 use Rattle.sizes.specs.Sizes.{Each, none, more}
 use Rattle.sizes.proofs.Lists.{each-at, each-append}
-use Rattle.lags.specs.declared.TempoOpts.{TempoOpts}
+use Rattle.options.specs.declared.TempoOpts.{TempoOpts}
 use Rattle.lags.specs.Lags.{minLag, maxLag, lagRoom}
 use Rattle.lags.proofs.Ranges.{min-lag-least, min-lt-max, range-of}
 use Rattle.tempo.specs.declared.Candidate.{Candidate}
 use Rattle.tempo.specs.declared.Tempo.{Tempo}
 use Rattle.tempo.specs.declared.Tempo.the-variants.{None, Found}
 use Rattle.tempo.specs.declared.TempoEstimate.{TempoEstimate}
-use Rattle.candidates.specs.Candidates.{winnerOf, ranked, standsApart, acceptedOf, candidatesOf}
+use Rattle.lag_candidates.specs.Candidates.{winnerOf, ranked, standsApart, acceptedOf, candidatesOf}
 use Rattle.lag_search.specs.Search.{weightRule, clarityCurve, weightCurve, winnerAbove}
-use Rattle.tempo.specs.Answers.{unused, candidateAt, pairsOf, withoutTempo, foundOf, unwritten, tempoOf, searchRefusal, estimateOf, Estimated}
-use Rattle.candidates.proofs.Choices.{by-pick}
-use Rattle.candidates.proofs.Winners.{winner-below}
-use Rattle.candidates.proofs.Rankings.{ranked-below}
+use Rattle.tempo.specs.Answers.{unused, candidateAt, pairsOf, withoutTempo, foundOf, unwritten, tempoOf, searchRefusal, estimateOf, EstimatePromise}
+use Rattle.lag_candidates.proofs.Choices.{by-pick}
+use Rattle.lag_candidates.proofs.Winners.{winner-below}
+use Rattle.lag_candidates.proofs.Rankings.{ranked-below}
 use Rattle.tempo.proofs.Refusals.{accepted}
 
 -- any two outcomes that the promise permits coincide
 pub coincide : {env : List Float} {onsets rate : ℕ} {o : TempoOpts} {clarity weight work : List Float}
     {r s : TempoEstimate} {c d w v k l : List Float}
-    → Estimated env onsets rate o clarity weight work r c w k → Estimated env onsets rate o clarity weight work s d v l
+    → EstimatePromise env onsets rate o clarity weight work r c w k → EstimatePromise env onsets rate o clarity weight work s d v l
     → (r ≡ s) × (c ≡ d) × (w ≡ v) × (k ≡ l)
 coincide p q = (
   p .answered ∙ sym (q .answered),

@@ -11,7 +11,7 @@ use lib.Ieee.{Float}
 use Rattle.numbers.specs.Limits.{mostRows, mostPeriod, valueFine}
 use Rattle.numbers.specs.Lists.{every}
 use Rattle.numbers.proofs.Tests.{and-left, and-right, and-held, and-failed, Passed, lowest-zero, lowest-0, lowest-1, lowest-3, lowest-4}
-use Rattle.lags.specs.declared.TempoOpts.{TempoOpts}
+use Rattle.options.specs.declared.TempoOpts.{TempoOpts}
 use Rattle.lags.specs.declared.LagRange.{LagRange}
 use Rattle.lags.specs.Lags.{minLag, maxLag, lagRoom, boundsFine, lagRange}
 use Rattle.lags.proofs.Ranges.{Answered, range-of}

@@ -14,14 +14,14 @@ use Rattle.numbers.specs.Limits.{mostPeriod}
 use Rattle.numbers.specs.Lists.{filled}
 use Rattle.numbers.proofs.Tests.{which, or-right, pick-true, pick-false, refused-keeps, passed-does}
 use Rattle.numbers.proofs.Tabs.{length-tab}
-use Rattle.lags.specs.declared.TempoOpts.{TempoOpts}
+use Rattle.options.specs.declared.TempoOpts.{TempoOpts}
 use Rattle.lags.specs.declared.LagRange.{LagRange}
 use Rattle.lags.specs.Lags.{minLag, maxLag, lagRoom}
 use Rattle.tempo.specs.declared.TempoEstimate.{TempoEstimate}
-use Rattle.candidates.specs.Candidates.{winnerOf}
+use Rattle.lag_candidates.specs.Candidates.{winnerOf}
 use Rattle.lag_search.specs.Search.{flat, clarityRule, weightRule, clarityCurve, weightCurve, winnerAbove, winnerLag, winningLag, Searched}
-use Rattle.tempo.specs.Answers.{withoutTempo, foundOf, tooLittle, unwritten, tempoOf, curveOf, Told, searchRefusal, estimateOf, Estimated}
-use Rattle.candidates.proofs.Winners.{winner-below}
+use Rattle.tempo.specs.Answers.{withoutTempo, foundOf, tooLittle, unwritten, tempoOf, curveOf, TempoIn, searchRefusal, estimateOf, EstimatePromise}
+use Rattle.lag_candidates.proofs.Winners.{winner-below}
 use Rattle.tempo.proofs.Refusals.{Ranged}
 use Rattle.lag_search.proofs.Searches.{curve-part}
 
@@ -40,7 +40,7 @@ module _ (env : List Float) (onsets rate minLag maxLag : ℕ) where
   -- ---- an envelope that is not searched
 
   pub told-unsearched : (clarity weight : List Float) (r : TempoEstimate) → tooLittle (length env) onsets maxLag ≡ true → r ≡ withoutTempo 0
-      → Told env onsets rate minLag maxLag clarity weight r clarity weight
+      → TempoIn env onsets rate minLag maxLag clarity weight r clarity weight
   unfolding tempoOf curveOf
   told-unsearched clarity weight r e is =
       let u : unwritten env onsets maxLag ≡ true = ap (λ (b : Bool). b || flat env) e in
@@ -83,7 +83,7 @@ module _ (env : List Float) (onsets rate minLag maxLag : ℕ) where
         ∙ ⊎-elim (λ (a : winnerAbove weights ≡ true). absurd (no-lag h z f a)) (λ (a : winnerAbove weights ≡ false). pick-false (winnerAbove weights) _ _ a) (which (winnerAbove weights)))
         (which (flat env))
 
-    pub told-none : (r : TempoEstimate) → 1 ≤ minLag → lag ≡ 0 → r ≡ withoutTempo 0 → Told env onsets rate minLag maxLag clarity weight r clarity′ weight′
+    pub told-none : (r : TempoEstimate) → 1 ≤ minLag → lag ≡ 0 → r ≡ withoutTempo 0 → TempoIn env onsets rate minLag maxLag clarity weight r clarity′ weight′
     told-none r h z is = record { answered = is ∙ sym (none-is h z); clarities = clarities-are; weights = weights-are }
 
     -- a lag
@@ -146,7 +146,7 @@ module _ (env : List Float) (onsets rate minLag maxLag : ℕ) where
               (one, omega (arith, weight-length)),
             )
 
-        pub told-found : (r : TempoEstimate) → r ≡ foundOf rate minLag clarityPart weightPart → Told env onsets rate minLag maxLag clarity weight r clarity′ weight′
+        pub told-found : (r : TempoEstimate) → r ≡ foundOf rate minLag clarityPart weightPart → TempoIn env onsets rate minLag maxLag clarity weight r clarity′ weight′
         told-found r is =
             record {
               answered = is ∙ ap (λ (x : List Float). foundOf rate minLag x weightPart) clarity-part ∙ ap (foundOf rate minLag (clarityCurve env minLag maxLag)) weight-part ∙ sym found-is;
@@ -161,7 +161,7 @@ module _ (env : List Float) (onsets rate : ℕ) (o : TempoOpts) (clarity weight 
   number = searchRefusal env rate o (length clarity) (length weight) (length work)
 
   pub estimated-refused : (n : ℕ) (r : TempoEstimate) → n ≡ number → (n ≡ 0 → ⊥) → r ≡ withoutTempo n
-      → Estimated env onsets rate o clarity weight work r clarity weight work
+      → EstimatePromise env onsets rate o clarity weight work r clarity weight work
   unfolding estimateOf
   estimated-refused n r e some is =
       let no : number ≡ 0 → ⊥ = λ z. some (e ∙ z) in
@@ -173,12 +173,12 @@ module _ (env : List Float) (onsets rate : ℕ) (o : TempoOpts) (clarity weight 
       }
 
   pub estimated-told : (n : ℕ) (range : LagRange) (r : TempoEstimate) (clarity′ weight′ : List Float) → n ≡ number → n ≡ 0 → Ranged rate o range
-      → Told env onsets rate (range .«min_lag») (range .«max_lag») clarity weight r clarity′ weight′
-      → Estimated env onsets rate o clarity weight work r clarity′ weight′ work
+      → TempoIn env onsets rate (range .«min_lag») (range .«max_lag») clarity weight r clarity′ weight′
+      → EstimatePromise env onsets rate o clarity weight work r clarity′ weight′ work
   unfolding estimateOf
   estimated-told n range r clarity′ weight′ e z a told =
       let none : number ≡ 0 = sym e ∙ z in
-      let t : Told env onsets rate (minLag rate o) (maxLag rate o) clarity weight r clarity′ weight′ = rw (a .least, a .greatest) at told in
+      let t : TempoIn env onsets rate (minLag rate o) (maxLag rate o) clarity weight r clarity′ weight′ = rw (a .least, a .greatest) at told in
       record {
         answered = t .answered ∙ sym (passed-does number _ _ none);
         clarities = t .clarities ∙ sym (passed-does number _ _ none);

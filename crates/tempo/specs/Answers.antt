@@ -10,13 +10,13 @@ use Rattle.numbers.specs.Rounded.{nought, pick}
 use Rattle.numbers.specs.Limits.{mostRows, valueFine}
 use Rattle.numbers.specs.Refusals.{lowest, unlessRefused}
 use Rattle.numbers.specs.Lists.{every, filled, listed}
-use Rattle.lags.specs.declared.TempoOpts.{TempoOpts}
+use Rattle.options.specs.declared.TempoOpts.{TempoOpts}
 use Rattle.lags.specs.Lags.{minLag, maxLag, lagRoom, boundsFine, bpmAt}
 use Rattle.tempo.specs.declared.Candidate.{Candidate}
 use Rattle.tempo.specs.declared.Tempo.{Tempo}
 use Rattle.tempo.specs.declared.Tempo.the-variants.{None, Found}
 use Rattle.tempo.specs.declared.TempoEstimate.{TempoEstimate}
-use Rattle.candidates.specs.Candidates.{winnerOf, candidatesOf}
+use Rattle.lag_candidates.specs.Candidates.{winnerOf, candidatesOf}
 use Rattle.lag_search.specs.Search.{flat, clarityRule, weightRule, clarityCurve, weightCurve, winnerAbove}
 
 -- ---- refusals
@@ -95,7 +95,7 @@ unfolding filled
 curveOf rule was unwritten room = pick unwritten was (filled rule was 0 room)
 
 -- What an accepted call answers and leaves in the lag curves' room.
-pub record Told
+pub record TempoIn
     (env : List Float) (onsets rate minLag maxLag : ℕ) (clarity weight : List Float)
     (answer : TempoEstimate) (clarity′ weight′ : List Float) : Type 0 where
   pub answered : answer ≡ tempoOf env onsets rate minLag maxLag
@@ -111,7 +111,7 @@ estimateOf env onsets rate o clarity weight work =
 
 -- The promise of `estimate`: its answer, both lag curves and the work slice afterwards, for every input. The winner and the candidates are
 -- found without a sort, so the work slice is as it was.
-pub record Estimated
+pub record EstimatePromise
     (env : List Float) (onsets rate : ℕ) (o : TempoOpts) (clarity weight work : List Float)
     (answer : TempoEstimate) (clarity′ weight′ work′ : List Float) : Type 0 where
   pub answered : answer ≡ estimateOf env onsets rate o (length clarity) (length weight) (length work)

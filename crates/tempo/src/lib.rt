@@ -1,13 +1,13 @@
 // Tempo: how fast the pulse of an envelope is, and which other tempos it may be heard at.
 //
 // Document 01, Tempo and candidates. The Rust: tempo.rs `pick_tempo_peaks`.
-use candidates::first_apart;
+use lag_candidates::first_apart;
 use lag_search::winning_lag;
-use lags::TempoOpts;
+use options::TempoOpts;
 use lags::bounds_fine;
 use lags::bpm_at;
 use lags::lag_range;
-use lags::room_of;
+use lags::lag_slots;
 use numbers::MOST_ROWS;
 use numbers::OUT_OF_BOUNDS;
 use numbers::TOO_LITTLE_ROOM;
@@ -19,7 +19,7 @@ ghost use Prim.Native.Nat.{ℕ, _+_, _≤_, _<_};
 ghost use lib.ListN.{length};
 ghost use Rattle.numbers.specs.Limits.{mostPeriod};
 ghost use Rattle.lags.specs.Lags.{lagRoom, boundsFine};
-ghost use Rattle.candidates.specs.Candidates.{winnerOf};
+ghost use Rattle.lag_candidates.specs.Candidates.{winnerOf};
 ghost use Rattle.tempo.specs.Answers.{
   searchRoom,
   searchRefusal,
@@ -27,8 +27,8 @@ ghost use Rattle.tempo.specs.Answers.{
   withoutTempo,
   candidateAt,
   foundOf,
-  Told,
-  Estimated,
+  TempoIn,
+  EstimatePromise,
 };
 
 // A tempo that the envelope may be heard at: its lag in frames, and its clarity, 0 to 1.
@@ -57,7 +57,7 @@ fn has_room(rate: u32, opts: TempoOpts, clarity: usize, weight: usize, work: usi
     ensures { λ r. ⌜ r ≡ searchRoom rate opts clarity weight work ⌝ }
 {
     let range = lag_range(rate, opts);
-    let room = room_of(range.min_lag, range.max_lag);
+    let room = lag_slots(range.min_lag, range.max_lag);
     room <= clarity && (room <= weight && room <= work)
 }
 
@@ -178,7 +178,7 @@ fn tempo_in(
 ) -> TempoEstimate
     requires { ⌜ (1 ≤ «min_lag») × («min_lag» ≤ «max_lag») × («max_lag» ≤ mostPeriod) ⌝ }
     requires { ⌜ (lagRoom «min_lag» «max_lag» ≤ length (now clarity)) × (lagRoom «min_lag» «max_lag» ≤ length (now weight)) ⌝ }
-    ensures { λ r. ⌜ Told (now (envelope .entry)) onsets rate «min_lag» «max_lag» (now (clarity .entry)) (now (weight .entry)) r (now (clarity .exit)) (now (weight .exit)) ⌝ }
+    ensures { λ r. ⌜ TempoIn (now (envelope .entry)) onsets rate «min_lag» «max_lag» (now (clarity .entry)) (now (weight .entry)) r (now (clarity .exit)) (now (weight .exit)) ⌝ }
 {
     if too_little(envelope.len(), onsets, max_lag) {
         return without_tempo(0);
@@ -187,7 +187,7 @@ fn tempo_in(
     if lag == 0 {
         return without_tempo(0);
     }
-    let room = room_of(min_lag, max_lag);
+    let room = lag_slots(min_lag, max_lag);
     found(
         &clarity[0..room],
         &weight[0..room],
@@ -210,7 +210,7 @@ pub fn estimate(
     weight: &mut [f64],
     work: &mut [f64],
 ) -> TempoEstimate
-    ensures { λ r. ⌜ Estimated (now (envelope .entry)) onsets rate opts (now (clarity .entry)) (now (weight .entry)) (now (work .entry)) r (now (clarity .exit)) (now (weight .exit)) (now (work .exit)) ⌝ }
+    ensures { λ r. ⌜ EstimatePromise (now (envelope .entry)) onsets rate opts (now (clarity .entry)) (now (weight .entry)) (now (work .entry)) r (now (clarity .exit)) (now (weight .exit)) (now (work .exit)) ⌝ }
 {
     let number = search_refusal(
         envelope,

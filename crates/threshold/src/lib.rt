@@ -5,7 +5,7 @@ ghost use mathlib.Core.Path.{_≡_};
 ghost use Prim.Native.Nat.{_≤_, _<_};
 ghost use lib.ListN.{length, drop};
 ghost use Rattle.numbers.specs.Lists.{filled};
-ghost use Rattle.threshold.specs.Threshold.{thresholdOf, thresholdAt, sortingRoom, thresholdRefusal, Thresholds};
+ghost use Rattle.threshold.specs.Threshold.{thresholdOf, thresholdAt, sortingRoom, thresholdRefusal, ThresholdPromise};
 
 // the most slots of a window
 pub const MEDIAN_WINDOW: usize = 21;
@@ -20,7 +20,7 @@ const DELTA_MIN: f64 = 0.000001;
 // Refuses: 1 a flux longer than 1,048,576; 3 threshold or work shorter than their room; 4 a flux value that isn't finite or is
 // of size above 2^150. A refusal writes nothing. Work's slots past min(21, N) stay; a threshold may be of size above 2^150.
 pub fn adaptive_threshold(flux: &[f64], threshold: &mut [f64], work: &mut [f64]) -> u32
-    ensures { λ r. ⌜ Thresholds (now (flux .entry)) (now (threshold .entry)) (now (work .entry)) r (now (threshold .exit)) (now (work .exit)) ⌝ }
+    ensures { λ r. ⌜ ThresholdPromise (now (flux .entry)) (now (threshold .entry)) (now (work .entry)) r (now (threshold .exit)) (now (work .exit)) ⌝ }
 {
     let number = refusal(flux, threshold.len(), work.len());
     if number != 0 {

@@ -9,21 +9,21 @@ use Rattle.numbers.specs.Limits.{mostPeriod}
 use Rattle.numbers.proofs.Tests.{refused-keeps, passed-does}
 use Rattle.numbers.proofs.Outcomes.{drop-later}
 use Rattle.threshold.specs.Threshold.{sortingRoom}
-use Rattle.lags.specs.declared.TempoOpts.{TempoOpts}
+use Rattle.options.specs.declared.TempoOpts.{TempoOpts}
 use Rattle.lags.specs.Lags.{minLag, maxLag}
 use Rattle.tempo.specs.declared.Candidate.{Candidate}
 use Rattle.tempo.specs.declared.TempoEstimate.{TempoEstimate}
-use Rattle.tempo.specs.Answers.{unused, searchRefusal, tempoOf, unwritten, estimateOf, Estimated}
+use Rattle.tempo.specs.Answers.{unused, searchRefusal, tempoOf, unwritten, estimateOf, EstimatePromise}
 use Rattle.tempo.proofs.Promises.{winner-most}
 use Rattle.stability.specs.declared.Stability.{Stability}
-use Rattle.stability.specs.Windows.{Open}
+use Rattle.numbers.specs.Outcomes.{Open}
 use Rattle.stability.specs.Answers.{shareOf, leftOpen}
 use Rattle.beats.specs.Grids.{gridOf}
 use Rattle.bars.specs.Downbeats.{commonMeter, downbeatsOf}
 use Rattle.rooms.specs.Rooms.{Results, Spare, results, spare}
 use Rattle.rooms.specs.Inner.{Ready}
 use Rattle.track_parts.specs.declared.Following.{Following}
-use Rattle.track_parts.specs.Parts.{onsetsIn, Listed, Followed}
+use Rattle.track_parts.specs.Parts.{onsetsIn, OnsetsListed, Followed}
 use Rattle.track_parts.proofs.Follows.{search-passed, open-same}
 use Rattle.track.specs.declared.Analysis.{Analysis}
 use Rattle.track.specs.Analyses.{estimateIn, winnersLag, periodIn, beatsIn, downbeatsIn, analysisOf, withoutAnalysis, writtenIn, openLags, openWork, Analysed}
@@ -46,9 +46,9 @@ module _
     (threshold : List Float) (onsets : List ℕ) (clarity weight score : List Float) (back beats downbeats : List ℕ) (windowClarity windowWeight work : List Float)
     (ready : Ready env rate o (results threshold onsets clarity weight score back beats downbeats) (spare windowClarity windowWeight work))
     (heard : ℕ) (threshold′ : List Float) (onsets′ : List ℕ) (work₁ : List Float)
-    (list : Listed env rate threshold onsets work heard threshold′ onsets′ work₁)
+    (list : OnsetsListed env rate threshold onsets work heard threshold′ onsets′ work₁)
     (found : TempoEstimate) (clarity′ weight′ work₂ : List Float)
-    (tempo : Estimated env heard rate o clarity weight work₁ found clarity′ weight′ work₂) where
+    (tempo : EstimatePromise env heard rate o clarity weight work₁ found clarity′ weight′ work₂) where
   searched : searchRefusal env rate o (length clarity) (length weight) (length work₁) ≡ 0
   searched =
       search-passed env rate o (ready .rows) (ready .bounds) (ready .values) (length clarity) (length weight) (length work₁) (ready .clarities) (ready .weights)

@@ -8,12 +8,12 @@ use lib.Ieee.{Float}
 use Rattle.numbers.specs.Refusals.{unlessRefused}
 use Rattle.numbers.specs.Lists.{filled, listed}
 use Rattle.threshold.specs.Threshold.{thresholdAt, sortingRoom}
-use Rattle.lags.specs.declared.TempoOpts.{TempoOpts}
+use Rattle.options.specs.declared.TempoOpts.{TempoOpts}
 use Rattle.lags.specs.Lags.{minLag, maxLag}
 use Rattle.tempo.specs.declared.TempoEstimate.{TempoEstimate}
 use Rattle.lag_search.specs.Search.{clarityRule, weightRule}
 use Rattle.tempo.specs.Answers.{unused, withoutTempo, tempoOf, unwritten, curveOf}
-use Rattle.stability.specs.Windows.{Open}
+use Rattle.numbers.specs.Outcomes.{Open}
 use Rattle.stability.specs.Answers.{shareOf, withoutStability, leftOpen}
 use Rattle.beats.specs.Grids.{scoresOf, linksOf, gridOf}
 use Rattle.bars.specs.Downbeats.{commonMeter, downbeatsOf}

@@ -1,7 +1,7 @@
 // One whole track where nothing is refused: onsets, tempo, stability, beats and downbeats, each part called in turn.
 //
 // Document 01, Onsets, Tempo and candidates, Beats and bars. Inner: the calls of crate analysis have looked at what is lent.
-use lags::TempoOpts;
+use options::TempoOpts;
 use stability::Stability;
 use tempo::Candidate;
 use tempo::Tempo;

@@ -11,14 +11,15 @@ use Rattle.numbers.specs.Limits.{mostRows, mostPeriod, valueFine}
 use Rattle.numbers.specs.Lists.{every, listed}
 use Rattle.numbers.proofs.Tests.{and-both, lowest-0, passed-does, pick-true}
 use Rattle.numbers.proofs.Tabs.{listed-none}
-use Rattle.lags.specs.declared.TempoOpts.{TempoOpts}
+use Rattle.numbers.specs.Rounded.{epsilon}
+use Rattle.options.specs.declared.TempoOpts.{TempoOpts}
 use Rattle.lags.specs.Lags.{minLag, maxLag, boundsFine}
 use Rattle.tempo.specs.Answers.{searchBounds, searchRoom, searchRefusal}
 use Rattle.stability.specs.declared.Stability.the-variants.{None}
 use Rattle.stability.specs.declared.Steadiness.{Steadiness}
-use Rattle.stability.specs.Windows.{Open}
-use Rattle.stability.specs.Answers.{stabilityRefusal, shareOf, steadinessOf, Lent, Steadied}
-use Rattle.beats.specs.Envelopes.{flatness, varianceOf, beatless}
+use Rattle.numbers.specs.Outcomes.{Open}
+use Rattle.stability.specs.Answers.{stabilityRefusal, shareOf, steadinessOf, Lent, StabilityPromise}
+use Rattle.beats.specs.Envelopes.{varianceOf, beatless}
 use Rattle.beats.specs.Grids.{scoresOf, linksOf, gridOf}
 use Rattle.bars.specs.Downbeats.{commonMeter, inPhase, downbeatsOf}
 use Rattle.track_parts.specs.declared.Laid.{Laid}
@@ -55,7 +56,7 @@ module _ (env : List Float) (rate : ℕ) (o : TempoOpts) (few : length env ≤ m
 module _ (env : List Float) where
   beatless-0 : beatless env 0 ≡ true
   unfolding beatless
-  beatless-0 = or-true (eqb (length env) 0) (le (varianceOf env) flatness)
+  beatless-0 = or-true (eqb (length env) 0) (le (varianceOf env) epsilon)
     where
       or-true : (a b : Bool) → (a || (true || b)) ≡ true
       or-true true b = refl
@@ -125,7 +126,7 @@ module _
       → length env ≤ mostRows → boundsFine rate o ≡ true → every valueFine env ≡ true → lag ≤ mostPeriod
       → lagsOf rate o ≤ length clarity → lagsOf rate o ≤ length weight → lagsOf rate o ≤ length work
       → (lag ≡ 0 → ⊥)
-      → Steadied env rate o lag clarity weight work steady clarity′ weight′ work′
+      → StabilityPromise env rate o lag clarity weight work steady clarity′ weight′ work′
       → Grid env lag score back beats downbeats laid score′ back′ beats′ downbeats′
       → Followed env rate o lag clarity weight score back beats downbeats work (record { stability = steady .stability; beats = laid .beats; downbeats = laid .downbeats })
       clarity′ weight′ score′ back′ beats′ downbeats′ work′

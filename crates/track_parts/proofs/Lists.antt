@@ -9,13 +9,12 @@ use borrow.Author.Tests.{le-leb}
 use lib.ListN.{length, take, drop, getD}
 use lib.Seq.{take-at}
 use lib.Ieee.{Float}
-use Rattle.numbers.specs.Limits.{mostRows, mostFrame}
+use Rattle.numbers.specs.Limits.{mostRows, mostFrame, frameFine}
 use Rattle.numbers.specs.Lists.{curve, filled, listed, every}
 use Rattle.numbers.proofs.Tabs.{length-tab, filled-whole}
 use Rattle.numbers.proofs.Everys.{every-by}
 use Rattle.beats.specs.Grids.{gridOf}
 use Rattle.beats.proofs.Steps.{beats-below}
-use Rattle.bars.specs.Downbeats.{frameFine}
 
 module _ {A : Type 0} where
   -- the slots that a rule wrote are its curve

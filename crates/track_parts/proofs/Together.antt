@@ -16,12 +16,12 @@ use Rattle.threshold.specs.Threshold.{thresholdAt, sortingRoom}
 use Rattle.onsets.specs.Peaks.{at, peaksOf, suppressed}
 use Rattle.onsets.specs.Onsets.{gapOf, onsetsOf}
 use Rattle.onsets.specs.Steps.{Picked}
-use Rattle.beats.specs.Grids.{numbersFine, roomFine, gridRefusal, gridOf, Gridded}
+use Rattle.beats.specs.Grids.{gridNumbersFine, gridRoomFine, gridRefusal, gridOf, GridPromise}
 use Rattle.beats.proofs.Steps.{beats-fit}
-use Rattle.bars.specs.Downbeats.{commonMeter, downbeatRefusal, Downbeats}
+use Rattle.bars.specs.Downbeats.{commonMeter, downbeatRefusal, DownbeatsPromise}
 use Rattle.bars.specs.Downbeats as bars
 use Rattle.track_parts.specs.Parts.{onsetsIn}
-use Rattle.track_parts.specs.Parts.{Listed, Grid}
+use Rattle.track_parts.specs.Parts.{OnsetsListed, Grid}
 use Rattle.track_parts.proofs.Lists.{written-part, listed-part, beats-listable}
 
 -- ---- onsets
@@ -31,7 +31,7 @@ pub listed-by : (env : List Float) (rate gap count : ℕ) (threshold threshold�
     → length work′ ≡ length work → drop (sortingRoom env) work′ ≡ drop (sortingRoom env) work
     → gap ≡ gapOf rate
     → Picked (suppressed env gap (peaksOf env (at (take (length env - 0) (drop 0 threshold′))))) onsets count onsets′
-    → Listed env rate threshold onsets work count threshold′ onsets′ work′
+    → OnsetsListed env rate threshold onsets work count threshold′ onsets′ work′
 unfolding onsetsIn onsetsOf
 listed-by env rate gap count threshold threshold′ onsets onsets′ work work′ t l k g p =
     let c = written-part (thresholdAt env) threshold threshold′ (length env) t in
@@ -43,7 +43,7 @@ listed-by env rate gap count threshold threshold′ onsets onsets′ work work�
 module _
     (env : List Float) (period : ℕ) (few : length env ≤ mostRows) (fine : every valueFine env ≡ true) (short : period ≤ mostPeriod) where
   pub grid-passed : (score back beats : ℕ) → length env ≤ score → length env ≤ back → length env ≤ beats → gridRefusal env period score back beats ≡ 0
-  unfolding gridRefusal numbersFine roomFine
+  unfolding gridRefusal gridNumbersFine gridRoomFine
   grid-passed score back beats s b f =
       lowest-0 (leb (length env) mostRows && leb period mostPeriod) true (leb (length env) score && (leb (length env) back && leb (length env) beats)) (every valueFine env)
       (and-both _ _ (le-leb _ _ few) (le-leb _ _ short)) refl
@@ -51,7 +51,7 @@ module _
       fine
 
   pub downbeats-passed : (room : ℕ) → length env ≤ room → downbeatRefusal env (gridOf env period) commonMeter room ≡ 0
-  unfolding downbeatRefusal bars.numbersFine bars.roomFine
+  unfolding downbeatRefusal bars.downbeatNumbersFine bars.downbeatRoomFine
   downbeats-passed room h =
       lowest-0 (leb (length env) mostRows && (every bars.frameFine (gridOf env period) && between 1 bars.mostMeter commonMeter)) true (leb (length (gridOf env period)) room)
       (every valueFine env)
@@ -67,8 +67,8 @@ beats-counted env period (suc n) count e = omega arith
 pub laid-by : (env : List Float) (period : ℕ) (score score′ : List Float) (back back′ beats beats′ downbeats downbeats′ : List ℕ) (number count number-2 count-2 : ℕ)
     → length env ≤ mostRows → every valueFine env ≡ true → period ≤ mostPeriod
     → length env ≤ length score → length env ≤ length back → length env ≤ length beats → length env ≤ length downbeats
-    → Gridded env period score back beats number count score′ back′ beats′
-    → Downbeats env (take (count - 0) (drop 0 beats′)) commonMeter downbeats number-2 count-2 downbeats′
+    → GridPromise env period score back beats number count score′ back′ beats′
+    → DownbeatsPromise env (take (count - 0) (drop 0 beats′)) commonMeter downbeats number-2 count-2 downbeats′
     → Grid env period score back beats downbeats (record { beats = count; downbeats = count-2 }) score′ back′ beats′ downbeats′
 laid-by env period score score′ back back′ beats beats′ downbeats downbeats′ number count number-2 count-2 few fine short s b f d g h =
     let z : number ≡ 0 = g .number-is ∙ grid-passed env period few fine short _ _ _ s b f in

@@ -8,9 +8,9 @@ use lib.Ieee.{Float}
 use Rattle.numbers.specs.Lists.{curve, filled, listed}
 use Rattle.threshold.specs.Threshold.{thresholdAt, sortingRoom}
 use Rattle.onsets.specs.Onsets.{onsetsOf}
-use Rattle.lags.specs.declared.TempoOpts.{TempoOpts}
+use Rattle.options.specs.declared.TempoOpts.{TempoOpts}
 use Rattle.lags.specs.Lags.{minLag, maxLag}
-use Rattle.stability.specs.Windows.{Open}
+use Rattle.numbers.specs.Outcomes.{Open}
 use Rattle.stability.specs.Answers.{shareOf, leftOpen}
 use Rattle.beats.specs.Grids.{scoresOf, linksOf, gridOf}
 use Rattle.bars.specs.Downbeats.{commonMeter, downbeatsOf}
@@ -23,7 +23,7 @@ unfolding onsetsOf thresholdAt
 onsetsIn env rate = onsetsOf env (curve (thresholdAt env) (length env)) rate
 
 -- the threshold and the onsets
-pub record Listed (env : List Float) (rate : ℕ) (threshold : List Float) (onsets : List ℕ) (work : List Float) (count : ℕ) (threshold′ : List Float) (onsets′ : List ℕ) (work′ : List Float) : Type 0 where
+pub record OnsetsListed (env : List Float) (rate : ℕ) (threshold : List Float) (onsets : List ℕ) (work : List Float) (count : ℕ) (threshold′ : List Float) (onsets′ : List ℕ) (work′ : List Float) : Type 0 where
   pub count-is : count ≡ length (onsetsIn env rate)
   pub threshold-is : threshold′ ≡ filled (thresholdAt env) threshold 0 (length env)
   pub onsets-are : onsets′ ≡ listed (onsetsIn env rate) onsets

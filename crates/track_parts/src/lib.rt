@@ -2,7 +2,7 @@
 //
 // Document 01, Onsets and Beats and bars. Inner: the calls of crate analysis have looked at what is lent.
 use beats::beat_grid;
-use lags::TempoOpts;
+use options::TempoOpts;
 use onsets::gap_of;
 use onsets::peaks::pick_peaks;
 use stability::Stability;
@@ -17,7 +17,7 @@ ghost use Rattle.numbers.specs.Lists.{every};
 ghost use Rattle.threshold.specs.Threshold.{sortingRoom};
 ghost use Rattle.lags.specs.Lags.{boundsFine};
 ghost use Rattle.rooms.specs.Rooms.{lagsOf};
-ghost use Rattle.track_parts.specs.Parts.{Listed, Grid, Followed};
+ghost use Rattle.track_parts.specs.Parts.{OnsetsListed, Grid, Followed};
 
 // How many beats and downbeats are listed.
 pub struct Laid {
@@ -41,7 +41,7 @@ pub fn list_onsets(
     work: &mut [f64],
 ) -> usize
     requires { ⌜ (length (now envelope) ≤ mostRows) × (length (now envelope) ≤ length (now threshold)) × (length (now envelope) ≤ length (now frames)) × (sortingRoom (now envelope) ≤ length (now work)) ⌝ }
-    ensures { λ r. ⌜ Listed (now (envelope .entry)) rate (now (threshold .entry)) (now (frames .entry)) (now (work .entry)) r (now (threshold .exit)) (now (frames .exit)) (now (work .exit)) ⌝ }
+    ensures { λ r. ⌜ OnsetsListed (now (envelope .entry)) rate (now (threshold .entry)) (now (frames .entry)) (now (work .entry)) r (now (threshold .exit)) (now (frames .exit)) (now (work .exit)) ⌝ }
 {
     let n = envelope.len();
     fill_threshold(envelope, threshold, 0, n, work);

@@ -8,45 +8,45 @@ use borrow.Author.Needs.{needs}
 use borrow.Author.Tests.{le-leb, lt-leb, not-true, not-false}
 use lib.ListN.{length}
 use lib.Ieee.{Float}
-use Rattle.numbers.specs.Limits.{mostRows, valueFine}
+use Rattle.numbers.specs.Limits.{mostRows, valueFine, frameFine}
 use Rattle.numbers.specs.Lists.{every}
-use Rattle.bars.specs.Downbeats.{mostMeter, frameFine, numbersFine, roomFine, downbeatRefusal}
+use Rattle.bars.specs.Downbeats.{mostMeter, downbeatNumbersFine, downbeatRoomFine, downbeatRefusal}
 use Rattle.bars.proofs.downbeat_refusal.Statement.{statement}
 use Rattle.bars.proofs.downbeat_refusal.Tie as tie
 
 -- the tests in turn
 module _ (envelope : List Float) (beats : List ℕ) (meter room : ℕ) where
   rows : mostRows < length envelope → 1 ≡ downbeatRefusal envelope beats meter room
-  unfolding downbeatRefusal numbersFine roomFine
+  unfolding downbeatRefusal downbeatNumbersFine downbeatRoomFine
   rows h = rw (lt-leb (length envelope) mostRows h)
 
   module _ (h1 : length envelope ≤ mostRows) where
     listed : every frameFine beats ≡ false → 1 ≡ downbeatRefusal envelope beats meter room
-    unfolding downbeatRefusal numbersFine roomFine
+    unfolding downbeatRefusal downbeatNumbersFine downbeatRoomFine
     listed e = rw (le-leb (length envelope) mostRows h1, e)
 
     module _ (h2 : every frameFine beats ≡ true) where
       none : meter < 1 → 1 ≡ downbeatRefusal envelope beats meter room
-      unfolding downbeatRefusal numbersFine roomFine
+      unfolding downbeatRefusal downbeatNumbersFine downbeatRoomFine
       none h = rw (le-leb (length envelope) mostRows h1, h2, lt-leb 1 meter h)
 
       module _ (h3 : 1 ≤ meter) where
         many : mostMeter < meter → 1 ≡ downbeatRefusal envelope beats meter room
-        unfolding downbeatRefusal numbersFine roomFine
+        unfolding downbeatRefusal downbeatNumbersFine downbeatRoomFine
         many h = rw (le-leb (length envelope) mostRows h1, h2, le-leb 1 meter h3, lt-leb meter mostMeter h)
 
         module _ (h4 : meter ≤ mostMeter) where
           short : room < length beats → 3 ≡ downbeatRefusal envelope beats meter room
-          unfolding downbeatRefusal numbersFine roomFine
+          unfolding downbeatRefusal downbeatNumbersFine downbeatRoomFine
           short h = rw (le-leb (length envelope) mostRows h1, h2, le-leb 1 meter h3, le-leb meter mostMeter h4, lt-leb (length beats) room h)
 
           module _ (h5 : length beats ≤ room) where
             wrong : every valueFine envelope ≡ false → 4 ≡ downbeatRefusal envelope beats meter room
-            unfolding downbeatRefusal numbersFine roomFine
+            unfolding downbeatRefusal downbeatNumbersFine downbeatRoomFine
             wrong e = rw (le-leb (length envelope) mostRows h1, h2, le-leb 1 meter h3, le-leb meter mostMeter h4, le-leb (length beats) room h5, e)
 
             fine : every valueFine envelope ≡ true → 0 ≡ downbeatRefusal envelope beats meter room
-            unfolding downbeatRefusal numbersFine roomFine
+            unfolding downbeatRefusal downbeatNumbersFine downbeatRoomFine
             fine e = rw (le-leb (length envelope) mostRows h1, h2, le-leb 1 meter h3, le-leb meter mostMeter h4, le-leb (length beats) room h5, e)
 
 -- what `!` was found to be
@@ -59,34 +59,34 @@ holds r b e h = sym e ∙ not-false r h
 returns : tie.Need-returns
 returns c = rows _ _ _ _ (c .if1 .taken)
 
-frames-fine-requires : tie.Need-frames-fine-requires
-frames-fine-requires c κs = search needs
+all-at-most-requires : tie.Need-all-at-most-requires
+all-at-most-requires c κs = search needs
 
 returns-2 : tie.Need-returns-2
-returns-2 c = listed _ _ _ _ (c .before .before .if1 .left) (fails _ _ (c .before .frames-fine .ensures) (c .if2 .taken))
+returns-2 c = listed _ _ _ _ (c .before .before .if1 .left) (fails _ _ (c .before .all-at-most .ensures) (c .if2 .taken))
 
 returns-3 : tie.Need-returns-3
-returns-3 c = none _ _ _ _ (c .before .before .before .if1 .left) (holds _ _ (c .before .before .frames-fine .ensures) (c .before .if2 .left)) (c .if3 .taken)
+returns-3 c = none _ _ _ _ (c .before .before .before .if1 .left) (holds _ _ (c .before .before .all-at-most .ensures) (c .before .if2 .left)) (c .if3 .taken)
 
 returns-4 : tie.Need-returns-4
 returns-4 c =
-    many _ _ _ _ (c .before .before .before .before .if1 .left) (holds _ _ (c .before .before .before .frames-fine .ensures) (c .before .before .if2 .left)) (c .before .if3 .left) (c .if4 .taken)
+    many _ _ _ _ (c .before .before .before .before .if1 .left) (holds _ _ (c .before .before .before .all-at-most .ensures) (c .before .before .if2 .left)) (c .before .if3 .left) (c .if4 .taken)
 
 returns-5 : tie.Need-returns-5
 returns-5 c =
-    short _ _ _ _ (c .before .before .before .before .before .if1 .left) (holds _ _ (c .before .before .before .before .frames-fine .ensures) (c .before .before .before .if2 .left)) (c .before .before .if3 .left) (c .before .if4 .left) (c .if5 .taken)
+    short _ _ _ _ (c .before .before .before .before .before .if1 .left) (holds _ _ (c .before .before .before .before .all-at-most .ensures) (c .before .before .before .if2 .left)) (c .before .before .if3 .left) (c .before .if4 .left) (c .if5 .taken)
 
 values-fine-requires : tie.Need-values-fine-requires
 values-fine-requires c κs = search needs
 
 returns-6 : tie.Need-returns-6
 returns-6 c =
-    wrong _ _ _ _ (c .before .before .before .before .before .before .before .if1 .left) (holds _ _ (c .before .before .before .before .before .before .frames-fine .ensures) (c .before .before .before .before .before .if2 .left)) (c .before .before .before .before .if3 .left) (c .before .before .before .if4 .left) (c .before .before .if5 .left)
+    wrong _ _ _ _ (c .before .before .before .before .before .before .before .if1 .left) (holds _ _ (c .before .before .before .before .before .before .all-at-most .ensures) (c .before .before .before .before .before .if2 .left)) (c .before .before .before .before .if3 .left) (c .before .before .before .if4 .left) (c .before .before .if5 .left)
     (fails _ _ (c .before .values-fine .ensures) (c .if6 .taken))
 
 returns-7 : tie.Need-returns-7
 returns-7 c =
-    fine _ _ _ _ (c .before .before .before .before .before .before .before .if1 .left) (holds _ _ (c .before .before .before .before .before .before .frames-fine .ensures) (c .before .before .before .before .before .if2 .left)) (c .before .before .before .before .if3 .left) (c .before .before .before .if4 .left) (c .before .before .if5 .left)
+    fine _ _ _ _ (c .before .before .before .before .before .before .before .if1 .left) (holds _ _ (c .before .before .before .before .before .before .all-at-most .ensures) (c .before .before .before .before .before .if2 .left)) (c .before .before .before .before .if3 .left) (c .before .before .before .if4 .left) (c .before .before .if5 .left)
     (holds _ _ (c .before .values-fine .ensures) (c .if6 .left))
 
 pub downbeat-refusal-spec : {M : Type 1} → statement M
@@ -94,7 +94,7 @@ downbeat-refusal-spec =
     tie.close
     (tie.spec
     returns
-    frames-fine-requires
+    all-at-most-requires
     returns-2
     returns-3
     returns-4

@@ -10,31 +10,31 @@ use denote.Ref.{now}
 use lib.Dec.{leb}
 use lib.ListN.{length}
 use lib.Ieee.{Float}
-use Rattle.numbers.specs.Limits.{mostRows, between, valueFine}
+use Rattle.numbers.specs.Limits.{mostRows, between, valueFine, frameFine}
 use Rattle.numbers.specs.Lists.{listed, every}
 use Rattle.numbers.proofs.Tests.{lowest-zero, and-left, and-right, refused-keeps, passed-does}
-use Rattle.bars.specs.Downbeats.{mostMeter, frameFine, numbersFine, roomFine, downbeatRefusal, inPhase, downbeatPhase, downbeatsOf, Downbeats}
+use Rattle.bars.specs.Downbeats.{mostMeter, downbeatNumbersFine, downbeatRoomFine, downbeatRefusal, inPhase, downbeatPhase, downbeatsOf, DownbeatsPromise}
 use Rattle.bars.proofs.downbeats_in.Statement.{statement}
 use Rattle.bars.proofs.downbeats_in.Tie as tie
 
 module _ (envelope : List Float) (beats : List ℕ) (meter : ℕ) where
   -- what number 0 tells
   told : (room : ℕ) → downbeatRefusal envelope beats meter room ≡ 0 → (0 < meter) × (length beats ≤ room)
-  unfolding downbeatRefusal numbersFine roomFine
+  unfolding downbeatRefusal downbeatNumbersFine downbeatRoomFine
   told room e =
-      let p = lowest-zero (numbersFine envelope beats meter) true (roomFine beats room) (every valueFine envelope) e in
+      let p = lowest-zero (downbeatNumbersFine envelope beats meter) true (downbeatRoomFine beats room) (every valueFine envelope) e in
       let m = and-right (every frameFine beats) (between 1 mostMeter meter) (and-right (leb (length envelope) mostRows) _ (p .bounds)) in
       (leb-true 1 meter (and-left _ (leb meter mostMeter) m), leb-true (length beats) room (p .room))
 
   module _ (before : List ℕ) where
-    refused : (n : ℕ) → n ≡ downbeatRefusal envelope beats meter (length before) → (n ≡ 0 → ⊥) → Downbeats envelope beats meter before n 0 before
+    refused : (n : ℕ) → n ≡ downbeatRefusal envelope beats meter (length before) → (n ≡ 0 → ⊥) → DownbeatsPromise envelope beats meter before n 0 before
     refused n e h =
         let z : downbeatRefusal envelope beats meter (length before) ≡ 0 → ⊥ = λ q. h (e ∙ q) in
         record { number-is = e; count-is = sym (refused-keeps _ _ 0 z); frames-are = sym (refused-keeps _ _ before z) }
 
     answered : (phase count : ℕ) (after : List ℕ) → downbeatRefusal envelope beats meter (length before) ≡ 0 → phase ≡ downbeatPhase envelope beats meter
         → count ≡ length (inPhase meter phase 0 beats) → after ≡ listed (inPhase meter phase 0 beats) before
-        → Downbeats envelope beats meter before 0 count after
+        → DownbeatsPromise envelope beats meter before 0 count after
     unfolding downbeatsOf
     answered phase count after z p c a =
         record {

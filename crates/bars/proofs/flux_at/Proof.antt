@@ -8,7 +8,7 @@ use borrow.Author.Needs.{needs}
 use denote.Ref.{now}
 use lib.ListN.{length, getD, List·getD-eq-default}
 use lib.Ieee.{Float}
-use Rattle.bars.specs.Downbeats.{fluxAt}
+use Rattle.bars.specs.Downbeats.{beatFlux}
 use Rattle.bars.proofs.flux_at.Statement.{statement}
 use Rattle.bars.proofs.flux_at.Tie as tie
 
@@ -24,11 +24,11 @@ shared-slice-read-result : tie.Need-shared-slice-read-result
 shared-slice-read-result c = search needs
 
 returns : tie.Need-returns
-unfolding fluxAt
+unfolding beatFlux
 returns c = any-default (now (c .before .before .args .envelope)) _ _ _ (omega arith)
 
 returns-2 : tie.Need-returns-2
-unfolding fluxAt
+unfolding beatFlux
 returns-2 c = sym (List·getD-eq-default (now (c .before .args .envelope)) _ (omega arith))
 
 pub flux-at-spec : {M : Type 1} → statement M

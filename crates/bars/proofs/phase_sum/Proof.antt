@@ -12,7 +12,7 @@ use denote.Ref.{now}
 use lib.ListN.{length, drop}
 use lib.Ieee.{Float}
 use Rattle.numbers.specs.Rounded.{_⊕_, nought, sumFrom}
-use Rattle.bars.specs.Downbeats.{fluxAt, inPhase, phaseSum}
+use Rattle.bars.specs.Downbeats.{beatFlux, inPhase, phaseSum}
 use Rattle.bars.proofs.Phases.{phase-sum-step, phase-sum-end}
 use Rattle.bars.proofs.phase_sum.Statement.{statement}
 use Rattle.bars.proofs.phase_sum.Tie as tie
@@ -20,7 +20,7 @@ use Rattle.bars.proofs.phase_sum.Tie as tie
 abbrev Inv-loop : tie.InvT-loop
 Inv-loop envelope beats meter phase sum₀ i₀ sum i =
     (i ≤ length beats)
-    × (sumFrom sum (map (fluxAt envelope) (inPhase meter phase i (drop i beats))) ≡ sumFrom nought (map (fluxAt envelope) (inPhase meter phase 0 beats)))
+    × (sumFrom sum (map (beatFlux envelope) (inPhase meter phase i (drop i beats))) ≡ sumFrom nought (map (beatFlux envelope) (inPhase meter phase 0 beats)))
 
 abbrev μ-loop : tie.MeasureT-loop
 μ-loop envelope beats meter phase sum₀ i₀ sum i = length beats - i
@@ -52,7 +52,7 @@ loop-again c =
     let a = l .before .before .before .args in
     let i = l .loop .i in
     let h : i < length (now (a .beats)) = omega arith in
-    let step = phase-sum-step (a .meter) (a .phase) (fluxAt (now (a .envelope))) (l .loop .sum) (c .if1 .sum) (now (a .beats)) i in (
+    let step = phase-sum-step (a .meter) (a .phase) (beatFlux (now (a .envelope))) (l .loop .sum) (c .if1 .sum) (now (a .beats)) i in (
       omega arith,
       ⊎-elim
           (λ w. step true h (eq-eqb _ _ (w .0 .taken)) (w .3 ∙ ap (λ (x : Float). l .loop .sum ⊕ x) (w .2 .ensures)))
@@ -65,7 +65,7 @@ unfolding phaseSum
 returns c =
     let l = c .before in
     let a = l .before .before .before .args in
-    sym (phase-sum-end (a .meter) (a .phase) (fluxAt (now (a .envelope))) (l .loop .sum) (now (a .beats)) (l .loop .i) (c .loop-test .left)) ∙ l .loop .inv .1
+    sym (phase-sum-end (a .meter) (a .phase) (beatFlux (now (a .envelope))) (l .loop .sum) (now (a .beats)) (l .loop .i) (c .loop-test .left)) ∙ l .loop .inv .1
 
 pub phase-sum-spec : {M : Type 1} → statement M
 phase-sum-spec =

@@ -10,15 +10,15 @@ use denote.Ref.{now}
 use lib.Dec.{leb}
 use lib.ListN.{length}
 use lib.Ieee.{Float, le}
-use Rattle.numbers.specs.Rounded.{_⊘_}
+use Rattle.numbers.specs.Rounded.{_⊘_, epsilon, one}
 use Rattle.numbers.specs.Limits.{mostRows, mostPeriod, valueFine}
 use Rattle.numbers.specs.Lists.{listed, every}
 use Rattle.numbers.proofs.Tests.{lowest-zero, and-left, and-right, refused-keeps, pick-true, pick-false}
 use Rattle.numbers.proofs.Tabs.{listed-none}
 use Rattle.roots.specs.Roots.{sqrtOf}
-use Rattle.beats.specs.Envelopes.{flatness, one, varianceOf, beatless, scaleOf, scaledBy, scaled}
+use Rattle.beats.specs.Envelopes.{varianceOf, beatless, scaleOf, scaledBy, scaled}
 use Rattle.beats.specs.Scores.{scores, links}
-use Rattle.beats.specs.Grids.{numbersFine, roomFine, gridRefusal, grid, scoresOf, linksOf, gridOf, Gridded}
+use Rattle.beats.specs.Grids.{gridNumbersFine, gridRoomFine, gridRefusal, grid, scoresOf, linksOf, gridOf, GridPromise}
 use Rattle.beats.specs.Inner.{Laid}
 use borrow.Author.Needs.{needs}
 use Rattle.beats.proofs.beat_grid.Statement.{statement}
@@ -33,9 +33,9 @@ pub record Told (envelope : List Float) (period score back beats : ℕ) : Type 0
   pub beats-room : length envelope ≤ beats
 
 told : (envelope : List Float) (period score back beats : ℕ) → gridRefusal envelope period score back beats ≡ 0 → Told envelope period score back beats
-unfolding gridRefusal numbersFine roomFine
+unfolding gridRefusal gridNumbersFine gridRoomFine
 told envelope period score back beats e =
-    let p = lowest-zero (numbersFine envelope period) true (roomFine envelope score back beats) (every valueFine envelope) e in
+    let p = lowest-zero (gridNumbersFine envelope period) true (gridRoomFine envelope score back beats) (every valueFine envelope) e in
     let n = length envelope in
     let r = and-right (leb n score) (leb n back && leb n beats) (p .room) in
     record {
@@ -57,13 +57,13 @@ module _ (envelope : List Float) (period : ℕ) where
     unfolding beatless
     still e = rw (ne-eqb (length envelope) 0 some, eq-eqb period 0 e)
 
-    by-variance : (period ≡ 0 → ⊥) → (v : Float) → v ≡ varianceOf envelope → beatless envelope period ≡ le v flatness
+    by-variance : (period ≡ 0 → ⊥) → (v : Float) → v ≡ varianceOf envelope → beatless envelope period ≡ le v epsilon
     unfolding beatless
     by-variance h v e = rw (ne-eqb (length envelope) 0 some, ne-eqb period 0 h, e)
 
 module _ (envelope : List Float) (period : ℕ) (score₀ : List Float) (back₀ beats₀ : List ℕ) where
   refused : (n : ℕ) → n ≡ gridRefusal envelope period (length score₀) (length back₀) (length beats₀) → (n ≡ 0 → ⊥)
-      → Gridded envelope period score₀ back₀ beats₀ n 0 score₀ back₀ beats₀
+      → GridPromise envelope period score₀ back₀ beats₀ n 0 score₀ back₀ beats₀
   refused n e h =
       record {
         number-is = e;
@@ -74,7 +74,7 @@ module _ (envelope : List Float) (period : ℕ) (score₀ : List Float) (back₀
       }
 
   module _ (passed : gridRefusal envelope period (length score₀) (length back₀) (length beats₀) ≡ 0) where
-    silent : beatless envelope period ≡ true → Gridded envelope period score₀ back₀ beats₀ 0 0 score₀ back₀ beats₀
+    silent : beatless envelope period ≡ true → GridPromise envelope period score₀ back₀ beats₀ 0 0 score₀ back₀ beats₀
     unfolding scoresOf linksOf gridOf
     silent e =
         record {
@@ -87,7 +87,7 @@ module _ (envelope : List Float) (period : ℕ) (score₀ : List Float) (back₀
 
     laid : (scale : Float) (count : ℕ) (score : List Float) (back beats : List ℕ) → beatless envelope period ≡ false → scale ≡ scaleOf envelope
         → Laid period (scaledBy scale envelope) (length envelope) score₀ score back₀ back beats₀ beats count
-        → Gridded envelope period score₀ back₀ beats₀ 0 count score back beats
+        → GridPromise envelope period score₀ back₀ beats₀ 0 count score back beats
     unfolding scoresOf linksOf gridOf
     laid scale count score back beats e s w =
         record {

@@ -12,40 +12,40 @@ use lib.Ieee.{Float}
 use Rattle.numbers.specs.Limits.{mostRows, mostPeriod, valueFine}
 use Rattle.numbers.specs.Refusals.{unless}
 use Rattle.numbers.specs.Lists.{every}
-use Rattle.beats.specs.Grids.{numbersFine, roomFine, gridRefusal}
+use Rattle.beats.specs.Grids.{gridNumbersFine, gridRoomFine, gridRefusal}
 use Rattle.beats.proofs.grid_refusal.Statement.{statement}
 use Rattle.beats.proofs.grid_refusal.Tie as tie
 
 -- the tests in turn
 module _ (envelope : List Float) (period score back beats : ℕ) where
   rows : mostRows < length envelope → 1 ≡ gridRefusal envelope period score back beats
-  unfolding gridRefusal numbersFine
+  unfolding gridRefusal gridNumbersFine
   rows h = rw (lt-leb (length envelope) mostRows h)
 
   module _ (h1 : length envelope ≤ mostRows) where
     long : mostPeriod < period → 1 ≡ gridRefusal envelope period score back beats
-    unfolding gridRefusal numbersFine
+    unfolding gridRefusal gridNumbersFine
     long h = rw (le-leb (length envelope) mostRows h1, lt-leb period mostPeriod h)
 
     module _ (h2 : period ≤ mostPeriod) where
       scores-short : score < length envelope → 3 ≡ gridRefusal envelope period score back beats
-      unfolding gridRefusal numbersFine roomFine
+      unfolding gridRefusal gridNumbersFine gridRoomFine
       scores-short h = rw (le-leb (length envelope) mostRows h1, le-leb period mostPeriod h2, lt-leb (length envelope) score h)
 
       module _ (h3 : length envelope ≤ score) where
         links-short : back < length envelope → 3 ≡ gridRefusal envelope period score back beats
-        unfolding gridRefusal numbersFine roomFine
+        unfolding gridRefusal gridNumbersFine gridRoomFine
         links-short h = rw (le-leb (length envelope) mostRows h1, le-leb period mostPeriod h2, le-leb (length envelope) score h3, lt-leb (length envelope) back h)
 
         module _ (h4 : length envelope ≤ back) where
           beats-short : beats < length envelope → 3 ≡ gridRefusal envelope period score back beats
-          unfolding gridRefusal numbersFine roomFine
+          unfolding gridRefusal gridNumbersFine gridRoomFine
           beats-short h =
               rw (le-leb (length envelope) mostRows h1, le-leb period mostPeriod h2, le-leb (length envelope) score h3, le-leb (length envelope) back h4, lt-leb (length envelope) beats h)
 
           module _ (h5 : length envelope ≤ beats) where
             values : (b : Bool) → every valueFine envelope ≡ b → unless b 4 0 ≡ gridRefusal envelope period score back beats
-            unfolding gridRefusal numbersFine roomFine
+            unfolding gridRefusal gridNumbersFine gridRoomFine
             values b e =
                 rw (le-leb (length envelope) mostRows h1, le-leb period mostPeriod h2, le-leb (length envelope) score h3, le-leb (length envelope) back h4, le-leb (length envelope) beats h5, e)
 

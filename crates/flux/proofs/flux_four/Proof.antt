@@ -7,7 +7,7 @@ use denote.Ref.{now}
 use borrow.Author.Needs.{needs}
 use lib.ListN.{length}
 use Rattle.numbers.specs.Rounded.{sumFrom}
-use Rattle.flux_rows.specs.Rises.{partBins, restOf}
+use Rattle.flux_rows.specs.Rises.{partBins, riseRest}
 use Rattle.flux.specs.Flux.{fluxAt}
 use Rattle.flux.proofs.Fluxes.{rest-all, rest-more}
 use Rattle.flux.proofs.flux_four.Statement.{statement}
@@ -20,10 +20,10 @@ Inv-loop slab rows bins t apart a₀ b₀ c₀ d₀ f₀ i₀ a b c d f i =
     × (length b ≡ partBins)
     × (length c ≡ partBins)
     × (length d ≡ partBins)
-    × (sumFrom (f .a) (restOf slab bins t i) ≡ fluxAt slab bins t)
-    × (sumFrom (f .b) (restOf slab bins (t + apart) i) ≡ fluxAt slab bins (t + apart))
-    × (sumFrom (f .c) (restOf slab bins (t + 2 * apart) i) ≡ fluxAt slab bins (t + 2 * apart))
-    × (sumFrom (f .d) (restOf slab bins (t + 3 * apart) i) ≡ fluxAt slab bins (t + 3 * apart))
+    × (sumFrom (f .a) (riseRest slab bins t i) ≡ fluxAt slab bins t)
+    × (sumFrom (f .b) (riseRest slab bins (t + apart) i) ≡ fluxAt slab bins (t + apart))
+    × (sumFrom (f .c) (riseRest slab bins (t + 2 * apart) i) ≡ fluxAt slab bins (t + 2 * apart))
+    × (sumFrom (f .d) (riseRest slab bins (t + 3 * apart) i) ≡ fluxAt slab bins (t + 3 * apart))
 
 abbrev μ-loop : tie.MeasureT-loop
 μ-loop slab rows bins t apart a₀ b₀ c₀ d₀ f₀ i₀ a b c d f i = bins - i

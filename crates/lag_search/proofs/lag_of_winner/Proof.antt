@@ -1,7 +1,7 @@
 -- `lag_search::lag_of_winner` meets its contract: the winner is a slot of a list that has one. Assumes nothing.
 use Prim.Native.Nat.{_<_}
 use lib.ListN.{length}
-use Rattle.candidates.proofs.Winners.{winner-slot}
+use Rattle.lag_candidates.proofs.Winners.{winner-slot}
 use Rattle.lag_search.proofs.Winners.{winner-lag, no-winner-lag}
 use borrow.Author.Needs.{needs}
 use Rattle.lag_search.proofs.lag_of_winner.Statement.{statement}

@@ -16,8 +16,8 @@ returns c = searched-flat _ _ _ _ _ _ (c .before .before .mean-of .ensures) (c .
 fill-lag-curves-requires : tie.Need-fill-lag-curves-requires
 fill-lag-curves-requires c κs = search needs
 
-room-of-requires : tie.Need-room-of-requires
-room-of-requires c κs = search needs
+lag-slots-requires : tie.Need-lag-slots-requires
+lag-slots-requires c κs = search needs
 
 sub-lag-of-winner : tie.Need-sub-lag-of-winner
 sub-lag-of-winner c = search needs
@@ -45,7 +45,7 @@ returns-2 c =
     (f .fill-lag-curves .ensures .0)
     (f .fill-lag-curves .ensures .1)
     _
-    (c .before .before .before .room-of .ensures)
+    (c .before .before .before .lag-slots .ensures)
     (c .lag-of-winner .ensures)
 
 pub winning-lag-spec : {M : Type 1} → statement M
@@ -56,7 +56,7 @@ winning-lag-spec =
     energy-of-requires
     returns
     fill-lag-curves-requires
-    room-of-requires
+    lag-slots-requires
     sub-lag-of-winner
     part-lag-of-winner-start
     part-lag-of-winner-end

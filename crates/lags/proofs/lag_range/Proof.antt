@@ -8,7 +8,7 @@ use borrow.Author.Tests.{not-true, not-false}
 use lib.Ieee.{Float}
 use Rattle.numbers.proofs.Tests.{pick-false}
 use Rattle.floats.specs.Wholes.{roundOf}
-use Rattle.lags.specs.declared.TempoOpts.{TempoOpts}
+use Rattle.options.specs.declared.TempoOpts.{TempoOpts}
 use Rattle.lags.specs.Lags.{lowBpm, highBpm, minuteOver, minLag, maxLag, boundsFine, lagRange}
 use Rattle.lags.proofs.Ranges.{min-lag-most, fine-rate}
 use borrow.Author.Needs.{needs}

@@ -2,7 +2,8 @@
 use mathlib.Core.Path.{sym, ap, _∙_}
 use borrow.Author.Needs.{needs}
 use Rattle.numbers.proofs.Tests.{pick-true, pick-false}
-use Rattle.lags.specs.Lags.{one, noLess, lowBpm}
+use Rattle.numbers.specs.Rounded.{one}
+use Rattle.lags.specs.Lags.{noLess, lowBpm}
 use Rattle.lags.proofs.low_bpm.Statement.{statement}
 use Rattle.lags.proofs.low_bpm.Tie as tie
 

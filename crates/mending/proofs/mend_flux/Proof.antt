@@ -7,7 +7,7 @@ use denote.Ref.{now}
 use lib.Ieee.{nan}
 use lib.ListN.{length}
 use Rattle.numbers.proofs.Overs.{length-over, every-over, patch-fits}
-use Rattle.patching.specs.Patches.{edited}
+use Rattle.patches.specs.Patches.{edited}
 use Rattle.mending.proofs.mend_flux.Statement.{statement}
 use Rattle.mending.proofs.mend_flux.Tie as tie
 

@@ -9,13 +9,13 @@ use lib.ListN.{length, getD, set, length-set}
 use lib.Ieee.{nan}
 use Rattle.numbers.specs.Lists.{filled}
 use Rattle.numbers.proofs.Tabs.{filled-none, filled-to}
-use Rattle.novelties.specs.Lanes.{apart}
+use Rattle.novelties.specs.Lanes.{laidApart}
 use Rattle.novelties.proofs.gather_apart.Statement.{statement}
 use Rattle.novelties.proofs.gather_apart.Tie as tie
 
 abbrev Inv-loop : tie.InvT-loop
 Inv-loop similarity first d near₀ r₀ near r =
-    (r ≤ 39) × (length near ≡ 640) × (near ≡ filled (apart similarity first d) near₀ (d * 40) (d * 40 + r))
+    (r ≤ 39) × (length near ≡ 640) × (near ≡ filled (laidApart similarity first d) near₀ (d * 40) (d * 40 + r))
 
 abbrev μ-loop : tie.MeasureT-loop
 μ-loop similarity first d near₀ r₀ near r = 39 - r
@@ -24,7 +24,7 @@ loop-holds : tie.Need-loop-holds Inv-loop μ-loop
 loop-holds c =
     let a = c .args in
     let e : a .d * 40 + 0 ≡ a .d * 40 = omega arith in
-    (omega arith, c .pre .2, sym (ap (filled (apart (now (a .similarity)) (a .first) (a .d)) (now (a .near)) (a .d * 40)) e ∙ filled-none _ _ _))
+    (omega arith, c .pre .2, sym (ap (filled (laidApart (now (a .similarity)) (a .first) (a .d)) (now (a .near)) (a .d * 40)) e ∙ filled-none _ _ _))
 
 add-near : tie.Need-add-near Inv-loop μ-loop
 add-near c = omega arith
@@ -60,14 +60,14 @@ loop-less : tie.Need-loop-less Inv-loop μ-loop
 loop-less c = omega arith
 
 loop-again : tie.Need-loop-again Inv-loop μ-loop
-unfolding apart
+unfolding laidApart
 loop-again c =
     let l = c .before .before in
     let s = l .before in
     let a = s .args in
     let p : ℕ = a .d * 40 in
     let r = l .loop .r in
-    let f = apart (now (a .similarity)) (a .first) (a .d) in
+    let f = laidApart (now (a .similarity)) (a .first) (a .d) in
     let e : p + r - p ≡ r = add-sub-cancel-left p r in
     let m : length (now (a .near)) ≡ 640 = s .pre .2 in (
       omega arith,
@@ -82,7 +82,7 @@ returns c =
     let l = c .before in
     let a = l .before .args in
     let e : a .d * 40 + l .loop .r ≡ a .d * 40 + 39 = omega arith in
-    l .loop .inv .2 ∙ ap (filled (apart (now (a .similarity)) (a .first) (a .d)) (now (a .near)) (a .d * 40)) e
+    l .loop .inv .2 ∙ ap (filled (laidApart (now (a .similarity)) (a .first) (a .d)) (now (a .near)) (a .d * 40)) e
 
 pub gather-apart-spec : {M : Type 1} → statement M
 gather-apart-spec =

@@ -13,15 +13,15 @@ returns : tie.Need-returns
 unfolding timesRefusal
 returns c = simp (sym (c .before .rate-fine .ensures) ∙ not-true _ (c .if1 .taken))
 
-frames-fine-requires : tie.Need-frames-fine-requires
-frames-fine-requires c κs = search needs
+all-at-most-requires : tie.Need-all-at-most-requires
+all-at-most-requires c κs = search needs
 
 returns-2 : tie.Need-returns-2
 unfolding timesRefusal
 returns-2 c =
     simp (
       sym (c .before .before .before .rate-fine .ensures) ∙ not-false _ (c .before .before .if1 .left),
-      sym (c .before .frames-fine .ensures) ∙ not-true _ (c .if2 .taken),
+      sym (c .before .all-at-most .ensures) ∙ not-true _ (c .if2 .taken),
     )
 
 returns-3 : tie.Need-returns-3
@@ -29,7 +29,7 @@ unfolding timesRefusal
 returns-3 c =
     simp (
       sym (c .before .before .before .before .rate-fine .ensures) ∙ not-false _ (c .before .before .before .if1 .left),
-      sym (c .before .before .frames-fine .ensures) ∙ not-false _ (c .before .if2 .left),
+      sym (c .before .before .all-at-most .ensures) ∙ not-false _ (c .before .if2 .left),
       lt-leb _ _ (c .if3 .taken),
     )
 
@@ -38,11 +38,11 @@ unfolding timesRefusal
 returns-4 c =
     simp (
       sym (c .before .before .before .before .rate-fine .ensures) ∙ not-false _ (c .before .before .before .if1 .left),
-      sym (c .before .before .frames-fine .ensures) ∙ not-false _ (c .before .if2 .left),
+      sym (c .before .before .all-at-most .ensures) ∙ not-false _ (c .before .if2 .left),
       le-leb _ _ (c .if3 .left),
     )
 
 pub times-refusal-spec : {M : Type 1} → statement M
 times-refusal-spec =
     tie.close
-    (tie.spec rate-fine-requires returns frames-fine-requires returns-2 returns-3 returns-4)
+    (tie.spec rate-fine-requires returns all-at-most-requires returns-2 returns-3 returns-4)

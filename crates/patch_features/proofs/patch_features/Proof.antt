@@ -11,8 +11,8 @@ use lib.ListN.{length, take}
 use lib.Seq.{length-take-le}
 use Rattle.numbers.proofs.Overs.{length-over, patch-fits}
 use Rattle.numbers.specs.Limits.{featureWidth}
-use Rattle.patching.specs.Patches.{patchOf, edited}
-use Rattle.patch_features.specs.Features.{track, numberOf}
+use Rattle.patches.specs.Patches.{patchOf, edited}
+use Rattle.patch_features.specs.Features.{featureTrack, featurePatchNumber}
 use Rattle.patch_features.proofs.Asked.{Asked, asked}
 use Rattle.patch_features.proofs.Outcomes.{refused, empty, wrote}
 use Rattle.patch_features.proofs.patch_features.Statement.{statement}
@@ -23,11 +23,11 @@ abbrev S : tie.Else2 → tie.Start
 S c = c .before .before .before .before .before .before .before .before .before .before
 
 none : (c : tie.Else2)
-    → numberOf (S c .args .rows) (track (now (S c .args .features)) (now (S c .args .similarity)) (now (S c .args .novelty))) (patchOf (S c .args .start) (now (S c .args .new))) ≡ 0
+    → featurePatchNumber (S c .args .rows) (featureTrack (now (S c .args .features)) (now (S c .args .similarity)) (now (S c .args .novelty))) (patchOf (S c .args .start) (now (S c .args .new))) ≡ 0
 none c = sym (c .before .before .refusal .ensures) ∙ c .before .if1 .left
 
 ready : (c : tie.Else2)
-    → Asked (S c .args .rows) (track (now (S c .args .features)) (now (S c .args .similarity)) (now (S c .args .novelty))) (patchOf (S c .args .start) (now (S c .args .new)))
+    → Asked (S c .args .rows) (featureTrack (now (S c .args .features)) (now (S c .args .similarity)) (now (S c .args .novelty))) (patchOf (S c .args .start) (now (S c .args .new)))
 ready c = asked _ _ _ (none c)
 
 fits : (c : tie.Else2) → S c .args .start * featureWidth + length (now (S c .args .new)) ≤ length (now (S c .args .features))

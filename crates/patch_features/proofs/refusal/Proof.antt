@@ -3,7 +3,7 @@ use mathlib.Core.Path.{sym, _∙_}
 use native.Mathlib.Omega.{arith}
 use borrow.Author.Needs.{needs}
 use borrow.Author.Tests.{not-true, not-false}
-use Rattle.patch_features.specs.Features.{numberOf}
+use Rattle.patch_features.specs.Features.{featurePatchNumber}
 use Rattle.patch_features.proofs.Asked.{bounds-told, room-told}
 use Rattle.patch_features.proofs.refusal.Statement.{statement}
 use Rattle.patch_features.proofs.refusal.Tie as tie
@@ -12,7 +12,7 @@ bounds-fine-requires : tie.Need-bounds-fine-requires
 bounds-fine-requires c κs = search needs
 
 returns : tie.Need-returns
-unfolding numberOf
+unfolding featurePatchNumber
 returns c = rw (sym (c .before .bounds-fine .ensures) ∙ not-true _ (c .if1 .taken))
 
 whole-rows-requires : tie.Need-whole-rows-requires
@@ -21,14 +21,14 @@ whole-rows-requires c κs =
     (omega arith, omega arith, b .starts)
 
 returns-2 : tie.Need-returns-2
-unfolding numberOf
+unfolding featurePatchNumber
 returns-2 c = rw (sym (c .before .before .before .bounds-fine .ensures) ∙ not-false _ (c .before .before .if1 .left), sym (c .before .whole-rows .ensures) ∙ not-true _ (c .if2 .taken))
 
 room-fine-requires : tie.Need-room-fine-requires
 room-fine-requires c κs = bounds-told _ _ (sym (c .before .before .before .bounds-fine .ensures) ∙ not-false _ (c .before .before .if1 .left)) .rows-fit
 
 returns-3 : tie.Need-returns-3
-unfolding numberOf
+unfolding featurePatchNumber
 returns-3 c = rw (sym (c .before .before .before .before .before .bounds-fine .ensures) ∙ not-false _ (c .before .before .before .before .if1 .left), sym (c .before .before .before .whole-rows .ensures) ∙ not-false _ (c .before .before .if2 .left), sym (c .before .room-fine .ensures) ∙ not-true _ (c .if3 .taken))
 
 values-fine-requires : tie.Need-values-fine-requires
@@ -38,11 +38,11 @@ values-fine-requires c κs =
     (b .rows-fit, r .similarity-room, r .novelty-room)
 
 returns-4 : tie.Need-returns-4
-unfolding numberOf
+unfolding featurePatchNumber
 returns-4 c = rw (sym (c .before .before .before .before .before .before .before .bounds-fine .ensures) ∙ not-false _ (c .before .before .before .before .before .before .if1 .left), sym (c .before .before .before .before .before .whole-rows .ensures) ∙ not-false _ (c .before .before .before .before .if2 .left), sym (c .before .before .before .room-fine .ensures) ∙ not-false _ (c .before .before .if3 .left), sym (c .before .values-fine .ensures) ∙ not-true _ (c .if4 .taken))
 
 returns-5 : tie.Need-returns-5
-unfolding numberOf
+unfolding featurePatchNumber
 returns-5 c = rw (sym (c .before .before .before .before .before .before .before .bounds-fine .ensures) ∙ not-false _ (c .before .before .before .before .before .before .if1 .left), sym (c .before .before .before .before .before .whole-rows .ensures) ∙ not-false _ (c .before .before .before .before .if2 .left), sym (c .before .before .before .room-fine .ensures) ∙ not-false _ (c .before .before .if3 .left), sym (c .before .values-fine .ensures) ∙ not-false _ (c .if4 .left))
 
 pub refusal-spec : {M : Type 1} → statement M

@@ -5,8 +5,8 @@ use borrow.Author.Needs.{needs}
 use borrow.Author.Tests.{not-true, not-false}
 use denote.Ref.{now}
 use Rattle.numbers.specs.Limits.{valueFine, similarityFine}
-use Rattle.patching.proofs.Parts.{first-slots}
-use Rattle.patch_features.specs.Features.{valuesFine}
+use Rattle.patches.proofs.Parts.{first-slots}
+use Rattle.patch_features.specs.Features.{featurePatchValues}
 use Rattle.patch_features.proofs.values_fine.Statement.{statement}
 use Rattle.patch_features.proofs.values_fine.Tie as tie
 
@@ -14,14 +14,14 @@ values-fine-requires : tie.Need-values-fine-requires
 values-fine-requires c κs = search needs
 
 returns : tie.Need-returns
-unfolding valuesFine
+unfolding featurePatchValues
 returns c = rw (sym (c .before .values-fine .ensures) ∙ not-true _ (c .if1 .taken))
 
 values-fine-requires-2 : tie.Need-values-fine-requires-2
 values-fine-requires-2 c κs = search needs
 
 returns-2 : tie.Need-returns-2
-unfolding valuesFine
+unfolding featurePatchValues
 returns-2 c = rw (sym (c .before .before .before .values-fine .ensures) ∙ not-false _ (c .before .before .if1 .left), sym (c .before .values-fine2 .ensures) ∙ not-true _ (c .if2 .taken))
 
 mul-pairs : tie.Need-mul-pairs
@@ -40,7 +40,7 @@ similarities-fine-requires : tie.Need-similarities-fine-requires
 similarities-fine-requires c κs = search needs
 
 returns-3 : tie.Need-returns-3
-unfolding valuesFine
+unfolding featurePatchValues
 returns-3 c =
     let g = c .before .before .before .before .before .before .before .before .before .before .before .args in
     rw (sym (c .before .before .before .before .before .before .values-fine .ensures) ∙ not-false _ (c .before .before .before .before .before .if1 .left), sym (c .before .before .before .before .values-fine2 .ensures) ∙ not-false _ (c .before .before .before .if2 .left), first-slots similarityFine (now (g .similarity)) (g .rows * 17) _ (c .before .similarities-fine .ensures) ∙ not-true _ (c .if3 .taken))
@@ -58,7 +58,7 @@ values-fine-requires-3 : tie.Need-values-fine-requires-3
 values-fine-requires-3 c κs = search needs
 
 returns-4 : tie.Need-returns-4
-unfolding valuesFine
+unfolding featurePatchValues
 returns-4 c =
     let g = c .before .before .before .before .before .before .before .before .before .before .before .before .before .args in
     rw (sym (c .before .before .before .before .before .before .before .before .values-fine .ensures) ∙ not-false _ (c .before .before .before .before .before .before .before .if1 .left), sym (c .before .before .before .before .before .before .values-fine2 .ensures) ∙ not-false _ (c .before .before .before .before .before .if2 .left), first-slots similarityFine (now (g .similarity)) (g .rows * 17) _ (c .before .before .before .similarities-fine .ensures) ∙ not-false _ (c .before .before .if3 .left))

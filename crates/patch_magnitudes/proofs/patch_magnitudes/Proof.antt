@@ -4,8 +4,8 @@ use native.Mathlib.Omega.{arith}
 use borrow.Author.Needs.{needs}
 use denote.Ref.{now}
 use lib.ListN.{length}
-use Rattle.patching.specs.Patches.{patchOf}
-use Rattle.patch_refusal.specs.Tracks.{track, numberOf}
+use Rattle.patches.specs.Patches.{patchOf}
+use Rattle.patch_refusal.specs.Tracks.{magnitudeTrack, patchNumber}
 use Rattle.patch_refusal.proofs.Asked.{Asked, asked}
 use Rattle.patch_magnitudes.proofs.Outcomes.{refused, empty, wrote}
 use Rattle.patch_magnitudes.proofs.patch_magnitudes.Statement.{statement}
@@ -16,13 +16,13 @@ abbrev S : tie.Else2 → tie.Start
 S c = c .before .before .before .before .before .before .before .before .before .before .before
 
 none : (c : tie.Else2)
-    → numberOf (S c .args .rows) (S c .args .bins) (track (now (S c .args .magnitudes)) (now (S c .args .flux)) (now (S c .args .threshold)))
+    → patchNumber (S c .args .rows) (S c .args .bins) (magnitudeTrack (now (S c .args .magnitudes)) (now (S c .args .flux)) (now (S c .args .threshold)))
     (patchOf (S c .args .start) (now (S c .args .new))) (length (now (S c .args .work)))
     ≡ 0
 none c = sym (c .before .before .refusal .ensures) ∙ c .before .if1 .left
 
 ready : (c : tie.Else2)
-    → Asked (S c .args .rows) (S c .args .bins) (track (now (S c .args .magnitudes)) (now (S c .args .flux)) (now (S c .args .threshold)))
+    → Asked (S c .args .rows) (S c .args .bins) (magnitudeTrack (now (S c .args .magnitudes)) (now (S c .args .flux)) (now (S c .args .threshold)))
     (patchOf (S c .args .start) (now (S c .args .new))) (length (now (S c .args .work)))
 ready c = asked _ _ _ _ _ (none c)
 

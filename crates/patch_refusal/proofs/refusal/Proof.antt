@@ -4,7 +4,7 @@ use native.Mathlib.Nat.{mul-le-mul, lt-of-le-of-lt}
 use borrow.Author.Needs.{needs}
 use borrow.Author.Tests.{not-true, not-false}
 use lib.Dec.{lit<}
-use Rattle.patch_refusal.specs.Tracks.{numberOf}
+use Rattle.patch_refusal.specs.Tracks.{patchNumber}
 use Rattle.patch_refusal.proofs.Asked.{bounds-told, room-told}
 use Rattle.patch_refusal.proofs.refusal.Statement.{statement}
 use Rattle.patch_refusal.proofs.refusal.Tie as tie
@@ -13,7 +13,7 @@ bounds-fine-requires : tie.Need-bounds-fine-requires
 bounds-fine-requires c κs = search needs
 
 returns : tie.Need-returns
-unfolding numberOf
+unfolding patchNumber
 returns c = rw (sym (c .before .bounds-fine .ensures) ∙ not-true _ (c .if1 .taken))
 
 whole-rows-requires : tie.Need-whole-rows-requires
@@ -22,14 +22,14 @@ whole-rows-requires c κs =
     (b .some-bins, lt-of-le-of-lt (mul-le-mul (b .rows-fit) (b .bins-fit)) (lit< tt), b .starts)
 
 returns-2 : tie.Need-returns-2
-unfolding numberOf
+unfolding patchNumber
 returns-2 c = rw (sym (c .before .before .before .bounds-fine .ensures) ∙ not-false _ (c .before .before .if1 .left), sym (c .before .whole-rows .ensures) ∙ not-true _ (c .if2 .taken))
 
 room-fine-requires : tie.Need-room-fine-requires
 room-fine-requires c κs = search needs
 
 returns-3 : tie.Need-returns-3
-unfolding numberOf
+unfolding patchNumber
 returns-3 c = rw (sym (c .before .before .before .before .before .bounds-fine .ensures) ∙ not-false _ (c .before .before .before .before .if1 .left), sym (c .before .before .before .whole-rows .ensures) ∙ not-false _ (c .before .before .if2 .left), sym (c .before .room-fine .ensures) ∙ not-true _ (c .if3 .taken))
 
 values-fine-requires : tie.Need-values-fine-requires
@@ -38,11 +38,11 @@ values-fine-requires c κs =
     (r .flux-room, r .threshold-room)
 
 returns-4 : tie.Need-returns-4
-unfolding numberOf
+unfolding patchNumber
 returns-4 c = rw (sym (c .before .before .before .before .before .before .before .bounds-fine .ensures) ∙ not-false _ (c .before .before .before .before .before .before .if1 .left), sym (c .before .before .before .before .before .whole-rows .ensures) ∙ not-false _ (c .before .before .before .before .if2 .left), sym (c .before .before .before .room-fine .ensures) ∙ not-false _ (c .before .before .if3 .left), sym (c .before .values-fine .ensures) ∙ not-true _ (c .if4 .taken))
 
 returns-5 : tie.Need-returns-5
-unfolding numberOf
+unfolding patchNumber
 returns-5 c = rw (sym (c .before .before .before .before .before .before .before .bounds-fine .ensures) ∙ not-false _ (c .before .before .before .before .before .before .if1 .left), sym (c .before .before .before .before .before .whole-rows .ensures) ∙ not-false _ (c .before .before .before .before .if2 .left), sym (c .before .before .before .room-fine .ensures) ∙ not-false _ (c .before .before .if3 .left), sym (c .before .values-fine .ensures) ∙ not-false _ (c .if4 .left))
 
 pub refusal-spec : {M : Type 1} → statement M

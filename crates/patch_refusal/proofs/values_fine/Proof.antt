@@ -4,8 +4,8 @@ use borrow.Author.Needs.{needs}
 use borrow.Author.Tests.{not-true, not-false}
 use denote.Ref.{now}
 use Rattle.numbers.specs.Limits.{valueFine}
-use Rattle.patching.proofs.Parts.{first-slots}
-use Rattle.patch_refusal.specs.Tracks.{valuesFine}
+use Rattle.patches.proofs.Parts.{first-slots}
+use Rattle.patch_refusal.specs.Tracks.{patchValues}
 use Rattle.patch_refusal.proofs.values_fine.Statement.{statement}
 use Rattle.patch_refusal.proofs.values_fine.Tie as tie
 
@@ -13,14 +13,14 @@ magnitudes-fine-requires : tie.Need-magnitudes-fine-requires
 magnitudes-fine-requires c κs = search needs
 
 returns : tie.Need-returns
-unfolding valuesFine
+unfolding patchValues
 returns c = rw (sym (c .before .magnitudes-fine .ensures) ∙ not-true _ (c .if1 .taken))
 
 magnitudes-fine-requires-2 : tie.Need-magnitudes-fine-requires-2
 magnitudes-fine-requires-2 c κs = search needs
 
 returns-2 : tie.Need-returns-2
-unfolding valuesFine
+unfolding patchValues
 returns-2 c = rw (sym (c .before .before .before .magnitudes-fine .ensures) ∙ not-false _ (c .before .before .if1 .left), sym (c .before .magnitudes-fine2 .ensures) ∙ not-true _ (c .if2 .taken))
 
 sub-values-fine : tie.Need-sub-values-fine
@@ -36,7 +36,7 @@ values-fine-requires : tie.Need-values-fine-requires
 values-fine-requires c κs = search needs
 
 returns-3 : tie.Need-returns-3
-unfolding valuesFine
+unfolding patchValues
 returns-3 c =
     let g = c .before .before .before .before .before .before .before .before .before .before .before .args in
     rw (sym (c .before .before .before .before .before .before .magnitudes-fine .ensures) ∙ not-false _ (c .before .before .before .before .before .if1 .left), sym (c .before .before .before .before .magnitudes-fine2 .ensures) ∙ not-false _ (c .before .before .before .if2 .left), first-slots valueFine (now (g .flux)) (g .rows) _ (c .before .values-fine .ensures) ∙ not-true _ (c .if3 .taken))
@@ -54,7 +54,7 @@ values-fine-requires-2 : tie.Need-values-fine-requires-2
 values-fine-requires-2 c κs = search needs
 
 returns-4 : tie.Need-returns-4
-unfolding valuesFine
+unfolding patchValues
 returns-4 c =
     let g = c .before .before .before .before .before .before .before .before .before .before .before .before .before .args in
     rw (sym (c .before .before .before .before .before .before .before .before .magnitudes-fine .ensures) ∙ not-false _ (c .before .before .before .before .before .before .before .if1 .left), sym (c .before .before .before .before .before .before .magnitudes-fine2 .ensures) ∙ not-false _ (c .before .before .before .before .before .if2 .left), first-slots valueFine (now (g .flux)) (g .rows) _ (c .before .before .before .values-fine .ensures) ∙ not-false _ (c .before .before .if3 .left))

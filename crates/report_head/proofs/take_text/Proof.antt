@@ -3,7 +3,7 @@ use mathlib.Core.Path.{refl, sym, ap, _∙_}
 use borrow.Author.Tests.{lt-ltb, le-ltb}
 use denote.Ref.{now}
 use lib.ListN.{set}
-use Rattle.npy.specs.Header.{headerOf}
+use Rattle.report_npy.specs.Header.{headerOf}
 use Rattle.numbers.proofs.Tests.{pick-true, pick-false}
 use Rattle.report_head.specs.Heads.{behindText}
 use Rattle.report_head.proofs.Heads.{part-is}

@@ -25,8 +25,8 @@ returns-2 c = c .no-room2 .ensures ∙ sym (room-outside _ _ _ (by-bounds _ _ _ 
 lag-range-requires : tie.Need-lag-range-requires
 lag-range-requires c κs = search needs
 
-room-of-requires : tie.Need-room-of-requires
-room-of-requires c κs =
+lag-slots-requires : tie.Need-lag-slots-requires
+lag-slots-requires c κs =
     let r = ranged _ _ _ (c .lag-range .ensures) (sym (c .before .before .bounds-fine .ensures) ∙ not-false _ (c .before .if2 .left)) in
     search needs
 
@@ -41,7 +41,7 @@ returns-3 c =
     let l = c .before .before .before in
     let fine = sym (l .before .before .bounds-fine .ensures) ∙ not-false _ (l .before .if2 .left) in
     let r = ranged _ _ _ (l .lag-range .ensures) fine in
-    named-room _ _ _ _ _ _ (l .before .before .before .if1 .left) fine (room-is _ _ _ _ r (c .before .before .room-of .ensures)) (c .before .least .ensures) (c .greatest .ensures)
+    named-room _ _ _ _ _ _ (l .before .before .before .if1 .left) fine (room-is _ _ _ _ r (c .before .before .lag-slots .ensures)) (c .before .least .ensures) (c .greatest .ensures)
 
 pub room-of-spec : {M : Type 1} → statement M
 room-of-spec =
@@ -53,7 +53,7 @@ room-of-spec =
     no-room-requires-2
     returns-2
     lag-range-requires
-    room-of-requires
+    lag-slots-requires
     least-requires
     greatest-requires
     returns-3)

@@ -5,8 +5,8 @@ use Prim.Native.Nat.{_-_, _≤_}
 use native.Mathlib.Omega.{arith}
 use denote.Ref.{now}
 use lib.ListN.{length}
-use Rattle.section_peaks.specs.Greatest.{greatest}
-use Rattle.sections.specs.Boundaries.{candidatesOf}
+use Rattle.section_peaks.specs.Greatest.{keptGreatest}
+use Rattle.sections.specs.Boundaries.{sectionPeaks}
 use Rattle.sections.specs.Confidence.{confidenceOf}
 use Rattle.section_peaks.specs.Steps.{PickedIn}
 use Rattle.sections.proofs.Bounds.{picked-inside, picked-length}
@@ -18,7 +18,7 @@ use Rattle.sections.proofs.find.Tie as tie
 -- what is picked
 picked : (c : tie.After-pick-boundaries)
     → PickedIn (length (now (c .before .before .before .before .before .before .before .before .before .before .before .before .before .before .args .novelty)))
-    (greatest (now (c .before .before .before .before .before .before .before .before .before .before .before .before .before .before .args .novelty)) (c .before .before .before .before .before .before .before .before .before .before .before .before .before .before .args .most) (candidatesOf (now (c .before .before .before .before .before .before .before .before .before .before .before .before .before .before .args .novelty)) (c .before .before .before .before .before .before .before .before .before .before .before .before .before .before .args .gap)))
+    (keptGreatest (now (c .before .before .before .before .before .before .before .before .before .before .before .before .before .before .args .novelty)) (c .before .before .before .before .before .before .before .before .before .before .before .before .before .before .args .most) (sectionPeaks (now (c .before .before .before .before .before .before .before .before .before .before .before .before .before .before .args .novelty)) (c .before .before .before .before .before .before .before .before .before .before .before .before .before .before .args .gap)))
     (now (c .before .before .before .before .before .before .before .before .before .before .before .before .before .before .args .rows)) (c .before .before .before .before .before .mad-in .last .1 .1 .0) (c .pick-boundaries .result) (c .pick-boundaries .last .1 .1 .1 .1 .0) (c .pick-boundaries .last .1 .1 .1 .1 .1 .0)
 picked c =
     let mad = c .before .before .before .before .before in

@@ -3,7 +3,7 @@ use mathlib.Core.Path.{ap, _∙_}
 use Prim.Native.Nat.{max}
 use Rattle.floats.specs.Wholes.{ceilOf}
 use Rattle.numbers.specs.Rounded.{_⊘_}
-use Rattle.sections.specs.Boundaries.{gapMs, gapOf}
+use Rattle.sections.specs.Boundaries.{sectionGapMs, sectionGap}
 use borrow.Author.Needs.{needs}
 use Rattle.sections.proofs.section_gap.Statement.{statement}
 use Rattle.sections.proofs.section_gap.Tie as tie
@@ -18,10 +18,10 @@ greatest-requires : tie.Need-greatest-requires
 greatest-requires c κs = search needs
 
 returns : tie.Need-returns
-unfolding gapOf
+unfolding sectionGap
 returns c =
     let g = c .before in
-    c .greatest .ensures ∙ ap (max 1) (g .ceil-of .ensures ∙ ap (λ x. ceilOf (gapMs ⊘ x)) (g .before .frame-ms .ensures))
+    c .greatest .ensures ∙ ap (max 1) (g .ceil-of .ensures ∙ ap (λ x. ceilOf (sectionGapMs ⊘ x)) (g .before .frame-ms .ensures))
 
 pub section-gap-spec : {M : Type 1} → statement M
 section-gap-spec =

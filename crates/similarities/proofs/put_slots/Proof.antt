@@ -10,7 +10,7 @@ use lib.Ieee.{Float, nan}
 use Rattle.numbers.specs.Lists.{filled}
 use Rattle.numbers.proofs.Overs.{length-row}
 use Rattle.row_pairs.specs.Pairs.{featureRow, dotOf}
-use Rattle.similarities.specs.Lanes.{columnOf, laneQuotient, settledFrom}
+use Rattle.similarities.specs.Lanes.{turnedColumn, laneQuotient, settledFrom}
 use Rattle.similarities.proofs.Blocks.{row-slots}
 use Rattle.similarities.proofs.put_slots.Statement.{statement}
 use Rattle.similarities.proofs.put_slots.Tie as tie
@@ -62,8 +62,8 @@ returns c =
     let wrote : c .before .before .put-row .last .1 .1 .1 .1 .0 ≡ filled (settledFrom quotients norms column (i * 17)) (now (a .similarity)) (i * 17) (i * 17 + 17) =
     c .before .before .put-row .ensures in
     let divided : quotients ≡ filled (laneQuotient sums norms column) sums 0 17 = v .divide .ensures in
-    let others : (e : ℕ) → 0 < e → e < 17 → getD sums e nan ≡ dotOf (featureRow features i) (columnOf (now (a .turned)) (column + e)) =
-    λ e p q. d .row-dots .ensures .2 e p q ∙ ap (λ (x : List Float). dotOf x (columnOf (now (a .turned)) (column + e))) (f .feature-row .ensures) in
+    let others : (e : ℕ) → 0 < e → e < 17 → getD sums e nan ≡ dotOf (featureRow features i) (turnedColumn (now (a .turned)) (column + e)) =
+    λ e p q. d .row-dots .ensures .2 e p q ∙ ap (λ (x : List Float). dotOf x (turnedColumn (now (a .turned)) (column + e))) (f .feature-row .ensures) in
     wrote
     ∙ row-slots features (a .rows) (a .first) (now (a .turned)) (now (a .squares)) norms (s .pre .0) (s .pre .5) i column place (omega arith) (s .pre .2) sums quotients
     (d .row-dots .ensures .0) (d .row-dots .ensures .1) others divided (now (a .similarity))

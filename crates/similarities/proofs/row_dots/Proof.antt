@@ -13,7 +13,7 @@ use Rattle.numbers.specs.Rounded.{_⊕_, _⊗_, nought, sumFrom}
 use Rattle.numbers.specs.Lists.{filled}
 use Rattle.numbers.proofs.Tabs.{length-filled, getD-filled-in}
 use Rattle.row_pairs.specs.Pairs.{products, dotOf}
-use Rattle.similarities.specs.Lanes.{columnOf, laneProduct}
+use Rattle.similarities.specs.Lanes.{turnedColumn, laneProduct}
 use Rattle.row_pairs.proofs.Slots.{dot-next, dot-end}
 use Rattle.similarities.proofs.Blocks.{length-column, getD-column}
 use Rattle.similarities.proofs.row_dots.Statement.{statement}
@@ -24,7 +24,7 @@ Inv-loop row turned c own sums₀ k₀ sums k =
     (k ≤ 16)
     × (length sums ≡ 17)
     × ((d : ℕ) → 0 < d → d < 17
-    → sumFrom (getD sums d nan) (products (drop k row) (drop k (columnOf turned (c + d)))) ≡ dotOf row (columnOf turned (c + d)))
+    → sumFrom (getD sums d nan) (products (drop k row) (drop k (turnedColumn turned (c + d)))) ≡ dotOf row (turnedColumn turned (c + d)))
 
 abbrev μ-loop : tie.MeasureT-loop
 μ-loop row turned c own sums₀ k₀ sums k = 16 - k
@@ -35,7 +35,7 @@ loop-holds c =
     let a = c .before .args in (
       omega arith,
       refl,
-      λ d p q. ap (λ (x : Float). sumFrom x (products (now (a .row)) (columnOf (now (a .turned)) (a .c + d)))) (getD-replicate 17 d nought nan q),
+      λ d p q. ap (λ (x : Float). sumFrom x (products (now (a .row)) (turnedColumn (now (a .turned)) (a .c + d)))) (getD-replicate 17 d nought nan q),
     )
 
 mul-add-products : tie.Need-mul-add-products Inv-loop μ-loop
@@ -77,7 +77,7 @@ loop-again c =
       omega arith,
       ap length e ∙ length-filled f was 1 17 (omega arith) (omega arith) ∙ m,
       λ d p q.
-          let column = columnOf turned (a .c + d) in
+          let column = turnedColumn turned (a .c + d) in
           let there : getD column k nan ≡ getD turned (at + d) nan =
           getD-column turned (a .c + d) k (omega arith) ∙ ap (λ (n : ℕ). getD turned n nan) (sym (add-assoc (k * 128) (a .c) d)) in
           let step : getD next d nan ≡ getD was d nan ⊕ getD row k nan ⊗ getD column k nan =
@@ -101,7 +101,7 @@ returns c =
       getD-set-same sums 0 (a .own) nan (omega arith),
       λ d p q.
           getD-set-other sums 0 d (a .own) nan (λ (z : d ≡ 0). omega arith)
-          ∙ sym (dot-end (getD sums d nan) (now (a .row)) (columnOf (now (a .turned)) (a .c + d)) (l .loop .k) (omega arith))
+          ∙ sym (dot-end (getD sums d nan) (now (a .row)) (turnedColumn (now (a .turned)) (a .c + d)) (l .loop .k) (omega arith))
           ∙ l .loop .inv .2 d p q,
     )
 

@@ -2,8 +2,8 @@
 -- Assumes nothing.
 use Prim.Native.Nat.{_<_}
 use lib.ListN.{length}
-use Rattle.candidates.proofs.Rankings.{first-slot}
-use Rattle.candidates.proofs.Accepts.{one-candidate, two-candidates, three-candidates}
+use Rattle.lag_candidates.proofs.Rankings.{first-slot}
+use Rattle.lag_candidates.proofs.Accepts.{one-candidate, two-candidates, three-candidates}
 use Rattle.tempo.proofs.Answers.{found-one, found-two, found-three}
 use borrow.Author.Needs.{needs}
 use Rattle.tempo.proofs.found.Statement.{statement}

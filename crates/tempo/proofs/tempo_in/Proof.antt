@@ -33,8 +33,8 @@ returns-2 : tie.Need-returns-2
 returns-2 c =
     told-none _ _ _ _ _ _ _ _ _ _ (c .before .before .before .before .before .before .winning-lag .ensures) (sym (c .before .before .before .before .before .before .before .before .before .before .too-little .ensures) ∙ c .before .before .before .before .before .before .before .before .before .if1 .left) _ (c .before .before .before .before .before .before .before .before .before .before .before .before .before .before .pre .0 .0) (c .before .if2 .taken) (c .without-tempo2 .ensures)
 
-room-of-requires : tie.Need-room-of-requires
-room-of-requires c κs = search needs
+lag-slots-requires : tie.Need-lag-slots-requires
+lag-slots-requires c κs = search needs
 
 sub-found : tie.Need-sub-found
 sub-found c = search needs
@@ -62,7 +62,7 @@ sub-found-3 c =
 found-requires : tie.Need-found-requires
 found-requires c κs =
     let s = c .before .before .before .before .before .before .before .before .before .before .before .before .before .before .before .before .before .before in
-    found-asks _ _ _ _ _ _ _ _ _ _ (c .before .before .before .before .before .before .before .before .before .before .winning-lag .ensures) (sym (c .before .before .before .before .before .before .before .before .before .before .before .before .before .before .too-little .ensures) ∙ c .before .before .before .before .before .before .before .before .before .before .before .before .before .if1 .left) (c .before .before .before .before .before .if2 .left) _ (c .before .before .before .before .room-of .ensures)
+    found-asks _ _ _ _ _ _ _ _ _ _ (c .before .before .before .before .before .before .before .before .before .before .winning-lag .ensures) (sym (c .before .before .before .before .before .before .before .before .before .before .before .before .before .before .too-little .ensures) ∙ c .before .before .before .before .before .before .before .before .before .before .before .before .before .if1 .left) (c .before .before .before .before .before .if2 .left) _ (c .before .before .before .before .lag-slots .ensures)
     (s .pre .0 .0)
     (s .pre .0 .1)
     (s .pre .0 .2)
@@ -75,7 +75,7 @@ same-length-4 c = search needs
 
 returns-3 : tie.Need-returns-3
 returns-3 c =
-    told-found _ _ _ _ _ _ _ _ _ _ (c .before .before .before .before .before .before .before .before .before .before .before .winning-lag .ensures) (sym (c .before .before .before .before .before .before .before .before .before .before .before .before .before .before .before .too-little .ensures) ∙ c .before .before .before .before .before .before .before .before .before .before .before .before .before .before .if1 .left) (c .before .before .before .before .before .before .if2 .left) _ (c .before .before .before .before .before .room-of .ensures) _ (c .found .ensures)
+    told-found _ _ _ _ _ _ _ _ _ _ (c .before .before .before .before .before .before .before .before .before .before .before .winning-lag .ensures) (sym (c .before .before .before .before .before .before .before .before .before .before .before .before .before .before .before .too-little .ensures) ∙ c .before .before .before .before .before .before .before .before .before .before .before .before .before .before .if1 .left) (c .before .before .before .before .before .before .if2 .left) _ (c .before .before .before .before .before .lag-slots .ensures) _ (c .found .ensures)
 
 pub tempo-in-spec : {M : Type 1} → statement M
 tempo-in-spec =
@@ -89,7 +89,7 @@ tempo-in-spec =
     same-length
     same-length-2
     returns-2
-    room-of-requires
+    lag-slots-requires
     sub-found
     part-found-start
     part-found-end

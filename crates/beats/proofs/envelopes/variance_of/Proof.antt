@@ -10,7 +10,8 @@ use lib.ListN.{length, drop, getD, drop-of-length-le}
 use lib.Seq.{drop-cons}
 use lib.Ieee.{Float, nan}
 use Rattle.numbers.specs.Rounded.{_⊕_, _⊘_, nought, sumFrom, sumOf}
-use Rattle.beats.specs.Envelopes.{meanOf, squareAbout, varianceOf}
+use Rattle.lists.specs.Means.{meanOf}
+use Rattle.beats.specs.Envelopes.{squareAbout, varianceOf}
 use borrow.Author.Needs.{needs}
 use Rattle.beats.proofs.envelopes.variance_of.Statement.{statement}
 use Rattle.beats.proofs.envelopes.variance_of.Tie as tie
@@ -58,8 +59,8 @@ loop-again c =
       sum-step (squareAbout (m .mean-of .result)) (l .loop .sum) (now (m .before .before .args .xs)) (l .loop .i) (omega arith) ∙ l .loop .inv .1,
     )
 
-nearest-u64-to-f64-requires : tie.Need-nearest-u64-to-f64-requires Inv-loop μ-loop
-nearest-u64-to-f64-requires c κs = search needs
+float-of-requires : tie.Need-float-of-requires Inv-loop μ-loop
+float-of-requires c κs = search needs
 
 returns : tie.Need-returns Inv-loop μ-loop
 unfolding varianceOf
@@ -67,10 +68,10 @@ returns c =
     let l = c .before .before in
     let m = l .before in
     let xs = now (m .before .before .args .xs) in
-    ap (λ (x : Float). x ⊘ c .nearest-u64-to-f64 .result)
+    ap (λ (x : Float). x ⊘ c .float-of .result)
     (sum-end (squareAbout (m .mean-of .result)) (l .loop .sum) xs (l .loop .i) (c .before .loop-test .left) ∙ l .loop .inv .1
     ∙ ap (λ (mean : Float). sumOf (map (squareAbout mean) xs)) (m .mean-of .ensures))
-    ∙ ap (λ (x : Float). sumOf (map (squareAbout (meanOf xs)) xs) ⊘ x) (c .nearest-u64-to-f64 .ensures)
+    ∙ ap (λ (x : Float). sumOf (map (squareAbout (meanOf xs)) xs) ⊘ x) (c .float-of .ensures)
 
 pub variance-of-spec : {M : Type 1} → statement M
 variance-of-spec =
@@ -85,5 +86,5 @@ variance-of-spec =
     add-i
     loop-less
     loop-again
-    nearest-u64-to-f64-requires
+    float-of-requires
     returns)

@@ -6,7 +6,7 @@ use Prim.Native.Nat.{ℕ, _+_, _≤_, _<_}
 use native.Mathlib.Omega.{arith}
 use denote.Ref.{now}
 use lib.ListN.{length, getD, length-append}
-use Rattle.links.specs.Extensions.{noLink}
+use Rattle.beat_links.specs.Extensions.{noLink}
 use Rattle.beats.specs.Grids.{linkAt, beatsTo}
 use Rattle.beats.specs.Inner.{Descends}
 use Rattle.beats.proofs.Walks.{link-read, beats-after, beats-alone, beats-few}

@@ -9,11 +9,12 @@ use lib.ListN.{length, getD}
 use lib.Ieee.{Float, nan}
 use Rattle.numbers.specs.Lists.{listed}
 use Rattle.numbers.proofs.Tabs.{getD-listed-in}
-use Rattle.links.specs.declared.Best.{Best}
-use Rattle.links.specs.Extensions.{noLink, greatest}
-use Rattle.links.proofs.Greatest.{best, greatest-ext}
+use Rattle.lists.specs.declared.Best.{Best}
+use Rattle.lists.specs.Greatest.{greatest, valueAt, firstGreatest}
+use Rattle.beat_links.specs.Extensions.{noLink}
+use Rattle.lists.proofs.Greatest.{best, greatest-ext}
 use Rattle.beats.specs.Scores.{scores, links}
-use Rattle.beats.specs.Grids.{valueAt, linkAt, firstGreatest, beatsTo, grid}
+use Rattle.beats.specs.Grids.{linkAt, beatsTo, grid}
 use Rattle.beats.specs.Inner.{Tracked, Descends}
 use Rattle.beats.proofs.Chains.{length-scores, length-links, links-descend}
 use Rattle.beats.proofs.Walks.{beats-same}
@@ -28,7 +29,7 @@ module _ (period : ℕ) (flux : ℕ → Float) (n : ℕ) (score₀ score : List 
   link-written : (t : ℕ) → t < n → linkAt back t ≡ linkAt (links period flux n) t
   link-written t h = ap (λ (l : List ℕ). getD l t noLink) (w .links-are) ∙ getD-listed-in (links period flux n) back₀ t noLink (omega (arith, length-links period flux n))
 
-  first-read : 1 ≤ n → firstGreatest score n ≡ firstGreatest (scores period flux n) n
+  first-read : 1 ≤ n → firstGreatest (valueAt score) n ≡ firstGreatest (valueAt (scores period flux n)) n
   unfolding firstGreatest
   first-read h =
       ap (λ (b : Best). b .at)
@@ -42,7 +43,7 @@ module _ (period : ℕ) (flux : ℕ → Float) (n : ℕ) (score₀ score : List 
         omega (arith, e, links-descend period flux n some end inside u h (λ z. has (e ∙ z)))
 
     -- the beats are the definition's
-    walks : end ≡ firstGreatest score n → beatsTo (linkAt back) end ≡ grid period flux n
+    walks : end ≡ firstGreatest (valueAt score) n → beatsTo (linkAt back) end ≡ grid period flux n
     unfolding grid
     walks e =
         beats-same (linkAt back) (linkAt (links period flux n)) end (λ u h. link-written u (omega arith)) down end (omega arith)

@@ -9,7 +9,7 @@ use denote.Ref.{now}
 use lib.ListN.{length, getD, set, drop, length-append, length-set}
 use lib.Seq.{append-snoc}
 use Rattle.numbers.specs.Lists.{listed}
-use Rattle.links.specs.Extensions.{noLink}
+use Rattle.beat_links.specs.Extensions.{noLink}
 use Rattle.beats.specs.Grids.{linkAt, beatsTo}
 use Rattle.beats.specs.Inner.{Descends}
 use Rattle.beats.proofs.Walks.{link-read, ends, beats-after, beats-alone, beats-some, beats-few}

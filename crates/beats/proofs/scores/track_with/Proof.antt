@@ -12,9 +12,9 @@ use lib.Ieee.{Float, nan}
 use Rattle.numbers.specs.Rounded.{_⊕_}
 use Rattle.numbers.specs.Lists.{curve, filled, listed}
 use Rattle.numbers.proofs.Tabs.{length-tab, filled-none, filled-more, filled-whole, listed-none, listed-more, getD-listed-in}
-use Rattle.links.specs.declared.Best.{Best}
-use Rattle.links.specs.Extensions.{extension}
-use Rattle.links.proofs.Extensions.{extension-same}
+use Rattle.lists.specs.declared.Best.{Best}
+use Rattle.beat_links.specs.Extensions.{extension}
+use Rattle.beat_links.proofs.Extensions.{extension-same}
 use Rattle.beats.specs.Envelopes.{scaledBy}
 use Rattle.beats.specs.Scores.{scores, linkOf, links}
 use Rattle.beats.proofs.Chains.{length-scores, scores-begin, grown}

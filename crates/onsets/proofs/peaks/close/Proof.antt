@@ -5,14 +5,14 @@ use native.Mathlib.Omega.{arith}
 use denote.Ref.{now}
 use borrow.Author.Needs.{needs}
 use lib.ListN.{length}
-use Rattle.onsets.specs.Steps.{one}
+use Rattle.numbers.specs.Lists.{oneIf}
 use Rattle.onsets.proofs.Steps.{closed-none, closed-last}
 use Rattle.onsets.proofs.peaks.close.Statement.{statement}
 use Rattle.onsets.proofs.peaks.close.Tie as tie
 
 -- an open group has a slot
 room : (c : tie.Then1) → c .before .args .group .count < length (now (c .before .args .frames))
-room c = let a : one (c .before .args .group .opened) ≡ 1 = ap one (c .if1 .taken) in omega arith
+room c = let a : oneIf (c .before .args .group .opened) ≡ 1 = ap oneIf (c .if1 .taken) in omega arith
 
 cast-frames : tie.Need-cast-frames
 cast-frames c = search needs

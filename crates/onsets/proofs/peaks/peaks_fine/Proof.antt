@@ -11,7 +11,8 @@ use borrow.Author.Tests.{le-leb, lt-leb, lt-ltb, le-ltb}
 use lib.Dec.{leb, ltb}
 use lib.ListN.{length, drop, getD}
 use Rattle.numbers.proofs.Everys.{every-step, every-end}
-use Rattle.onsets.specs.Peaks.{ascending, pointInto}
+use Rattle.numbers.specs.Lists.{ascending}
+use Rattle.onsets.specs.Peaks.{pointInto}
 use Rattle.onsets.proofs.Picks.{ascending-step, ascending-end}
 use Rattle.onsets.proofs.peaks.peaks_fine.Statement.{statement}
 use Rattle.onsets.proofs.peaks.peaks_fine.Tie as tie

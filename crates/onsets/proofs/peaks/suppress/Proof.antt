@@ -10,8 +10,9 @@ use borrow.Author.Tests.{ltb-true}
 use lib.Dec.{ltb}
 use lib.ListN.{length, drop, getD, drop-of-length-le}
 use Rattle.numbers.proofs.Everys.{every-at}
-use Rattle.onsets.specs.Peaks.{ascending, suppressed}
-use Rattle.onsets.specs.Steps.{one, Going}
+use Rattle.numbers.specs.Lists.{oneIf, ascending}
+use Rattle.onsets.specs.Peaks.{suppressed}
+use Rattle.onsets.specs.Steps.{Going}
 use Rattle.onsets.proofs.Picks.{ascending-at, ascending-rest}
 use Rattle.onsets.proofs.Steps.{going-start, going-next}
 use Rattle.onsets.proofs.peaks.suppress.Statement.{statement}
@@ -19,7 +20,7 @@ use Rattle.onsets.proofs.peaks.suppress.Tie as tie
 
 abbrev Inv-loop : tie.InvT-loop
 Inv-loop peaks curve gap frames₀ group₀ i₀ frames group i =
-    (i ≤ length peaks) × (length frames ≡ length frames₀) × (group .count + one (group .opened) ≤ i) × (group .best < 4294967296)
+    (i ≤ length peaks) × (length frames ≡ length frames₀) × (group .count + oneIf (group .opened) ≤ i) × (group .best < 4294967296)
     × (ascending (group .best) (drop i peaks) ≡ true)
     × Going curve gap (suppressed curve gap peaks) (drop i peaks) frames₀ group frames
 

@@ -2,9 +2,8 @@
 use mathlib.Core.Path.{_≡_, refl, sym}
 use mathlib.Core.Bool.{true}
 use lib.Ieee.{le, ofBits}
-use Rattle.numbers.specs.Rounded.{nought}
+use Rattle.numbers.specs.Rounded.{nought, one}
 use Rattle.sizes.proofs.Ranges.{held-below, held-above, held-inside}
-use Rattle.sections.specs.Confidence.{one}
 use Rattle.sections.proofs.Confidences.{zero-one}
 use Rattle.sections.proofs.confidence.unit_of.Statement.{statement}
 use Rattle.sections.proofs.confidence.unit_of.Tie as tie

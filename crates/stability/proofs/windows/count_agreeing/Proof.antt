@@ -9,11 +9,12 @@ use borrow.Author.Needs.{needs}
 use native.Mathlib.Omega.{arith}
 use lib.ListN.{length, drop}
 use lib.Ieee.{Float, nan}
+use Rattle.numbers.specs.Outcomes.{Open}
 use Rattle.lags.specs.Lags.{lagRoom}
 use Rattle.lags.specs.Pairs.{folds, foldFits, some, agrees}
 use Rattle.lags.proofs.Searches.{some-found, some-next, some-end}
 use Rattle.lag_search.specs.Search.{winningLag}
-use Rattle.stability.specs.Windows.{windowAt, agreeingTo, Open}
+use Rattle.stability.specs.Windows.{windowAt, agreeingTo}
 use Rattle.stability.proofs.Rooms.{open-same, open-then, open-filled}
 use Rattle.stability.proofs.Parts.{window-ends, part-is, part-long, next-without, next-agrees, next-differs}
 use Rattle.stability.proofs.windows.count_agreeing.Statement.{statement}

@@ -17,8 +17,8 @@ returns c = window-flat _ _ _ _ _ _ (c .before .before .mean-of .ensures) (c .be
 fill-clarity-requires : tie.Need-fill-clarity-requires
 fill-clarity-requires c κs = search needs
 
-room-of-requires : tie.Need-room-of-requires
-room-of-requires c κs = search needs
+lag-slots-requires : tie.Need-lag-slots-requires
+lag-slots-requires c κs = search needs
 
 weigh-requires : tie.Need-weigh-requires
 weigh-requires c κs = search needs
@@ -47,7 +47,7 @@ returns-2 c =
     let t = f .before .before in
     let s = t .before .before .before .before .before .before .before in
     window-written _ _ _ _ _ _ (t .before .before .mean-of .ensures) (t .before .energy-of .ensures) _ _ _ _ _ _ (t .if1 .left)
-    (c .before .before .before .before .before .before .before .before .room-of .ensures)
+    (c .before .before .before .before .before .before .before .before .lag-slots .ensures)
     (s .pre .1 .1)
     (s .pre .1 .2)
     (f .fill-clarity .ensures)
@@ -62,7 +62,7 @@ window-lag-spec =
     energy-of-requires
     returns
     fill-clarity-requires
-    room-of-requires
+    lag-slots-requires
     weigh-requires
     sub-lag-of-winner
     part-lag-of-winner-start

@@ -1,5 +1,0 @@
--- The laws that other crates cite.
-pub mod Greatest
-pub mod Eights
-pub mod Extensions
-pub mod PassedOver

@@ -1,0 +1,414 @@
+// Runs the calls of `rooms` and `analysis` on a track of clicks, on both sides of each boundary, and prints what they answer and leave; the file stdout holds
+// what must come out.
+//
+// The clicks are four frames apart, from frame 1 on, at rate 2,048: eight frames a second, so 120 beats a minute. The lags are 2 to 16.
+//
+// The cases stand in tables, one to a line, with bars between the columns: the label, then the numbers that the function
+// of that name takes, where (1) is column 1, and here and there what they are about.
+ghost use Prim.Native.Nat.{_≤_, _+_};
+ghost use lib.ListN.{length};
+use options::TempoOpts;
+use stability::Stability;
+use tempo::Candidate;
+use tempo::Tempo;
+use track::Analysis;
+
+const ENVELOPE: usize = 1;
+
+const MAGNITUDES: usize = 2;
+
+const ROOM: usize = 3;
+
+fn main() {
+    clicks();
+    magnitudes();
+    rooms();
+    bounds();
+}
+
+fn table(call: usize, lines: &[u8]) {
+    let n = run_cases::marks(lines, b'\n');
+    let mut k = 0;
+    while k < n {
+        run(call, run_cases::part(lines, b'\n', k));
+        k += 1;
+    }
+}
+
+fn run(call: usize, line: &[u8]) {
+    run_show::words(run_cases::part(line, b'|', 0));
+    if call == ENVELOPE {
+        return of_envelope(line);
+    }
+    if call == MAGNITUDES {
+        return of_slab(line);
+    }
+    named(
+        run_cases::column(line, 1),
+        run_cases::column_u32(line, 2),
+        TempoOpts::new(),
+    );
+}
+
+fn tempo_is(t: Tempo) {
+    match t {
+        Tempo::None => run_show::words(b", no tempo"),
+        Tempo::Found { bpm, clarity } => {
+            run_show::words(b", tempo");
+            run_show::float(bpm);
+            run_show::float(clarity);
+        }
+    }
+}
+
+fn stability_is(s: Stability) {
+    match s {
+        Stability::None => run_show::words(b", no stability"),
+        Stability::Share {
+            fraction,
+            agreeing,
+            windows,
+        } => {
+            run_show::words(b", stability");
+            run_show::float(fraction);
+            run_show::count(agreeing);
+            run_show::count(windows);
+        }
+    }
+}
+
+fn candidate_is(c: Candidate) {
+    run_show::count(c.lag);
+    run_show::float(c.salience);
+}
+
+fn candidates_are(c: [Candidate; 3], count: usize) {
+    run_show::words(b", candidates");
+    run_show::count(count);
+    candidate_is(c[0]);
+    candidate_is(c[1]);
+    candidate_is(c[2]);
+}
+
+fn answer(a: Analysis) {
+    let tempo = a.tempo;
+    let candidates = a.candidates;
+    let stability = a.stability;
+    run_show::small(a.number);
+    run_show::words(b", onsets");
+    run_show::count(a.onsets);
+    tempo_is(tempo);
+    candidates_are(candidates, a.count);
+    stability_is(stability);
+    run_show::words(b", beats");
+    run_show::count(a.beats);
+    run_show::words(b", downbeats");
+    run_show::count(a.downbeats);
+    run_show::end();
+}
+
+// So many slots of a slice are lent: one fewer than its room where `at` is the slice that is short; two more than its room where short is 12.
+fn slots(room: usize, at: usize, short: usize) -> usize
+    requires { ⌜ room ≤ 48 ⌝ }
+    ensures { λ r. ⌜ r ≤ room + 2 ⌝ }
+{
+    if short == 12 {
+        return room + 2;
+    }
+    if at == short {
+        return numbers::less(room, 1);
+    }
+    room
+}
+
+// A curve's first two slots, and the two past its room.
+fn curve(label: &[u8], xs: &[f64], room: usize)
+    requires { ⌜ (2 ≤ length (now xs)) × (room ≤ length (now xs)) ⌝ }
+{
+    run_show::words(label);
+    run_show::floats(&xs[0..2]);
+    run_show::words(b" ..");
+    run_show::floats(&xs[room..]);
+    run_show::end();
+}
+
+fn list(label: &[u8], xs: &[u32]) {
+    run_show::words(label);
+    run_show::smalls(xs);
+    run_show::end();
+}
+
+fn curves_are(threshold: &[f64; 50], clarity: &[f64; 17], weight: &[f64; 17], score: &[f64; 50]) {
+    curve(b"threshold", threshold, 48);
+    curve(b"clarity", clarity, 15);
+    curve(b"weight", weight, 15);
+    curve(b"score", score, 48);
+}
+
+fn past(xs: &[f64], room: usize)
+    requires { ⌜ room ≤ length (now xs) ⌝ }
+{
+    run_show::floats(&xs[room..]);
+}
+
+// What is worked in, past its room.
+fn worked_in(clarity: &[f64; 17], weight: &[f64; 17], work: &[f64; 23]) {
+    run_show::words(b"past what is worked in");
+    past(clarity, 15);
+    past(weight, 15);
+    past(work, 21);
+    run_show::end();
+}
+
+fn lists_are(onsets: &[u32; 50], back: &[u32; 50], beats: &[u32; 50], downbeats: &[u32; 50]) {
+    list(b"onsets", onsets);
+    list(b"back", back);
+    list(b"beats", beats);
+    list(b"downbeats", downbeats);
+}
+
+// Analyses an envelope with the slice `short` of the eleven, counted from 1, one slot short; 0: exactly the room; 12: two slots more in each.
+// Every slice is shown with two slots past its room.
+fn lent(envelope: &[f64], rate: u32, short: usize) {
+    let mut threshold = [9.0f64; 50];
+    let mut onsets = [77u32; 50];
+    let mut clarity = [9.0f64; 17];
+    let mut weight = [9.0f64; 17];
+    let mut window_clarity = [9.0f64; 17];
+    let mut window_weight = [9.0f64; 17];
+    let mut score = [9.0f64; 50];
+    let mut back = [77u32; 50];
+    let mut beats = [77u32; 50];
+    let mut downbeats = [77u32; 50];
+    let mut work = [9.0f64; 23];
+    answer(analysis::analyse_envelope(
+        envelope,
+        rate,
+        TempoOpts::new(),
+        &mut threshold[0..slots(48, 1, short)],
+        &mut onsets[0..slots(48, 2, short)],
+        &mut clarity[0..slots(15, 3, short)],
+        &mut weight[0..slots(15, 4, short)],
+        &mut window_clarity[0..slots(15, 5, short)],
+        &mut window_weight[0..slots(15, 6, short)],
+        &mut score[0..slots(48, 7, short)],
+        &mut back[0..slots(48, 8, short)],
+        &mut beats[0..slots(48, 9, short)],
+        &mut downbeats[0..slots(48, 10, short)],
+        &mut work[0..slots(21, 11, short)],
+    ));
+    curves_are(&threshold, &clarity, &weight, &score);
+    worked_in(&window_clarity, &window_weight, &work);
+    lists_are(&onsets, &back, &beats, &downbeats);
+}
+
+// The first (1) slots of the clicks, or of no numbers where (4) is 1, at rate (2), with slice (3) short.
+fn of_envelope(line: &[u8]) {
+    let e = envelope_of(run_cases::column(line, 4));
+    lent(
+        &e[0..run_cases::column_within(line, 1, 48)],
+        run_cases::column_u32(line, 2),
+        run_cases::column(line, 3),
+    );
+}
+
+fn envelope_of(odd: usize) -> [f64; 48] {
+    let mut e = [0.0f64 / 0.0; 48];
+    if odd == 1 {
+        return e;
+    }
+    run_cases::spell(b"040004000400040004000400040004000400040004000400", &mut e);
+    e
+}
+
+// Two slots more in each slice; exactly the room, then each of the eleven slices one short; and what is refused.
+fn clicks() {
+    table(
+        ENVELOPE,
+        b"clicks:|48|2048|12
+seventeen slots of them:|17|2048|12
+one of them:|4|2048|12
+short 0:|48|2048|0
+short 1:|48|2048|1
+short 2:|48|2048|2
+short 3:|48|2048|3
+short 4:|48|2048|4
+short 5:|48|2048|5
+short 6:|48|2048|6
+short 7:|48|2048|7
+short 8:|48|2048|8
+short 9:|48|2048|9
+short 10:|48|2048|10
+short 11:|48|2048|11
+a NaN:|48|2048|0|1
+3 before 4:|48|2048|11|1
+rate 0:|48|0|0
+rate 192,001:|48|192001|0
+1 before 3:|48|0|11\n",
+    );
+}
+
+// The magnitudes whose flux is the clicks.
+const CLICKS: [f32; 48] = [
+    0.0,
+    4.0,
+    0.0,
+    0.0,
+    0.0,
+    4.0,
+    0.0,
+    0.0,
+    0.0,
+    4.0,
+    0.0,
+    0.0,
+    0.0,
+    4.0,
+    0.0,
+    0.0,
+    0.0,
+    4.0,
+    0.0,
+    0.0,
+    0.0,
+    4.0,
+    0.0,
+    0.0,
+    0.0,
+    4.0,
+    0.0,
+    0.0,
+    0.0,
+    4.0,
+    0.0,
+    0.0,
+    0.0,
+    4.0,
+    0.0,
+    0.0,
+    0.0,
+    4.0,
+    0.0,
+    0.0,
+    0.0,
+    4.0,
+    0.0,
+    0.0,
+    0.0,
+    4.0,
+    0.0,
+    0.0,
+];
+
+// The magnitudes, and what is refused of them.
+fn magnitudes() {
+    table(
+        MAGNITUDES,
+        b"magnitudes 0:|48|48|1|48|0|clicks of one bin
+magnitudes 1:|48|24|2|48|0|two bins
+magnitudes 2:|48|48|1|47|0|flux one short
+magnitudes 3:|0|48|0|48|0|no bins
+magnitudes 4:|48|0|4097|48|0|4,097 bins
+magnitudes 5:|47|24|2|48|0|half a row
+magnitudes 6:|0|0|1|48|0|no rows
+magnitudes 7:|0|1048577|1|48|0|1,048,577 rows
+magnitudes 8:|47|24|2|23|0|2 before 3
+an infinity:|48|48|1|48|1\n",
+    );
+}
+
+// The first (1) of the magnitudes, or of infinities where (5) is 1, (2) rows of (3) bins, and room (4) for the flux.
+fn of_slab(line: &[u8]) {
+    let m = slab_of(run_cases::column(line, 5));
+    of_magnitudes(
+        &m[0..run_cases::column_within(line, 1, 48)],
+        run_cases::column(line, 2),
+        run_cases::column(line, 3),
+        run_cases::column(line, 4),
+    );
+}
+
+fn slab_of(odd: usize) -> [f32; 48] {
+    if odd == 1 {
+        return [1.0f32 / 0.0; 48];
+    }
+    CLICKS
+}
+
+// Everything but the flux has exactly its room; the flux is shown with the slots that are not lent.
+fn of_magnitudes(magnitudes: &[f32], rows: usize, bins: usize, room: usize) {
+    let mut flux = [9.0f64; 48];
+    let mut threshold = [9.0f64; 48];
+    let mut onsets = [77u32; 48];
+    let mut clarity = [9.0f64; 15];
+    let mut weight = [9.0f64; 15];
+    let mut window_clarity = [9.0f64; 15];
+    let mut window_weight = [9.0f64; 15];
+    let mut score = [9.0f64; 48];
+    let mut back = [77u32; 48];
+    let mut beats = [77u32; 48];
+    let mut downbeats = [77u32; 48];
+    let mut work = [9.0f64; 21];
+    answer(analysis::analyse_magnitudes(
+        magnitudes,
+        rows,
+        bins,
+        2048,
+        TempoOpts::new(),
+        &mut flux[0..numbers::least(room, 48)],
+        &mut threshold,
+        &mut onsets,
+        &mut clarity,
+        &mut weight,
+        &mut window_clarity,
+        &mut window_weight,
+        &mut score,
+        &mut back,
+        &mut beats,
+        &mut downbeats,
+        &mut work,
+    ));
+    flux_is(&flux);
+}
+
+fn flux_is(flux: &[f64; 48]) {
+    curve(b"flux", flux, 46);
+}
+
+// The room of an analysis: number, N, L and the sorting room.
+fn named(rows: usize, rate: u32, opts: TempoOpts) {
+    let r = rooms::room_of(rows, rate, opts);
+    run_show::small(r.number);
+    run_show::count(r.rows);
+    run_show::count(r.lags);
+    run_show::count(r.sorting);
+    run_show::end();
+}
+
+// N frames of so many minutes: 1 + (samples - 1,024) div 256. 3, 10 and 60 minutes at 44,100 and at 48,000, then the bounds of both.
+fn rooms() {
+    table(
+        ROOM,
+        b"frames, rate 31004 44100:|31004|44100
+frames, rate 103356 44100:|103356|44100
+frames, rate 620153 44100:|620153|44100
+frames, rate 33747 48000:|33747|48000
+frames, rate 112497 48000:|112497|48000
+frames, rate 674997 48000:|674997|48000
+frames, rate 0 1:|0|1
+frames, rate 1048576 48000:|1048576|48000
+frames, rate 1048577 48000:|1048577|48000
+frames, rate 48 0:|48|0
+frames, rate 48 192001:|48|192001
+frames, rate 20 2048:|20|2048
+frames, rate 48 2048:|48|2048\n",
+    );
+}
+
+fn bounds() {
+    let nan = 0.0f64 / 0.0;
+    run_show::words(b"a bound that is a NaN:");
+    named(48, 48000, TempoOpts::between(30.0, nan));
+    run_show::words(b"0 and 0:");
+    named(48, 48000, TempoOpts::between(0.0, 0.0));
+}

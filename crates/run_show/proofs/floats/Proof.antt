@@ -1,0 +1,51 @@
+-- `run_show::floats` is safe and ends: the index stays within the list, and the measure is what is left of it. Assumes nothing.
+use Prim.Native.Nat.{_≤_, _-_}
+use lib.ListN.{length}
+use borrow.Author.Needs.{needs}
+use Rattle.run_show.proofs.floats.Statement.{statement}
+use Rattle.run_show.proofs.floats.Tie as tie
+
+abbrev Inv-loop : tie.InvT-loop
+Inv-loop xs i₀ i = i ≤ length xs
+
+abbrev μ-loop : tie.MeasureT-loop
+μ-loop xs i₀ i = length xs - i
+
+loop-holds : tie.Need-loop-holds Inv-loop μ-loop
+loop-holds c = search needs
+
+mul-float : tie.Need-mul-float Inv-loop μ-loop
+mul-float c = search needs
+
+shared-slice-read-float : tie.Need-shared-slice-read-float Inv-loop μ-loop
+shared-slice-read-float c = search needs
+
+float-requires : tie.Need-float-requires Inv-loop μ-loop
+float-requires c κs = search needs
+
+add-i : tie.Need-add-i Inv-loop μ-loop
+add-i c = search needs
+
+loop-less : tie.Need-loop-less Inv-loop μ-loop
+loop-less c = search needs
+
+loop-again : tie.Need-loop-again Inv-loop μ-loop
+loop-again c = search needs
+
+returns : tie.Need-returns Inv-loop μ-loop
+returns c = search needs
+
+pub floats-spec : {M : Type 1} → statement M
+floats-spec =
+    tie.close
+    (tie.spec
+    Inv-loop
+    μ-loop
+    loop-holds
+    mul-float
+    shared-slice-read-float
+    float-requires
+    add-i
+    loop-less
+    loop-again
+    returns)
