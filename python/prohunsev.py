@@ -27,6 +27,7 @@ import ctypes
 import operator
 import os
 import pathlib
+import re
 import site
 import sys
 import threading
@@ -182,6 +183,83 @@ def _load():
 
 _library = _load()
 
+# what each exported function takes, in the words of crates/capi/src
+# ---- written by tools/header --write
+_EXPORTED = {
+    "ph_version": "",
+    "ph_median_of": "values: &[f64], work: &mut [f64], median: &mut f64",
+    "ph_mad_of": "values: &[f64], median: f64, work: &mut [f64], mad: &mut f64",
+    "ph_spectral_flux": "magnitudes: &[f32], rows: usize, bins: usize, flux: &mut [f64]",
+    "ph_adaptive_threshold": "flux: &[f64], threshold: &mut [f64], work: &mut [f64]",
+    "ph_pick_onsets": "flux: &[f64], threshold: &[f64], rate: u32, frames: &mut [u32], count: &mut usize",
+    "ph_suppress_close_peaks": "peaks: &[u32], curve: &[f64], gap: usize, frames: &mut [u32], count: &mut usize",
+    "ph_frame_times": "frames: &[u32], rate: u32, ms: &mut [f64]",
+    "ph_lag_range": "rate: u32, min_bpm: f64, max_bpm: f64, min_lag: &mut usize, max_lag: &mut usize",
+    "ph_estimate": (
+        "envelope: &[f64], onsets: usize, rate: u32, min_bpm: f64, max_bpm: f64, clarity_curve: &mut [f64], weight_curve: &mut [f64], "
+        "work: &mut [f64], found: &mut u32, bpm: &mut f64, clarity: &mut f64, lags: &mut [usize; 3], saliences: &mut [f64; 3], "
+        "count: &mut usize"),
+    "ph_stability_of": (
+        "envelope: &[f64], rate: u32, min_bpm: f64, max_bpm: f64, whole_lag: usize, clarity_curve: &mut [f64], "
+        "weight_curve: &mut [f64], work: &mut [f64], found: &mut u32, fraction: &mut f64, agreeing: &mut usize, windows: &mut usize"),
+    "ph_beat_grid": "envelope: &[f64], period: usize, score: &mut [f64], back: &mut [u32], beats: &mut [u32], count: &mut usize",
+    "ph_downbeats": "envelope: &[f64], beats: &[u32], frames: &mut [u32], count: &mut usize",
+    "ph_bar_beat_at": "time: f64, downbeats: &[f64], beats: &[f64], found: &mut u32, bar: &mut usize, beat: &mut usize",
+    "ph_similarity": "features: &[f64], rows: usize, similarity: &mut [f64]",
+    "ph_novelty": "similarity: &[f64], rows: usize, novelty: &mut [f64]",
+    "ph_boundaries": (
+        "novelty: &[f64], length: u64, rate: u32, max_sections: usize, rows: &mut [u32], work: &mut [f64], sections: &mut usize, "
+        "count: &mut usize, confidence: &mut f64"),
+    "ph_boundary_times": "rows: &[u32], length: u64, rate: u32, ms: &mut [f64]",
+    "ph_patch_magnitudes": (
+        "magnitudes: &mut [f32], rows: usize, bins: usize, start: usize, new_rows: &[f32], flux: &mut [f64], threshold: &mut [f64], "
+        "work: &mut [f64], flux_first: &mut usize, flux_past: &mut usize, threshold_first: &mut usize, threshold_past: &mut usize"),
+    "ph_patch_features": (
+        "features: &mut [f64], rows: usize, start: usize, new_rows: &[f64], similarity: &mut [f64], novelty: &mut [f64], "
+        "similarity_first: &mut usize, similarity_past: &mut usize, novelty_first: &mut usize, novelty_past: &mut usize"),
+    "ph_room_of": (
+        "rows: usize, rate: u32, min_bpm: f64, max_bpm: f64, row_slots: &mut usize, lag_slots: &mut usize, work_slots: &mut usize"),
+    "ph_analyse_envelope": (
+        "envelope: &[f64], rate: u32, min_bpm: f64, max_bpm: f64, threshold: &mut [f64], onsets: &mut [u32], "
+        "clarity_curve: &mut [f64], weight_curve: &mut [f64], window_clarity: &mut [f64], window_weight: &mut [f64], "
+        "score: &mut [f64], back: &mut [u32], beats: &mut [u32], downbeats: &mut [u32], work: &mut [f64], onset_count: &mut usize, "
+        "found: &mut u32, bpm: &mut f64, clarity: &mut f64, lags: &mut [usize; 3], saliences: &mut [f64; 3], count: &mut usize, "
+        "steady: &mut u32, fraction: &mut f64, agreeing: &mut usize, windows: &mut usize, beat_count: &mut usize, "
+        "downbeat_count: &mut usize"),
+    "ph_analyse_magnitudes": (
+        "magnitudes: &[f32], rows: usize, bins: usize, rate: u32, min_bpm: f64, max_bpm: f64, flux: &mut [f64], "
+        "threshold: &mut [f64], onsets: &mut [u32], clarity_curve: &mut [f64], weight_curve: &mut [f64], window_clarity: &mut [f64], "
+        "window_weight: &mut [f64], score: &mut [f64], back: &mut [u32], beats: &mut [u32], downbeats: &mut [u32], work: &mut [f64], "
+        "onset_count: &mut usize, found: &mut u32, bpm: &mut f64, clarity: &mut f64, lags: &mut [usize; 3], saliences: &mut [f64; 3], "
+        "count: &mut usize, steady: &mut u32, fraction: &mut f64, agreeing: &mut usize, windows: &mut usize, beat_count: &mut usize, "
+        "downbeat_count: &mut usize"),
+}
+# ---- up to here
+
+_TYPES = {"f32": ctypes.c_float, "f64": ctypes.c_double, "u32": ctypes.c_uint32, "u64": ctypes.c_uint64, "usize": ctypes.c_size_t}
+
+
+def _argument(kind):
+    """The C types of one parameter: a slice is a pointer and a length, a lent number a pointer, and so many of them are an array."""
+    lent, slice_, slot, many = re.fullmatch(r"(&(?:mut )?)?(\[)?(\w+)(?:; (\d+))?\]?", kind).groups()
+    if many:
+        return [_TYPES[slot] * int(many)]
+    return ([ctypes.POINTER(_TYPES[slot])] if lent else [_TYPES[slot]]) + ([ctypes.c_size_t] if slice_ else [])
+
+
+def _declare():
+    """Tells ctypes what each function takes, so that a word of another type is an error and not a call."""
+    for name, words in _EXPORTED.items():
+        try:
+            function = getattr(_library, name)
+        except AttributeError:
+            raise ImportError(f"{_library._name} has no {name}: {_REMEDY}") from None
+        kinds = re.findall(r"\w+: ([^,]+)", words)
+        function.restype, function.argtypes = ctypes.c_uint32, [word for kind in kinds for word in _argument(kind)]
+
+
+_declare()
+
 
 # ---- lending: a buffer's address and length, taken as the C interface of CPython gives them
 
@@ -282,6 +360,7 @@ class _Slice:
 
 _MOST_ROWS, _MOST_BINS, _MOST_FEATURE_ROWS = 1_048_576, 4_096, 50_000
 _FLOAT64, _FLOAT32, _UINT32 = ("float64", ("d",), 8), ("float32", ("f",), 4), ("uint32", ("I", "L"), 4)
+_SLOTS = {"float64": ctypes.c_double, "float32": ctypes.c_float, "uint32": ctypes.c_uint32}
 
 
 def _reals(name, lent):
@@ -436,13 +515,12 @@ def _call(call, *parts):
             if isinstance(part, _Slice):
                 view = part.take(call)
                 lent.append((part, view))
-                words.append(ctypes.c_void_p(view.buf if view.len else ctypes.addressof(_nowhere)))
-                words.append(ctypes.c_size_t(view.len // part.size))
+                words.append(ctypes.byref(_SLOTS[part.kind].from_address(view.buf if view.len else ctypes.addressof(_nowhere))))
+                words.append(view.len // part.size)
             else:
                 words.append(part)
         _apart(call, lent)
         function = getattr(_library, "ph_" + call)
-        function.restype = ctypes.c_uint32
         with _gate:
             for others in list(_flying.values()):
                 _apart(call, lent, others)
@@ -479,9 +557,8 @@ class _Numbers:
     def of(self, name, slots=None):
         """The first so many values of a slice, as they lie."""
         part, view = self.parts[name]
-        kind = {"float64": ctypes.c_double, "float32": ctypes.c_float, "uint32": ctypes.c_uint32}[part.kind]
         slots = part.slots if slots is None else min(slots, part.slots)
-        return (kind * slots).from_address(view.buf) if slots else ()
+        return (_SLOTS[part.kind] * slots).from_address(view.buf) if slots else ()
 
 
 def _many(count, thing):
