@@ -47,6 +47,21 @@ __all__ = [
 # what beat_grid writes in `back` for a frame with no beat before it
 NO_LINK = 4_294_967_295
 
+# the most that calls take, widths of rows and the threshold's window: tools/header holds them, and the one above, to the source
+_MOST_RATE = 192_000
+_MOST_ROWS = 1_048_576
+_MOST_BINS = 4_096
+_MOST_FRAME = 1_048_575
+_MOST_PERIOD = 45_000
+_MOST_FEATURE_ROWS = 50_000
+_MOST_LISTED_ROW = 49_999
+_MOST_FEATURE_LENGTH = 2_147_483_648
+_MOST_MAGNITUDE = 85070591730234615865843651857942052864.0
+_MOST_VALUE = 1427247692705959881058285969449495136382746624.0
+_FEATURE_WIDTH = 16
+_SIMILARITY_WIDTH = 17
+_MEDIAN_WINDOW = 21
+
 # anything with the buffer protocol, which has no type of its own before Python 3.12
 Lent = Any
 
@@ -358,7 +373,6 @@ class _Slice:
         return f"the shape ({'rows' if rows is None else rows}, {'bins' if width is None else width}), rows first{turned}, or one dimension"
 
 
-_MOST_ROWS, _MOST_BINS, _MOST_FEATURE_ROWS = 1_048_576, 4_096, 50_000
 _FLOAT64, _FLOAT32, _UINT32 = ("float64", ("d",), 8), ("float32", ("f",), 4), ("uint32", ("I", "L"), 4)
 _SLOTS = {"float64": ctypes.c_double, "float32": ctypes.c_float, "uint32": ctypes.c_uint32}
 
@@ -435,7 +449,8 @@ def _features(call, name, lent, rows, width, written=False):
 
 
 # the least and the greatest that calls take, of numbers that mean the same in every call
-_TAKEN = {"rate": (1, 192_000), "bins": (1, _MOST_BINS), "period": (0, 45_000), "whole_lag": (0, 45_000), "length": (1, 2 ** 31)}
+_TAKEN = {"rate": (1, _MOST_RATE), "bins": (1, _MOST_BINS), "period": (0, _MOST_PERIOD), "whole_lag": (0, _MOST_PERIOD),
+          "length": (1, _MOST_FEATURE_LENGTH)}
 
 
 def _whole(name, number, kind, taken=None):
@@ -676,7 +691,8 @@ def _first_outside(values, most):
     return None
 
 
-_MAGNITUDE, _VALUE = (2.0 ** 126, "a value is finite and at most 2**126 in size"), (2.0 ** 150, "a value is finite and at most 2**150 in size")
+_MAGNITUDE = _MOST_MAGNITUDE, "a value is finite and at most 2**126 in size"
+_VALUE = _MOST_VALUE, "a value is finite and at most 2**150 in size"
 _SIMILARITY = 1.0, "a similarity is -1 to 1"
 
 
@@ -712,7 +728,7 @@ def _track(rows, input_, first):
 
     by_row = tuple(_room(name, of_rows, made) for name in first + ("threshold", "onsets", "score", "back", "beats", "downbeats"))
     by_lag = tuple(_room(name, lambda n: n.lags, made) for name in ("clarity", "weight", "window_clarity", "window_weight"))
-    return (*input_, _RATE, *_OPTS, *by_row, *by_lag, _room("work", lambda n: max(n.lags, min(21, of_rows(n))), made))
+    return (*input_, _RATE, *_OPTS, *by_row, *by_lag, _room("work", lambda n: max(n.lags, threshold_room(of_rows(n))), made))
 
 
 # what each call takes, in the order of its parameters, in the words of include/prohunsev.h; bar_beat_at refuses nothing
@@ -720,30 +736,30 @@ _TAKES = {
     "median_of": (_some("values"), _room("work", lambda n: n.values), _values("values")),
     "mad_of": (_some("values"), _room("work", lambda n: n.values), _values("values"), _value("median")),
     "spectral_flux": (*_ROWS, _room("flux", lambda n: n.rows), _values("magnitudes", _MAGNITUDE)),
-    "adaptive_threshold": (_frames_of("flux"), _room("threshold", lambda n: n.flux), _room("work", lambda n: min(21, n.flux)),
+    "adaptive_threshold": (_frames_of("flux"), _room("threshold", lambda n: n.flux), _room("work", lambda n: threshold_room(n.flux)),
                            _values("flux")),
     "pick_onsets": (_frames_of("flux"), _RATE, _as_long("threshold", "flux"), _room("frames", lambda n: n.flux), _values("flux"),
                     _values("threshold")),
     "suppress_close_peaks": (_frames_of("curve"), _peaks("peaks", "curve"), _room("frames", lambda n: n.peaks), _values("curve")),
-    "frame_times": (_RATE, _entries("frames", 1_048_575), _room("ms", lambda n: n.frames)),
+    "frame_times": (_RATE, _entries("frames", _MOST_FRAME), _room("ms", lambda n: n.frames)),
     "lag_range": (_RATE, *_OPTS),
     "estimate": (_frames_of("envelope"), _RATE, *_OPTS, *_LAG_CURVES, _values("envelope")),
     "stability_of": (_frames_of("envelope"), _RATE, *_OPTS, _number("whole_lag", *_TAKEN["whole_lag"]), *_LAG_CURVES, _values("envelope")),
     "beat_grid": (_frames_of("envelope"), _number("period", *_TAKEN["period"]),
                   *(_room(name, lambda n: n.envelope) for name in ("score", "back", "beats")), _values("envelope")),
-    "downbeats": (_frames_of("envelope"), _entries("beats", 1_048_575), _room("frames", lambda n: n.beats), _values("envelope")),
-    "similarity": (_FEATURE_ROWS, _table("features", 16), _room("similarity", lambda n: 17 * n.rows), _values("features")),
-    "novelty": (_FEATURE_ROWS, _table("similarity", 17), _room("novelty", lambda n: n.rows), _values("similarity", _SIMILARITY)),
+    "downbeats": (_frames_of("envelope"), _entries("beats", _MOST_FRAME), _room("frames", lambda n: n.beats), _values("envelope")),
+    "similarity": (_FEATURE_ROWS, _table("features", _FEATURE_WIDTH), _room("similarity", lambda n: similarity_room(n.rows)), _values("features")),
+    "novelty": (_FEATURE_ROWS, _table("similarity", _SIMILARITY_WIDTH), _room("novelty", lambda n: n.rows), _values("similarity", _SIMILARITY)),
     "boundaries": (_at_most("novelty", _MOST_FEATURE_ROWS), _LENGTH, _RATE, _room("rows", lambda n: n.novelty), _room("work", lambda n: n.novelty),
                    _values("novelty")),
-    "boundary_times": (_LENGTH, _RATE, _entries("rows", 49_999), _room("ms", lambda n: n.rows)),
+    "boundary_times": (_LENGTH, _RATE, _entries("rows", _MOST_LISTED_ROW), _room("ms", lambda n: n.rows)),
     "patch_magnitudes": (*_ROWS, _number("start", 0, "rows"), _new_rows("bins"), _room("flux", lambda n: n.rows),
-                         _room("threshold", lambda n: n.rows), _room("work", lambda n: min(21, n.rows)), _values("magnitudes", _MAGNITUDE),
+                         _room("threshold", lambda n: n.rows), _room("work", lambda n: threshold_room(n.rows)), _values("magnitudes", _MAGNITUDE),
                          _values("new_rows", _MAGNITUDE), _values("flux", slots=lambda n: n.rows),
                          _values("threshold", slots=lambda n: n.rows)),
-    "patch_features": (_FEATURE_ROWS, _table("features", 16), _number("start", 0, "rows"), _new_rows(16),
-                       _room("similarity", lambda n: 17 * n.rows), _room("novelty", lambda n: n.rows), _values("features"),
-                       _values("new_rows"), _values("similarity", _SIMILARITY, lambda n: 17 * n.rows),
+    "patch_features": (_FEATURE_ROWS, _table("features", _FEATURE_WIDTH), _number("start", 0, "rows"), _new_rows(_FEATURE_WIDTH),
+                       _room("similarity", lambda n: similarity_room(n.rows)), _room("novelty", lambda n: n.rows), _values("features"),
+                       _values("new_rows"), _values("similarity", _SIMILARITY, lambda n: similarity_room(n.rows)),
                        _values("novelty", slots=lambda n: n.rows)),
     "room_of": (_number("rows", 0, _MOST_ROWS), _RATE, *_OPTS),
     "analyse_envelope": (*_track("envelope", (_frames_of("envelope"),), ()), _values("envelope")),
@@ -785,7 +801,7 @@ def spectral_flux(magnitudes: Lent, rows: Optional[int] = None, bins: Optional[i
 
 def threshold_room(slots: int) -> int:
     """Slots of work for the threshold of so many slots, also while patching."""
-    return min(21, slots)
+    return min(_MEDIAN_WINDOW, slots)
 
 
 def adaptive_threshold(flux: Lent, threshold: Lent, work: Lent) -> None:
@@ -876,20 +892,20 @@ def bar_beat_at(time: float, downbeats: Lent, beats: Lent) -> Optional[BarBeat]:
 
 def similarity_room(rows: int) -> int:
     """Slots of similarity for so many feature rows."""
-    return 17 * rows
+    return _SIMILARITY_WIDTH * rows
 
 
 def similarity(features: Lent, rows: Optional[int] = None, similarity: Lent = None) -> None:
     """Slot 17 i + d: how alike rows i and i + d of 16 features are, -1 to 1. Room: similarity_room(rows)."""
     _given("similarity", similarity=similarity)
-    _call("similarity", *_features("similarity", "features", features, rows, 16),
-          _Slice("similarity", similarity, _FLOAT64, True, None, 17))
+    _call("similarity", *_features("similarity", "features", features, rows, _FEATURE_WIDTH),
+          _Slice("similarity", similarity, _FLOAT64, True, None, _SIMILARITY_WIDTH))
 
 
 def novelty(similarity: Lent, rows: Optional[int] = None, novelty: Lent = None) -> None:
     """How new each row is. The similarity has exactly similarity_room(rows) slots. Room: rows slots of novelty."""
     _given("novelty", novelty=novelty)
-    _call("novelty", *_features("novelty", "similarity", similarity, rows, 17), _reals_out("novelty", novelty))
+    _call("novelty", *_features("novelty", "similarity", similarity, rows, _SIMILARITY_WIDTH), _reals_out("novelty", novelty))
 
 
 def boundaries(novelty: Lent, length: int, rate: int, max_sections: int, rows: Lent, work: Lent) -> Sections:
@@ -935,9 +951,9 @@ def patch_features(features: Lent, rows: Optional[int] = None, start: Optional[i
     Room: similarity_room(rows) slots of similarity and rows slots of novelty."""
     call = "patch_features"
     _given(call, start=start, new_rows=new_rows, similarity=similarity, novelty=novelty)
-    return PatchedFeatures(*_patch(call, *_features(call, "features", features, rows, 16, True), _size("start", start),
-                                   _Slice("new_rows", new_rows, _FLOAT64, False, None, 16),
-                                   _Slice("similarity", similarity, _FLOAT64, True, None, 17), _reals_out("novelty", novelty)))
+    return PatchedFeatures(*_patch(call, *_features(call, "features", features, rows, _FEATURE_WIDTH, True), _size("start", start),
+                                   _Slice("new_rows", new_rows, _FLOAT64, False, None, _FEATURE_WIDTH),
+                                   _Slice("similarity", similarity, _FLOAT64, True, None, _SIMILARITY_WIDTH), _reals_out("novelty", novelty)))
 
 
 # ---- a whole track
