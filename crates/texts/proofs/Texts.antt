@@ -3,17 +3,18 @@
 use mathlib.Core.Path.{_≡_, refl, sym, ap, _∙_}
 use mathlib.Core.Bool.{Bool, true, false, not}
 use mathlib.Core.List.{List, [], _∷_, _++_}
-use Prim.Native.Nat.{ℕ, suc, _+_, _-_, _*_, _≤_, _<_}
+use Prim.Native.Nat.{ℕ, suc, _+_, _-_, _*_, _≤_, _<_, min}
 use native.Mathlib.Nat.{not-suc-le-zero}
 use native.Mathlib.Numerals.{add-one}
 use native.Mathlib.Omega.{arith}
-use lib.Dec.{eqb, eqb·suc-suc}
-use lib.ListN.{length, getD, drop, length-drop, drop-of-length-le}
+use lib.Dec.{eqb, leb}
+use lib.ListN.{length, getD, drop, drop-of-length-le}
 use lib.Seq.{drop-cons}
-use borrow.Author.Tests.{not-true, not-false, le-leb, lt-leb, eqb-true, eq-eqb, ne-eqb}
-use Rattle.numbers.specs.Rounded.{pick}
+use borrow.Author.Tests.{not-true, not-false, le-leb, lt-leb, lt-ltb, eqb-true, eq-eqb, ne-eqb}
 use Rattle.numbers.proofs.Tests.{and-left, and-right, true-not-false}
-use Rattle.report_npy.specs.Header.{starts, isDigit, leading, plain, numberFrom, mostNumber, heldNumber, ended}
+use Rattle.numbers.specs.Rounded.{pick}
+use Rattle.texts.specs.Texts.{starts}
+use Rattle.texts.specs.Decimals.{isDigit, leading, plain, numberFrom}
 
 -- ---- the bytes that a text starts with
 
@@ -116,46 +117,24 @@ plain-several [] h = absurd (omega arith)
 plain-several (x ∷ []) h = absurd (omega arith)
 plain-several (x ∷ y ∷ ys) h = refl
 
--- ---- numbers, held
+-- ---- numbers, held to `most`
 
-held-step : (v w d : ℕ) → heldNumber v ≡ heldNumber w → heldNumber (v * 10 + d) ≡ heldNumber (w * 10 + d)
-held-step v w d e = omega arith
+held-step : (most v w d : ℕ) → min v most ≡ min w most → min (v * 10 + d) most ≡ min (w * 10 + d) most
+held-step most v w d e = omega arith
 
-held-number : (ds : List ℕ) (v w : ℕ) → heldNumber v ≡ heldNumber w → heldNumber (numberFrom v ds) ≡ heldNumber (numberFrom w ds)
+held-number : (most : ℕ) (ds : List ℕ) (v w : ℕ) → min v most ≡ min w most → min (numberFrom v ds) most ≡ min (numberFrom w ds) most
 unfolding numberFrom
-held-number [] v w e = e
-held-number (x ∷ xs) v w e = held-number xs _ _ (held-step v w (x - 48) e)
+held-number most [] v w e = e
+held-number most (x ∷ xs) v w e = held-number most xs _ _ (held-step most v w (x - 48) e)
 
 -- one digit of a number that is held
-pub held-more : (x v : ℕ) (ds : List ℕ) → heldNumber (numberFrom v (x ∷ ds)) ≡ heldNumber (numberFrom (heldNumber (v * 10 + (x - 48))) ds)
+pub held-more : (most x v : ℕ) (ds : List ℕ) → min (numberFrom v (x ∷ ds)) most ≡ min (numberFrom (min (v * 10 + (x - 48)) most) ds) most
 unfolding numberFrom
-held-more x v ds = held-number ds _ _ (omega arith)
+held-more most x v ds = held-number most ds _ _ (omega arith)
 
-pub held-none : (v : ℕ) → v ≤ mostNumber → heldNumber (numberFrom v []) ≡ v
+pub held-none : (most v : ℕ) → v ≤ most → min (numberFrom v []) most ≡ v
 unfolding numberFrom
-held-none v h = omega arith
-
--- ---- the end
-
-pub ended-none : (text : List ℕ) (place : ℕ) → length text ≤ place → ended (drop place text) ≡ false
-unfolding ended
-ended-none text place h = rw drop-of-length-le
-
-module _ (text : List ℕ) (place : ℕ) (h : place < length text) where
-  pub ended-space : getD text place 0 ≡ 32 → ended (drop place text) ≡ ended (drop (place + 1) text)
-  unfolding ended
-  ended-space e = rw (add-one, drop-cons text place 0 h, e)
-
-  pub ended-feed : getD text place 0 ≡ 10 → ended (drop place text) ≡ eqb (length text - place) 1
-  unfolding ended
-  ended-feed e =
-      let m : length (drop (suc place) text) ≡ length text - suc place = length-drop (suc place) text in
-      let k : length text - place ≡ suc (length text - suc place) = omega arith in
-      rw (drop-cons text place 0 h, e, m, k, eqb·suc-suc)
-
-  pub ended-other : (getD text place 0 ≡ 32 → ⊥) → (getD text place 0 ≡ 10 → ⊥) → ended (drop place text) ≡ false
-  unfolding ended
-  ended-other e k = rw (drop-cons text place 0 h, ne-eqb _ _ e, ne-eqb _ _ k)
+held-none most v h = omega arith
 
 -- ---- an answer that the code turns over, `if !stands(..)`
 

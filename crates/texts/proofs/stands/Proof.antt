@@ -1,4 +1,4 @@
--- `report_npy::stands` meets its contract. The invariant: whether the text from `at` starts with the bytes is whether the text from `place` starts
+-- `texts::stands` meets its contract. The invariant: whether the text from `at` starts with the bytes is whether the text from `place` starts
 -- with the bytes that are left. The measure is how many are left. Assumes nothing.
 use mathlib.Core.Path.{_≡_, refl, sym, _∙_}
 use Prim.Native.Nat.{_-_, _≤_}
@@ -6,10 +6,10 @@ use borrow.Author.Needs.{needs}
 use native.Mathlib.Omega.{arith}
 use denote.Ref.{now}
 use lib.ListN.{length, drop}
-use Rattle.report_npy.specs.Header.{starts}
-use Rattle.report_npy.proofs.Texts.{starts-none, starts-short, starts-same, starts-differ}
-use Rattle.report_npy.proofs.stands.Statement.{statement}
-use Rattle.report_npy.proofs.stands.Tie as tie
+use Rattle.texts.specs.Texts.{starts}
+use Rattle.texts.proofs.Texts.{starts-none, starts-short, starts-same, starts-differ}
+use Rattle.texts.proofs.stands.Statement.{statement}
+use Rattle.texts.proofs.stands.Tie as tie
 
 abbrev Inv-loop : tie.InvT-loop
 Inv-loop text at bytes place₀ i₀ place i = (i ≤ length bytes) × (starts bytes (drop at text) ≡ starts (drop i bytes) (drop place text))

@@ -1,23 +1,23 @@
--- `report_npy::number_at` meets its contract. The invariant: v is held, and the number from `at` on is, held, the number from `place` on behind the
+-- `texts::number_at` meets its contract. The invariant: v is held, and the number from `at` on is, held, the number from `place` on behind the
 -- digits of v. The measure is what is left of the text. `held-more` closes the step: a number held early is held as one held late.
 -- Assumes nothing.
 use mathlib.Core.Path.{_≡_, refl, sym, ap, _∙_}
 use mathlib.Core.List.{List, [], _∷_}
-use Prim.Native.Nat.{ℕ, _+_, _-_, _≤_}
+use Prim.Native.Nat.{ℕ, _+_, _-_, _*_, _≤_, min}
 use borrow.Author.Needs.{needs}
 use native.Mathlib.Omega.{arith}
 use denote.Ref.{now}
 use lib.ListN.{length, drop, getD}
-use Rattle.report_npy.specs.Header.{leading, numberFrom, mostNumber, heldNumber}
-use Rattle.report_npy.proofs.Texts.{digit-low, digit-high, digit-in, leading-end, leading-digit, leading-other, held-more, held-none}
-use Rattle.report_npy.proofs.number_at.Statement.{statement}
-use Rattle.report_npy.proofs.number_at.Tie as tie
+use Rattle.texts.specs.Decimals.{leading, numberFrom}
+use Rattle.texts.proofs.Texts.{digit-low, digit-high, digit-in, leading-end, leading-digit, leading-other, held-more, held-none}
+use Rattle.texts.proofs.number_at.Statement.{statement}
+use Rattle.texts.proofs.number_at.Tie as tie
 
 abbrev Inv-loop : tie.InvT-loop
-Inv-loop text at v₀ place₀ v place = (v ≤ mostNumber) × (heldNumber (numberFrom 0 (leading (drop at text))) ≡ heldNumber (numberFrom v (leading (drop place text))))
+Inv-loop text at most v₀ place₀ v place = (v ≤ most) × (min (numberFrom 0 (leading (drop at text))) most ≡ min (numberFrom v (leading (drop place text))) most)
 
 abbrev μ-loop : tie.MeasureT-loop
-μ-loop text at v₀ place₀ v place = length text - place
+μ-loop text at most v₀ place₀ v place = length text - place
 
 loop-holds : tie.Need-loop-holds Inv-loop μ-loop
 loop-holds c = (omega arith, refl)
@@ -30,17 +30,17 @@ returns c =
     let l = c .before .before .before in
     let text = now (l .before .before .args .text) in
     let e : leading (drop (l .loop .place) text) ≡ [] = leading-other text (l .loop .place) (omega arith) (digit-low (getD text (l .loop .place) 0) (c .if1 .taken)) in
-    sym (l .loop .inv .1 ∙ ap (λ (r : List ℕ). heldNumber (numberFrom (l .loop .v) r)) e ∙ held-none (l .loop .v) (l .loop .inv .0))
+    sym (l .loop .inv .1 ∙ ap (λ (r : List ℕ). min (numberFrom (l .loop .v) r) (l .before .before .args .most)) e ∙ held-none (l .before .before .args .most) (l .loop .v) (l .loop .inv .0))
 
 returns-2 : tie.Need-returns-2 Inv-loop μ-loop
 returns-2 c =
     let l = c .before .before .before .before in
     let text = now (l .before .before .args .text) in
     let e : leading (drop (l .loop .place) text) ≡ [] = leading-other text (l .loop .place) (omega arith) (digit-high (getD text (l .loop .place) 0) (c .if2 .taken)) in
-    sym (l .loop .inv .1 ∙ ap (λ (r : List ℕ). heldNumber (numberFrom (l .loop .v) r)) e ∙ held-none (l .loop .v) (l .loop .inv .0))
+    sym (l .loop .inv .1 ∙ ap (λ (r : List ℕ). min (numberFrom (l .loop .v) r) (l .before .before .args .most)) e ∙ held-none (l .before .before .args .most) (l .loop .v) (l .loop .inv .0))
 
 one-more-requires : tie.Need-one-more-requires Inv-loop μ-loop
-one-more-requires c κs = (c .before .before .before .before .loop .inv .0, omega arith)
+one-more-requires c κs = omega arith
 
 add-place : tie.Need-add-place Inv-loop μ-loop
 add-place c = search needs
@@ -57,9 +57,9 @@ loop-again c =
     let rest = leading (drop (l .loop .place + 1) text) in (
       omega (arith, c .one-more .ensures),
       l .loop .inv .1
-          ∙ ap (λ (r : List ℕ). heldNumber (numberFrom (l .loop .v) r)) e
-          ∙ held-more x (l .loop .v) rest
-          ∙ ap (λ (w : ℕ). heldNumber (numberFrom w rest)) (sym (c .one-more .ensures)),
+          ∙ ap (λ (r : List ℕ). min (numberFrom (l .loop .v) r) (l .before .before .args .most)) e
+          ∙ held-more (l .before .before .args .most) x (l .loop .v) rest
+          ∙ ap (λ (w : ℕ). min (numberFrom w rest) (l .before .before .args .most)) (sym (c .one-more .ensures)),
     )
 
 returns-3 : tie.Need-returns-3 Inv-loop μ-loop
@@ -67,7 +67,7 @@ returns-3 c =
     let l = c .before in
     let text = now (l .before .before .args .text) in
     let e : leading (drop (l .loop .place) text) ≡ [] = leading-end text (l .loop .place) (omega arith) in
-    sym (l .loop .inv .1 ∙ ap (λ (r : List ℕ). heldNumber (numberFrom (l .loop .v) r)) e ∙ held-none (l .loop .v) (l .loop .inv .0))
+    sym (l .loop .inv .1 ∙ ap (λ (r : List ℕ). min (numberFrom (l .loop .v) r) (l .before .before .args .most)) e ∙ held-none (l .before .before .args .most) (l .loop .v) (l .loop .inv .0))
 
 pub number-at-spec : {M : Type 1} → statement M
 number-at-spec =

@@ -13,22 +13,22 @@ use borrow.Author.Tests.{lt-ltb, le-ltb, leb-true, ne-eqb, eqb-false, not-true}
 use Rattle.numbers.specs.Lists.{every}
 use Rattle.numbers.proofs.Tests.{lt-or-le, and-left, and-right, true-not-false}
 use Rattle.numbers.proofs.Everys.{every-append}
-use Rattle.report_npy.specs.Header.{digitOf, written, decimal, isDigit, plain, numberFrom}
-use Rattle.report_npy.proofs.Texts.{digit-in, plain-several}
+use Rattle.texts.specs.Decimals.{digitOf, decimalWithin, decimal, isDigit, plain, numberFrom}
+use Rattle.texts.proofs.Texts.{digit-in, plain-several}
 
 -- ---- how a number is written
 
-written-small : (f n : ℕ) → n < 10 → written f n ≡ digitOf n ∷ []
-unfolding written
+written-small : (f n : ℕ) → n < 10 → decimalWithin f n ≡ digitOf n ∷ []
+unfolding decimalWithin
 written-small zero n h = refl
 written-small (suc f) n h = rw (lt-ltb n 10 h)
 
-written-large : (f n : ℕ) → 10 ≤ n → written (suc f) n ≡ written f (n / 10) ++ (digitOf (n % 10) ∷ [])
-unfolding written
+written-large : (f n : ℕ) → 10 ≤ n → decimalWithin (suc f) n ≡ decimalWithin f (n / 10) ++ (digitOf (n % 10) ∷ [])
+unfolding decimalWithin
 written-large f n h = rw (le-ltb n 10 h)
 
 -- more room for digits changes nothing
-written-same : (f g n : ℕ) → n ≤ f → n ≤ g → written f n ≡ written g n
+written-same : (f g n : ℕ) → n ≤ f → n ≤ g → decimalWithin f n ≡ decimalWithin g n
 written-same zero g n h k = written-small zero n (omega arith) ∙ sym (written-small g n (omega arith))
 written-same (suc f) zero n h k = written-small (suc f) n (omega arith) ∙ sym (written-small zero n (omega arith))
 written-same (suc f) (suc g) n h k =
@@ -52,8 +52,8 @@ decimal-more v d h k =
     let r : n % 10 ≡ d = omega arith in
     written-same n (suc n) n (omega arith) (omega arith)
     ∙ written-large n n (omega arith)
-    ∙ ap (λ (a : ℕ). written n a ++ (digitOf (n % 10) ∷ [])) q
-    ∙ ap (λ (a : ℕ). written n v ++ (digitOf a ∷ [])) r
+    ∙ ap (λ (a : ℕ). decimalWithin n a ++ (digitOf (n % 10) ∷ [])) q
+    ∙ ap (λ (a : ℕ). decimalWithin n v ++ (digitOf a ∷ [])) r
     ∙ ap (λ (a : List ℕ). a ++ (digitOf d ∷ [])) (written-same n v v (omega arith) (omega arith))
 
 -- ---- digits are the decimal of their number
@@ -141,12 +141,12 @@ good-more n ds h g =
       plain-is = plain-several (ds ++ (d ∷ [])) (omega arith) ∙ ap not top;
     }
 
-good-written : (f n : ℕ) → n ≤ f → Good n (written f n)
+good-written : (f n : ℕ) → n ≤ f → Good n (decimalWithin f n)
 good-written zero n h = rw (written-small zero n (omega arith)) (good-small n (omega arith))
 good-written (suc f) n h =
     ⊎-elim
     (λ (u : n < 10). rw (written-small (suc f) n u) (good-small n u))
-    (λ (u : 10 ≤ n). rw (written-large f n u) (good-more n (written f (n / 10)) u (good-written f (n / 10) (omega arith))))
+    (λ (u : 10 ≤ n). rw (written-large f n u) (good-more n (decimalWithin f (n / 10)) u (good-written f (n / 10) (omega arith))))
     (lt-or-le n 10)
 
 module _ (n : ℕ) where
@@ -161,3 +161,39 @@ module _ (n : ℕ) where
   pub decimal-plain : plain (decimal n) ≡ true
   unfolding decimal
   decimal-plain = good-written n n (omega arith) .plain-is
+
+-- ---- the last digit, and how many there are
+
+-- the last digit of a number of several
+pub decimal-last : (n : ℕ) → 10 ≤ n → decimal n ≡ decimal (n / 10) ++ (digitOf (n % 10) ∷ [])
+decimal-last n h =
+    let e : n ≡ n / 10 * 10 + n % 10 = omega arith in
+    ap decimal e ∙ decimal-more (n / 10) (n % 10) (omega arith) (omega arith)
+
+pub decimal-longer : (n : ℕ) → 10 ≤ n → length (decimal n) ≡ length (decimal (n / 10)) + 1
+decimal-longer n h = ap length (decimal-last n h) ∙ length-append (decimal (n / 10)) (digitOf (n % 10) ∷ [])
+
+-- the digit of a number of one
+pub decimal-one : (n : ℕ) → n < 10 → decimal n ≡ digitOf (n % 10) ∷ []
+decimal-one n h =
+    let e : n ≡ n % 10 = omega arith in
+    decimal-small n h ∙ ap (λ (d : ℕ). digitOf d ∷ []) e
+
+-- numbers below b have at most k digits, so those below 10·b at most one more
+tenfold : (b k : ℕ) → ((n : ℕ) → n < b → length (decimal n) ≤ k) → (n : ℕ) → n < b * 10 → length (decimal n) ≤ k + 1
+tenfold b k below n h =
+    ⊎-elim
+    (λ (u : n < 10). omega (arith, ap length (decimal-one n u)))
+    (λ (u : 10 ≤ n). omega (arith, decimal-longer n u, below (n / 10) (omega arith)))
+    (lt-or-le n 10)
+
+one-digit : (n : ℕ) → n < 10 → length (decimal n) ≤ 1
+one-digit n h = omega (arith, ap length (decimal-one n h))
+
+five-digits : (n : ℕ) → n < 100000 → length (decimal n) ≤ 5
+five-digits = tenfold 10000 4 (tenfold 1000 3 (tenfold 100 2 (tenfold 10 1 one-digit)))
+
+-- ten digits are enough below 2 ^ 32
+pub ten-digits : (n : ℕ) → n < 4294967296 → length (decimal n) ≤ 10
+ten-digits n h =
+    tenfold 1000000000 9 (tenfold 100000000 8 (tenfold 10000000 7 (tenfold 1000000 6 (tenfold 100000 5 five-digits)))) n (omega arith)
