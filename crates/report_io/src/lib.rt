@@ -11,7 +11,7 @@ ghost use mathlib.Core.Path.{_≡_};
 ghost use Prim.Native.Nat.{_≤_};
 ghost use lib.ListN.{length};
 ghost use Rattle.report.specs.Input.{mostReported};
-ghost use Rattle.report_text.specs.Text.{Put};
+ghost use Rattle.report_text.specs.Text.{PutWithin};
 ghost use Rattle.report_lines.specs.Lines.{textRoom};
 ghost use Rattle.report_io.specs.Answers.{textOf, Putable, TextAnswered};
 
@@ -27,7 +27,7 @@ fn text_room() -> [u8; TEXT_ROOM]
 // Puts what is to be written of a reading, whose flux is lent: its refusal, or the report.
 fn put_answer(reading: Reading, flux: &[f64], bytes: &mut [u8]) -> usize
     requires { ⌜ (reading .number ≡ 0 → Putable reading (now flux)) × (textRoom ≤ length (now bytes)) ⌝ }
-    ensures { λ r. ⌜ Put (now (bytes .entry)) 0 (textOf reading (now (flux .entry))) textRoom r (now (bytes .exit)) ⌝ }
+    ensures { λ r. ⌜ PutWithin (now (bytes .entry)) 0 (textOf reading (now (flux .entry))) textRoom r (now (bytes .exit)) ⌝ }
 {
     if reading.number != 0 {
         return report_text::put_refusal(bytes, reading.number);

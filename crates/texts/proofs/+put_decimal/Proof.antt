@@ -108,7 +108,7 @@ put-decimal-returns-2 : (t : ℕ) → put-decimal-lts.Need-returns-2 (
 ) (put-decimal-at t) put-decimal.Post
 put-decimal-returns-2 t c =
     let called = c .before .before .before .before .before .before in
-    put-last (called .before .before .if1 .left) (called .before .before .before .before .pre .1) (called .put-decimal .ensures) (c .before .before .put-byte2 .ensures)
+    put-last (called .before .before .if1 .left) (called .put-decimal .ensures) (c .before .before .put-byte2 .ensures)
 
 pub +put-decimal-spec : {M : Type 1} → statement M
 +put-decimal-spec = close μ-put-decimal λ t. put-decimal-lts.spec (

@@ -20,7 +20,7 @@ abbrev μ-loop : tie.MeasureT-loop
 loop-holds : tie.Need-loop-holds Inv-loop μ-loop
 loop-holds c =
     let e : c .args .at ≡ c .args .at + 0 = omega arith in
-    (omega arith, omega arith, rw (← e) (put-none _ _))
+    (omega arith, omega arith, rw (← e) (put-none _ _ (omega arith)))
 
 shared-slice-read-out : tie.Need-shared-slice-read-out Inv-loop μ-loop
 shared-slice-read-out c = omega arith
@@ -41,7 +41,7 @@ loop-again : tie.Need-loop-again Inv-loop μ-loop
 loop-again c =
     let l = c .before .before in
     let start = l .before in
-    (omega arith, simp length-set (l .loop .inv .1), put-word _ _ (now (start .args .words)) _ (l .loop .i) (omega arith) (omega arith) (omega arith) (l .loop .inv .2))
+    (omega arith, simp length-set (l .loop .inv .1), put-word _ _ (now (start .args .words)) _ (l .loop .i) (omega arith) (omega arith) (l .loop .inv .2))
 
 add-result : tie.Need-add-result Inv-loop μ-loop
 add-result c = omega arith
