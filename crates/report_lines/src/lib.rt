@@ -57,11 +57,9 @@ pub fn put_lines(
     bytes: &mut [u8],
 ) -> usize
     requires { ⌜ Listable answer (now onsets) (now beats) (now downbeats) × (textRoom ≤ length (now bytes)) ⌝ }
-    ensures {
-        λ r. ⌜ PutWithin
-            (now (bytes .entry)) 0 (linesOf answer (now (onsets .entry)) (now (beats .entry)) (now (downbeats .entry))) textRoom
-            r (now (bytes .exit)) ⌝
-    }
+    ensures { λ r. ⌜ PutWithin
+        (now (bytes .entry)) 0 (linesOf answer (now (onsets .entry)) (now (beats .entry)) (now (downbeats .entry))) textRoom
+        r (now (bytes .exit)) ⌝ }
 {
     let candidates = answer.candidates;
     let stability = answer.stability;

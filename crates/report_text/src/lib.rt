@@ -29,11 +29,9 @@ fn put_spaced(out: &mut [u8], at: usize, n: u32) -> usize
 
 fn put_numbers(out: &mut [u8], at: usize, entries: &[u32]) -> usize
     requires { ⌜ at + numbersRoom (length (now entries)) ≤ length (now out) ⌝ }
-    ensures {
-        λ r. ⌜ PutWithin
-            (now (out .entry)) at (numbersText (now (entries .entry))) (numbersRoom (length (now (entries .entry))))
-            r (now (out .exit)) ⌝
-    }
+    ensures { λ r. ⌜ PutWithin
+        (now (out .entry)) at (numbersText (now (entries .entry))) (numbersRoom (length (now (entries .entry))))
+        r (now (out .exit)) ⌝ }
 {
     let mut end = at;
     let mut i: usize = 0;
@@ -46,11 +44,9 @@ fn put_numbers(out: &mut [u8], at: usize, entries: &[u32]) -> usize
 
 fn put_list(out: &mut [u8], at: usize, entries: &[u32]) -> usize
     requires { ⌜ at + listRoom (length (now entries)) ≤ length (now out) ⌝ }
-    ensures {
-        λ r. ⌜ PutWithin
-            (now (out .entry)) at (listText (now (entries .entry))) (listRoom (length (now (entries .entry))))
-            r (now (out .exit)) ⌝
-    }
+    ensures { λ r. ⌜ PutWithin
+        (now (out .entry)) at (listText (now (entries .entry))) (listRoom (length (now (entries .entry))))
+        r (now (out .exit)) ⌝ }
 {
     if entries.len() == 0 {
         return put_words(out, at, b" none");
@@ -61,11 +57,9 @@ fn put_list(out: &mut [u8], at: usize, entries: &[u32]) -> usize
 // A word, its list, and the end of the line.
 fn put_line(out: &mut [u8], at: usize, word: &[u8], entries: &[u32]) -> usize
     requires { ⌜ at + lineRoom (length (now word)) (length (now entries)) ≤ length (now out) ⌝ }
-    ensures {
-        λ r. ⌜ PutWithin
-            (now (out .entry)) at (lineText (now (word .entry)) (now (entries .entry))) (lineRoom (length (now (word .entry))) (length (now (entries .entry))))
-            r (now (out .exit)) ⌝
-    }
+    ensures { λ r. ⌜ PutWithin
+        (now (out .entry)) at (lineText (now (word .entry)) (now (entries .entry))) (lineRoom (length (now (word .entry))) (length (now (entries .entry))))
+        r (now (out .exit)) ⌝ }
 {
     let words_end = put_words(out, at, word);
     let list_end = put_list(out, words_end, entries);
@@ -106,13 +100,11 @@ pub fn put_report(
 ) -> usize
     requires { ⌜ length (now candidates) ≤ mostCandidates ⌝ }
     requires { ⌜ reportRoom (length (now onsets)) (length (now beats)) (length (now downbeats)) ≤ length (now out) ⌝ }
-    ensures {
-        λ r. ⌜ PutWithin
-            (now (out .entry)) 0
-            (reportText (now (onsets .entry)) (now (candidates .entry)) (now (beats .entry)) (now (downbeats .entry)) agreeing windows)
-            (reportRoom (length (now (onsets .entry))) (length (now (beats .entry))) (length (now (downbeats .entry))))
-            r (now (out .exit)) ⌝
-    }
+    ensures { λ r. ⌜ PutWithin
+        (now (out .entry)) 0
+        (reportText (now (onsets .entry)) (now (candidates .entry)) (now (beats .entry)) (now (downbeats .entry)) agreeing windows)
+        (reportRoom (length (now (onsets .entry))) (length (now (beats .entry))) (length (now (downbeats .entry))))
+        r (now (out .exit)) ⌝ }
 {
     let lag = numbers::least(1, candidates.len());
     let a = put_line(out, 0, b"onsets", onsets);

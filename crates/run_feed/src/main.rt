@@ -67,13 +67,7 @@ fn told(input: &[u8], size: usize)
 }
 
 // What is told of the input, however it is cut.
-fn fed(
-    input: &[u8],
-    size: usize,
-    held: &mut [u8],
-    kept: &mut [f32],
-    flux: &mut [f64],
-) -> Reading
+fn fed(input: &[u8], size: usize, held: &mut [u8], kept: &mut [f32], flux: &mut [f64]) -> Reading
     requires { ⌜ (1 ≤ size) × (heldRoom ≤ length (now held)) × (2 * mostBins ≤ length (now kept)) × (mostReported ≤ length (now flux)) ⌝ }
     requires { ⌜ every magnitudeFine (now kept) ≡ true ⌝ }
     ensures { λ r. ⌜ Told (now (input .entry)) r (now (flux .entry)) (now (flux .exit)) ⌝ }
