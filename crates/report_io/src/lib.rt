@@ -15,8 +15,14 @@ ghost use Rattle.report_text.specs.Text.{PutWithin};
 ghost use Rattle.report_lines.specs.Lines.{textRoom};
 ghost use Rattle.report_io.specs.Answers.{textOf, Putable, TextAnswered};
 
-// 11 bytes for each entry of three lists, and 139 for the words
-const TEXT_ROOM: usize = 11 * (3 * MOST_REPORTED) + 139;
+// bytes of an entry of a list, a space and ten digits
+const ENTRY: usize = 11;
+
+// bytes of the six lines where the lists of frames are empty: their words, four lags and the stability
+const WORDS: usize = 139;
+
+// for three lists with an entry for each row
+const TEXT_ROOM: usize = ENTRY * (3 * MOST_REPORTED) + WORDS;
 
 fn text_room() -> [u8; TEXT_ROOM]
     ensures { λ r. ⌜ length r ≡ textRoom ⌝ }

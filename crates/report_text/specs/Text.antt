@@ -129,9 +129,15 @@ stabilityRoom = length stabilityWord + shareRoom + 1
 abbrev pub mostCandidates : ℕ
 mostCandidates = 3
 
--- a report of so many onsets, beats and downbeats, with at most three candidates: 139 bytes and eleven for each entry
+-- a report of so many onsets, beats and downbeats: its six lines
 abbrev pub reportRoom : (onsets beats downbeats : ℕ) → ℕ
-reportRoom onsets beats downbeats = spacedRoom * (onsets + beats + downbeats) + 139
+reportRoom onsets beats downbeats =
+    lineRoom (length onsetsWord) onsets
+    + lineRoom (length lagWord) 1
+    + lineRoom (length candidatesWord) mostCandidates
+    + lineRoom (length beatsWord) beats
+    + lineRoom (length downbeatsWord) downbeats
+    + stabilityRoom
 
 -- the line of a refusal
 abbrev pub refusalRoom : ℕ
