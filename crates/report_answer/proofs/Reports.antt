@@ -36,7 +36,7 @@ use Rattle.rooms.proofs.Numbers.{inBounds, by-bounds, room-inside}
 use Rattle.rooms.specs.Enough.{Enough}
 use Rattle.rooms.proofs.Rooms.{enough-suffices}
 use Rattle.report.specs.Input.{mostReported}
-use Rattle.report_text.specs.Text.{reportText, Put}
+use Rattle.report_text.specs.Text.{reportText}
 use Rattle.report_lines.specs.Lines.{agreeingIn, windowsIn, linesOf, LagsFit, Listable}
 use Rattle.report_answer.specs.Reports.{reportRate, lagsIn, reportOf}
 use Rattle.report_answer.specs.Inner.{CurvesLent, ListsLent}
@@ -186,7 +186,3 @@ module _ (env : List Float) (r : Results) (s : Spare) (answer : Analysis) (after
   listable p q t =
       rw answer-is
       (answer-listable env reportRate defaultOptions (omega arith) bounds fine r (after .onsets) (after .beats) (after .downbeats) onsets-are beats-are downbeats-are p q t (lists .onset-lists) (lists .beat-lists) (lists .downbeat-lists))
-
--- any two outcomes that the promise permits coincide: as many bytes, and the same
-pub coincide : {bytes text x y : List ℕ} {most m n : ℕ} → Put bytes 0 text most m x → Put bytes 0 text most n y → (m ≡ n) × (take m x ≡ take n y)
-coincide p q = (p .end-is ∙ sym (q .end-is), p .text-is ∙ sym (q .text-is))

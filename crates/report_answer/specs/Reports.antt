@@ -31,7 +31,8 @@ stabilityIn flux =
 -- the six lines of a flux
 unfoldable pub reportOf : List Float → List ℕ
 reportOf flux =
-    reportText (onsetsIn flux reportRate) (lagsIn (estimateIn flux reportRate defaultOptions)) (beatsIn flux reportRate defaultOptions) (downbeatsIn flux reportRate defaultOptions)
+    reportText (onsetsIn flux reportRate) (lagsIn (estimateIn flux reportRate defaultOptions))
+    (beatsIn flux reportRate defaultOptions) (downbeatsIn flux reportRate defaultOptions)
     (agreeingIn (stabilityIn flux)) (windowsIn (stabilityIn flux))
 
 -- The whole text of an input: "A refusal writes `refused`, a space and the number", and else the report of the flux of its rows.

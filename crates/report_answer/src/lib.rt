@@ -13,7 +13,7 @@ ghost use lib.ListN.{length};
 ghost use Rattle.numbers.specs.Limits.{valueFine};
 ghost use Rattle.numbers.specs.Lists.{every};
 ghost use Rattle.report.specs.Input.{mostReported};
-ghost use Rattle.report_text.specs.Text.{Put};
+ghost use Rattle.report_text.specs.Text.{PutWithin};
 ghost use Rattle.report_lines.specs.Lines.{textRoom};
 ghost use Rattle.report_answer.specs.Reports.{reportOf};
 ghost use Rattle.report_answer.specs.Inner.{mostLags, CurvesLent, ListsLent};
@@ -65,7 +65,7 @@ fn put_over(
     requires { ⌜ (length (now flux) ≤ mostReported) × (every valueFine (now flux) ≡ true) × (textRoom ≤ length (now bytes)) ⌝ }
     requires { ⌜ CurvesLent (now threshold) (now clarity) (now weight) (now «window_clarity») (now «window_weight») (now score) (now work) ⌝ }
     requires { ⌜ ListsLent (now onsets) (now back) (now beats) (now downbeats) ⌝ }
-    ensures { λ r. ⌜ Put (now (bytes .entry)) 0 (reportOf (now (flux .entry))) textRoom r (now (bytes .exit)) ⌝ }
+    ensures { λ r. ⌜ PutWithin (now (bytes .entry)) 0 (reportOf (now (flux .entry))) textRoom r (now (bytes .exit)) ⌝ }
 {
     let answer = analyse_envelope(
         flux,
@@ -99,7 +99,7 @@ fn put_with_curves(
 ) -> usize
     requires { ⌜ (length (now flux) ≤ mostReported) × (every valueFine (now flux) ≡ true) × (textRoom ≤ length (now bytes)) ⌝ }
     requires { ⌜ CurvesLent (now threshold) (now clarity) (now weight) (now «window_clarity») (now «window_weight») (now score) (now work) ⌝ }
-    ensures { λ r. ⌜ Put (now (bytes .entry)) 0 (reportOf (now (flux .entry))) textRoom r (now (bytes .exit)) ⌝ }
+    ensures { λ r. ⌜ PutWithin (now (bytes .entry)) 0 (reportOf (now (flux .entry))) textRoom r (now (bytes .exit)) ⌝ }
 {
     let mut onsets = list_room();
     let mut back = list_room();
@@ -125,7 +125,7 @@ fn put_with_curves(
 // Inner: puts the report of a flux into the first bytes and answers how many they are.
 pub fn put_analysis(flux: &[f64], bytes: &mut [u8]) -> usize
     requires { ⌜ (length (now flux) ≤ mostReported) × (every valueFine (now flux) ≡ true) × (textRoom ≤ length (now bytes)) ⌝ }
-    ensures { λ r. ⌜ Put (now (bytes .entry)) 0 (reportOf (now (flux .entry))) textRoom r (now (bytes .exit)) ⌝ }
+    ensures { λ r. ⌜ PutWithin (now (bytes .entry)) 0 (reportOf (now (flux .entry))) textRoom r (now (bytes .exit)) ⌝ }
 {
     let mut threshold = curve_room();
     let mut clarity = lag_room();

@@ -22,7 +22,8 @@ use Rattle.report_npy.specs.declared.Preamble.{Preamble}
 use Rattle.report_npy.specs.declared.Preamble.the-variants as preamble
 use Rattle.report_npy.specs.declared.Header.{Header}
 use Rattle.report_npy.specs.declared.Header.the-variants as header
-use Rattle.report_npy.specs.Header.{headerOf, preambleOf, starts}
+use Rattle.texts.specs.Texts.{starts}
+use Rattle.report_npy.specs.Header.{headerOf, preambleOf}
 use Rattle.report.specs.Input.{preambleLength, valuesOf, shapeFine, dataNumber, reportNumber}
 use Rattle.report.specs.Stream.{RowTaken}
 use Rattle.report.proofs.Streams.{streamed-none, streamed-more}

@@ -18,7 +18,8 @@ use Rattle.report_npy.specs.declared.Preamble.{Preamble}
 use Rattle.report_npy.specs.declared.Preamble.the-variants as preamble
 use Rattle.report_npy.specs.declared.Header.{Header}
 use Rattle.report_npy.specs.declared.Header.the-variants as header
-use Rattle.report_npy.specs.Header.{magic, starts, headerOf, preambleOf}
+use Rattle.texts.specs.Texts.{starts}
+use Rattle.report_npy.specs.Header.{magic, headerOf, preambleOf}
 use Rattle.flux.specs.Flux.{fluxAt}
 use Rattle.flux.proofs.Fluxes.{flux-curve-fine}
 use Rattle.report.specs.Input.{mostReported, preambleLength, valuesOf, shapeFine, dataNumber, headerNumber, preambleNumber, reportNumber, headerFlux, preambleFlux, reportFlux}

@@ -10,7 +10,8 @@ use lib.ListN.{length, getD, take}
 use Rattle.numbers.specs.Rounded.{pick}
 use Rattle.report_npy.specs.declared.Preamble.{Preamble}
 use Rattle.report_npy.specs.declared.Preamble.the-variants as preamble
-use Rattle.report_npy.specs.Header.{magic, starts, preambleOf}
+use Rattle.texts.specs.Texts.{starts}
+use Rattle.report_npy.specs.Header.{magic, preambleOf}
 use Rattle.report_head.specs.Heads.{mostText}
 
 -- a length of two bytes

@@ -15,7 +15,7 @@ use Rattle.report.specs.Input.{mostReported, reportFlux}
 use Rattle.report_feed.specs.declared.Reading.{Reading}
 use Rattle.report_feed.proofs.Inputs.{accepted}
 use Rattle.report_read.specs.Reads.{InputRead}
-use Rattle.report_text.specs.Text.{refusalText, Put}
+use Rattle.report_text.specs.Text.{refusalText, PutWithin}
 use Rattle.report_text.proofs.Puts.{put-as}
 use Rattle.report_lines.specs.Lines.{textRoom}
 use Rattle.report_answer.specs.Reports.{reportOf, answerOf}
@@ -29,12 +29,12 @@ pub lent-rows : (reading : Reading) (flux : List Float) → Putable reading flux
 lent-rows reading flux p = (omega (arith, length-take (reading .rows - 0) flux, p .rows-fit), rw (sub-zero (reading .rows)) (p .fine))
 
 pub put-refused : (reading : Reading) (flux : List Float) {bytes bytes′ : List ℕ} {end : ℕ} → (reading .number ≡ 0 → ⊥)
-    → Put bytes 0 (refusalText (reading .number)) 19 end bytes′ → Put bytes 0 (textOf reading flux) textRoom end bytes′
+    → PutWithin bytes 0 (refusalText (reading .number)) 19 end bytes′ → PutWithin bytes 0 (textOf reading flux) textRoom end bytes′
 unfolding textOf
 put-refused reading flux some p = put-as (sym (refused-keeps (reading .number) _ _ some)) (omega arith) p
 
 pub put-reported : (reading : Reading) (flux : List Float) {bytes bytes′ : List ℕ} {end : ℕ} → reading .number ≡ 0
-    → Put bytes 0 (reportOf (take (reading .rows - 0) flux)) textRoom end bytes′ → Put bytes 0 (textOf reading flux) textRoom end bytes′
+    → PutWithin bytes 0 (reportOf (take (reading .rows - 0) flux)) textRoom end bytes′ → PutWithin bytes 0 (textOf reading flux) textRoom end bytes′
 unfolding textOf
 put-reported reading flux z p =
     put-as (ap (λ (k : ℕ). reportOf (take k flux)) (sub-zero (reading .rows)) ∙ sym (passed-does (reading .number) _ _ z)) (omega arith) p
@@ -53,5 +53,5 @@ module _ {was flux : List Float} {reading : Reading} (r : InputRead was reading 
       by zero e = ap reportOf (accepted (r .told) e .flux-is)
       by (suc k) e = refl
 
-  pub answered : {bytes bytes′ : List ℕ} {end : ℕ} → Put bytes 0 (textOf reading flux) textRoom end bytes′ → TextAnswered bytes end bytes′
+  pub answered : {bytes bytes′ : List ℕ} {end : ℕ} → PutWithin bytes 0 (textOf reading flux) textRoom end bytes′ → TextAnswered bytes end bytes′
   answered p = record { input = r .input; text-is = put-as read-text (omega arith) p }

@@ -11,7 +11,7 @@ use Rattle.numbers.specs.Lists.{every}
 use Rattle.numbers.specs.Refusals.{unlessRefused}
 use Rattle.report.specs.Input.{mostReported}
 use Rattle.report_feed.specs.declared.Reading.{Reading}
-use Rattle.report_text.specs.Text.{refusalText, Put}
+use Rattle.report_text.specs.Text.{refusalText, PutWithin}
 use Rattle.report_lines.specs.Lines.{textRoom}
 use Rattle.report_answer.specs.Reports.{reportOf, answerOf}
 
@@ -29,4 +29,4 @@ pub record Putable (reading : Reading) (flux : List Float) : Type 0 where
 -- runs show it.
 pub record TextAnswered (bytes : List ℕ) (end : ℕ) (bytes′ : List ℕ) : Type 0 where
   pub input : List ℕ
-  pub text-is : Put bytes 0 (answerOf input) textRoom end bytes′
+  pub text-is : PutWithin bytes 0 (answerOf input) textRoom end bytes′

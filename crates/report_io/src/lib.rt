@@ -11,12 +11,18 @@ ghost use mathlib.Core.Path.{_≡_};
 ghost use Prim.Native.Nat.{_≤_};
 ghost use lib.ListN.{length};
 ghost use Rattle.report.specs.Input.{mostReported};
-ghost use Rattle.report_text.specs.Text.{Put};
+ghost use Rattle.report_text.specs.Text.{PutWithin};
 ghost use Rattle.report_lines.specs.Lines.{textRoom};
 ghost use Rattle.report_io.specs.Answers.{textOf, Putable, TextAnswered};
 
-// 11 bytes for each entry of three lists, and 139 for the words
-const TEXT_ROOM: usize = 11 * (3 * MOST_REPORTED) + 139;
+// bytes of an entry of a list, a space and ten digits
+const ENTRY: usize = 11;
+
+// bytes of the six lines where the lists of frames are empty: their words, four lags and the stability
+const WORDS: usize = 139;
+
+// for three lists with an entry for each row
+const TEXT_ROOM: usize = ENTRY * (3 * MOST_REPORTED) + WORDS;
 
 fn text_room() -> [u8; TEXT_ROOM]
     ensures { λ r. ⌜ length r ≡ textRoom ⌝ }
@@ -27,7 +33,7 @@ fn text_room() -> [u8; TEXT_ROOM]
 // Puts what is to be written of a reading, whose flux is lent: its refusal, or the report.
 fn put_answer(reading: Reading, flux: &[f64], bytes: &mut [u8]) -> usize
     requires { ⌜ (reading .number ≡ 0 → Putable reading (now flux)) × (textRoom ≤ length (now bytes)) ⌝ }
-    ensures { λ r. ⌜ Put (now (bytes .entry)) 0 (textOf reading (now (flux .entry))) textRoom r (now (bytes .exit)) ⌝ }
+    ensures { λ r. ⌜ PutWithin (now (bytes .entry)) 0 (textOf reading (now (flux .entry))) textRoom r (now (bytes .exit)) ⌝ }
 {
     if reading.number != 0 {
         return report_text::put_refusal(bytes, reading.number);

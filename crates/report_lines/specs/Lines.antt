@@ -10,7 +10,7 @@ use Rattle.stability.specs.declared.Stability.{Stability}
 use Rattle.stability.specs.declared.Stability.the-variants.{None, Share}
 use Rattle.track.specs.declared.Analysis.{Analysis}
 use Rattle.report.specs.Input.{mostReported}
-use Rattle.report_text.specs.Text.{reportText, reportRoom}
+use Rattle.report_text.specs.Text.{reportText, reportRoom, mostCandidates}
 
 -- the lags of candidates
 abbrev pub candidateLags : List Candidate → List ℕ
@@ -37,7 +37,7 @@ linesOf a onsets beats downbeats =
 
 -- no lag of three candidates is longer than a period, whatever stands for one that is not there
 abbrev pub LagsFit : List Candidate → Type 0
-LagsFit candidates = (i : ℕ) (z : Candidate) → i < 3 → getD candidates i z .lag ≤ mostPeriod
+LagsFit candidates = (i : ℕ) (z : Candidate) → i < mostCandidates → getD candidates i z .lag ≤ mostPeriod
 
 -- the slices have as many entries as the answer says, and each number is one that the text has room for
 pub record Listable (a : Analysis) (onsets beats downbeats : List ℕ) : Type 0 where
@@ -47,7 +47,7 @@ pub record Listable (a : Analysis) (onsets beats downbeats : List ℕ) : Type 0 
   pub onset-lists : length onsets ≡ mostReported
   pub beat-lists : length beats ≡ mostReported
   pub downbeat-lists : length downbeats ≡ mostReported
-  pub few : a .count ≤ 3
+  pub few : a .count ≤ mostCandidates
   pub lags : LagsFit (a .candidates)
   pub agreeing : agreeingIn (a .stability) ≤ 4
   pub windows : windowsIn (a .stability) ≤ 4

@@ -8,7 +8,7 @@ use track::Analysis;
 ghost use mathlib.Core.Path.{_≡_};
 ghost use Prim.Native.Nat.{_≤_};
 ghost use lib.ListN.{length};
-ghost use Rattle.report_text.specs.Text.{Put};
+ghost use Rattle.report_text.specs.Text.{PutWithin};
 ghost use Rattle.report_lines.specs.Lines.{textRoom, candidateLags, agreeingIn, windowsIn, linesOf, LagsFit, Listable};
 
 // The counts of a stability, as the text has them.
@@ -57,7 +57,9 @@ pub fn put_lines(
     bytes: &mut [u8],
 ) -> usize
     requires { ⌜ Listable answer (now onsets) (now beats) (now downbeats) × (textRoom ≤ length (now bytes)) ⌝ }
-    ensures { λ r. ⌜ Put (now (bytes .entry)) 0 (linesOf answer (now (onsets .entry)) (now (beats .entry)) (now (downbeats .entry))) textRoom r (now (bytes .exit)) ⌝ }
+    ensures { λ r. ⌜ PutWithin
+        (now (bytes .entry)) 0 (linesOf answer (now (onsets .entry)) (now (beats .entry)) (now (downbeats .entry))) textRoom
+        r (now (bytes .exit)) ⌝ }
 {
     let candidates = answer.candidates;
     let stability = answer.stability;

@@ -2,16 +2,7 @@
 use mathlib.Core.Path.{_≡_, refl}
 use mathlib.Core.List.{[], _∷_, _++_}
 use Rattle.report_npy.specs.declared.Header.the-variants.{Malformed, Shape}
-use Rattle.report_npy.specs.Header.{front, decimal, headerText, headerOf}
-
--- 8000 in decimal, and 0
-eight-thousand : decimal 8000 ≡ 56 ∷ 48 ∷ 48 ∷ 48 ∷ []
-unfolding decimal
-eight-thousand = refl
-
-nought-written : decimal 0 ≡ 48 ∷ []
-unfolding decimal
-nought-written = refl
+use Rattle.report_npy.specs.Header.{front, headerText, headerOf}
 
 -- `4, 1), }`, two spaces and a line feed behind the front
 four-one : headerText 4 1 2 ≡ front ++ (52 ∷ 44 ∷ 32 ∷ 49 ∷ 41 ∷ 44 ∷ 32 ∷ 125 ∷ 32 ∷ 32 ∷ 10 ∷ [])

@@ -9,13 +9,15 @@ use lib.ListN.{length, drop, replicate}
 use lib.Seq.{drop-drop, drop-append-seam}
 use borrow.Author.Tests.{eqb-true}
 use Rattle.numbers.specs.Rounded.{pick}
-use Rattle.numbers.specs.Lists.{every}
 use Rattle.numbers.proofs.Tests.{and-left, and-right, and-both, and-held, and-failed, true-not-false, pick-true, pick-false}
 use Rattle.report_npy.specs.declared.Header.{Header}
 use Rattle.report_npy.specs.declared.Header.the-variants.{Malformed, Shape}
-use Rattle.report_npy.specs.Header.{front, comma, closing, decimal, headerText, starts, isDigit, leading, behind, plain, numberFrom, heldNumber, ended, columnsOf, rowsOf, headerOf}
-use Rattle.report_npy.proofs.Texts.{starts-split, starts-own}
-use Rattle.report_npy.proofs.Decimals.{decimal-number, decimal-is, decimal-digits, decimal-plain}
+use Rattle.texts.specs.Texts.{starts}
+use Rattle.texts.specs.Decimals.{decimal, leading, behind, plain, numberFrom}
+use Rattle.texts.proofs.Texts.{starts-split, starts-own}
+use Rattle.texts.proofs.Decimals.{decimal-is, decimal-plain}
+use Rattle.texts.proofs.Readings.{leading-stop, leading-decimal, behind-decimal, number-split}
+use Rattle.report_npy.specs.Header.{front, comma, closing, headerText, heldNumber, ended, columnsOf, rowsOf, headerOf}
 
 -- ---- the reader's answers, test by test
 
@@ -95,30 +97,16 @@ module _ (n : ℕ) (text : List ℕ) (at : ℕ) where
 
 -- ---- what is written is read
 
-leading-own : (ds : List ℕ) (x : ℕ) (xs : List ℕ) → every isDigit ds ≡ true → isDigit x ≡ false → leading (ds ++ (x ∷ xs)) ≡ ds
-unfolding leading every
-leading-own [] x xs e h = rw h
-leading-own (d ∷ ds) x xs e h =
-    rw (and-left (isDigit d) (every isDigit ds) e) (ap (λ (r : List ℕ). d ∷ r) (leading-own ds x xs (and-right (isDigit d) _ e) h))
-
 ended-own : (k : ℕ) → ended (replicate k 32 ++ (10 ∷ [])) ≡ true
 unfolding ended
 ended-own zero = refl
 ended-own (suc k) = ended-own k
 
-module _ (n x : ℕ) (xs : List ℕ) (h : isDigit x ≡ false) where
-  leading-decimal : leading (decimal n ++ (x ∷ xs)) ≡ decimal n
-  leading-decimal = leading-own (decimal n) x xs (decimal-digits n) h
-
-  behind-decimal : behind (decimal n ++ (x ∷ xs)) ≡ x ∷ xs
-  unfolding behind
-  behind-decimal = ap (λ (ds : List ℕ). drop (length ds) (decimal n ++ (x ∷ xs))) leading-decimal ∙ drop-append-seam (decimal n) (x ∷ xs)
-
 columns-read : (n b k : ℕ) → columnsOf n (decimal b ++ (closing ++ (replicate k 32 ++ (10 ∷ [])))) ≡ Shape (heldNumber n) (heldNumber b)
 columns-read n b k =
     let t : List ℕ = replicate k 32 ++ (10 ∷ []) in
-    let first = leading-decimal b 41 (44 ∷ 32 ∷ 125 ∷ t) refl in
-    let rest = behind-decimal b 41 (44 ∷ 32 ∷ 125 ∷ t) refl in
+    let first = leading-decimal b (closing ++ t) (leading-stop 41 (44 ∷ 32 ∷ 125 ∷ t) refl) in
+    let rest = behind-decimal b (closing ++ t) (leading-stop 41 (44 ∷ 32 ∷ 125 ∷ t) refl) in
     columns-shape n (decimal b ++ (closing ++ t))
     (ap plain first ∙ decimal-plain b)
     (ap (starts closing) rest ∙ starts-own closing t)
@@ -129,8 +117,8 @@ columns-read n b k =
 rows-read : (n b k : ℕ) → rowsOf (decimal n ++ (comma ++ (decimal b ++ (closing ++ (replicate k 32 ++ (10 ∷ [])))))) ≡ Shape (heldNumber n) (heldNumber b)
 rows-read n b k =
     let t : List ℕ = decimal b ++ (closing ++ (replicate k 32 ++ (10 ∷ []))) in
-    let first = leading-decimal n 44 (32 ∷ t) refl in
-    let rest = behind-decimal n 44 (32 ∷ t) refl in
+    let first = leading-decimal n (comma ++ t) (leading-stop 44 (32 ∷ t) refl) in
+    let rest = behind-decimal n (comma ++ t) (leading-stop 44 (32 ∷ t) refl) in
     rows-columns (decimal n ++ (comma ++ t)) (ap plain first ∙ decimal-plain n) (ap (starts comma) rest ∙ starts-own comma t)
     ∙ ap (λ (r : List ℕ). columnsOf (numberFrom 0 (leading (decimal n ++ (comma ++ t)))) (drop 2 r)) rest
     ∙ ap (λ (ds : List ℕ). columnsOf (numberFrom 0 ds) t) first
@@ -145,29 +133,6 @@ header-read n b k =
     header-rows (front ++ t) (starts-own front t) ∙ rows-read n b k
 
 -- ---- what is read was written so
-
-leading-digits : (text : List ℕ) → every isDigit (leading text) ≡ true
-unfolding leading every
-leading-digits [] = refl
-leading-digits (x ∷ xs) = go (isDigit x) refl (leading-digits xs)
-  where
-    go : (b : Bool) → isDigit x ≡ b → every isDigit (leading xs) ≡ true → every isDigit (pick b (x ∷ leading xs) []) ≡ true
-    go true e h = and-both (isDigit x) _ e h
-    go false e h = refl
-
-leading-split : (text : List ℕ) → text ≡ leading text ++ behind text
-unfolding leading behind
-leading-split [] = refl
-leading-split (x ∷ xs) = go (isDigit x) (leading-split xs)
-  where
-    go : (b : Bool) → xs ≡ leading xs ++ drop (length (leading xs)) xs
-        → x ∷ xs ≡ pick b (x ∷ leading xs) [] ++ drop (length (pick b (x ∷ leading xs) [])) (x ∷ xs)
-    go true h = ap (λ (r : List ℕ). x ∷ r) h
-    go false h = refl
-
--- a plain number is a decimal, and then what stands behind it
-number-split : (text : List ℕ) → plain (leading text) ≡ true → text ≡ decimal (numberFrom 0 (leading text)) ++ behind text
-number-split text p = leading-split text ∙ ap (λ (r : List ℕ). r ++ behind text) (sym (decimal-number (leading text) p (leading-digits text)))
 
 no-text : (xs : List ℕ) → length xs ≡ 0 → xs ≡ []
 no-text [] e = refl
@@ -201,7 +166,7 @@ shape-bins : (m n p q : ℕ) → Shape m n ≡ Shape p q → n ≡ q
 shape-bins m n p q e = cc
 
 -- a text that is the header of a shape, which is read as p and q
-pub record Written (text : List ℕ) (p q : ℕ) : Type 0 where
+pub record HeaderWritten (text : List ℕ) (p q : ℕ) : Type 0 where
   pub rows : ℕ
   pub bins : ℕ
   pub spaces : ℕ
@@ -253,7 +218,7 @@ rows-written text p q e =
     }
 
 -- Whatever text is read as a shape is the header of that shape, its numbers held to the most.
-pub header-written : (text : List ℕ) (p q : ℕ) → headerOf text ≡ Shape p q → Written text p q
+pub header-written : (text : List ℕ) (p q : ℕ) → headerOf text ≡ Shape p q → HeaderWritten text p q
 unfolding headerOf headerText
 header-written text p q e =
     let w = shape-passed (starts front text) (rowsOf (drop 51 text)) p q e in

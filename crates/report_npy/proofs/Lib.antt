@@ -1,7 +1,6 @@
 -- The laws that other crates cite: `header-read` and `header-written` of Headers are the two halves of "exactly".
 pub mod Headers
-pub mod Texts
-pub mod Decimals
+pub mod Endings
 pub mod Patterns
 pub mod Preambles
 mod Examples

@@ -7,7 +7,8 @@ use lib.ListN.{length, getD}
 use borrow.Author.Tests.{le-leb, lt-leb}
 use Rattle.numbers.proofs.Tests.{and-both, and-held, and-failed, pick-true, pick-false}
 use Rattle.report_npy.specs.declared.Preamble.the-variants.{Malformed, Length}
-use Rattle.report_npy.specs.Header.{magic, starts, preambleOf}
+use Rattle.texts.specs.Texts.{starts}
+use Rattle.report_npy.specs.Header.{magic, preambleOf}
 
 module _ (bytes : List ℕ) where
   pub preamble-malformed : starts magic bytes ≡ false → preambleOf bytes ≡ Malformed

@@ -1,12 +1,14 @@
 -- Document 01, "The reporting program": the header of a NumPy .npy 1.0 array, "its header text exactly
 -- `{'descr': '<f4', 'fortran_order': False, 'shape': (N, B), }`, then any number of spaces and a line feed that ends the stated header
 -- length, N and B without needless zeros". A text is the list of its bytes.
-use Prim.Native.Nat.{ℕ, zero, suc, _+_, _-_, _*_, _/_, _%_, min}
-use mathlib.Core.Bool.{Bool, true, false, _&&_, not}
+use Prim.Native.Nat.{ℕ, _+_, _*_, min}
+use mathlib.Core.Bool.{Bool, true, false, _&&_}
 use mathlib.Core.List.{List, [], _∷_, _++_}
-use lib.Dec.{leb, ltb, eqb}
+use lib.Dec.{leb, eqb}
 use lib.ListN.{length, getD, drop, replicate}
 use Rattle.numbers.specs.Rounded.{pick}
+use Rattle.texts.specs.Texts.{space, lineFeed, starts}
+use Rattle.texts.specs.Decimals.{decimal, leading, behind, plain, numberFrom}
 use Rattle.report_npy.specs.declared.Preamble.{Preamble}
 use Rattle.report_npy.specs.declared.Preamble.the-variants as preamble
 use Rattle.report_npy.specs.declared.Header.{Header}
@@ -17,7 +19,9 @@ use Rattle.report_npy.specs.declared.Header.the-variants as header
 -- `{'descr': '<f4', 'fortran_order': False, 'shape': (`, 51 bytes
 abbrev pub front : List ℕ
 front =
-    123 ∷ 39 ∷ 100 ∷ 101 ∷ 115 ∷ 99 ∷ 114 ∷ 39 ∷ 58 ∷ 32 ∷ 39 ∷ 60 ∷ 102 ∷ 52 ∷ 39 ∷ 44 ∷ 32 ∷ 39 ∷ 102 ∷ 111 ∷ 114 ∷ 116 ∷ 114 ∷ 97 ∷ 110 ∷ 95 ∷ 111 ∷ 114 ∷ 100 ∷ 101 ∷ 114 ∷ 39 ∷ 58 ∷ 32 ∷ 70 ∷ 97 ∷ 108 ∷ 115 ∷ 101 ∷ 44 ∷ 32 ∷ 39 ∷ 115 ∷ 104 ∷ 97 ∷ 112 ∷ 101 ∷ 39 ∷ 58 ∷ 32 ∷ 40 ∷ []
+    123 ∷ 39 ∷ 100 ∷ 101 ∷ 115 ∷ 99 ∷ 114 ∷ 39 ∷ 58 ∷ 32 ∷ 39 ∷ 60 ∷ 102 ∷ 52 ∷ 39 ∷ 44 ∷ 32 ∷
+    39 ∷ 102 ∷ 111 ∷ 114 ∷ 116 ∷ 114 ∷ 97 ∷ 110 ∷ 95 ∷ 111 ∷ 114 ∷ 100 ∷ 101 ∷ 114 ∷ 39 ∷ 58 ∷ 32 ∷ 70 ∷ 97 ∷ 108 ∷ 115 ∷ 101 ∷ 44 ∷ 32 ∷
+    39 ∷ 115 ∷ 104 ∷ 97 ∷ 112 ∷ 101 ∷ 39 ∷ 58 ∷ 32 ∷ 40 ∷ []
 
 -- `, `
 abbrev pub comma : List ℕ
@@ -27,62 +31,12 @@ comma = 44 ∷ 32 ∷ []
 abbrev pub closing : List ℕ
 closing = 41 ∷ 44 ∷ 32 ∷ 125 ∷ []
 
-abbrev pub space : ℕ
-space = 32
-
-abbrev pub lineFeed : ℕ
-lineFeed = 10
-
--- the digit that stands for a number below ten; 48 is `0`
-abbrev pub digitOf : ℕ → ℕ
-digitOf n = 48 + n
-
--- n in decimal, with at most `most` digits before the last
-unfoldable pub written : ℕ → ℕ → List ℕ
-written zero n = digitOf n ∷ []
-written (suc most) n = pick (ltb n 10) (digitOf n ∷ []) (written most (n / 10) ++ (digitOf (n % 10) ∷ []))
-
--- n in decimal: a number has fewer digits than its own size, or one
-unfoldable pub decimal : ℕ → List ℕ
-unfolding written
-decimal n = written n n
-
 -- the header of n rows and b bins, with k spaces before the line feed
 unfoldable pub headerText : (n b k : ℕ) → List ℕ
 unfolding decimal
 headerText n b k = front ++ (decimal n ++ (comma ++ (decimal b ++ (closing ++ (replicate k space ++ (lineFeed ∷ []))))))
 
 -- ---- the text as it is read
-
--- a text that starts with these bytes
-unfoldable pub starts : List ℕ → List ℕ → Bool
-starts [] text = true
-starts (w ∷ ws) [] = false
-starts (w ∷ ws) (x ∷ xs) = eqb x w && starts ws xs
-
-abbrev pub isDigit : ℕ → Bool
-isDigit x = leb 48 x && leb x 57
-
--- the digits that a text starts with
-unfoldable pub leading : List ℕ → List ℕ
-leading [] = []
-leading (x ∷ xs) = pick (isDigit x) (x ∷ leading xs) []
-
--- what stands behind them
-unfoldable pub behind : List ℕ → List ℕ
-unfolding leading
-behind text = drop (length (leading text)) text
-
--- "without needless zeros": there is a digit, and the first of several is not `0`
-unfoldable pub plain : List ℕ → Bool
-plain [] = false
-plain (x ∷ []) = true
-plain (x ∷ y ∷ ys) = not (eqb x 48)
-
--- the number that digits stand for, behind those of v
-unfoldable pub numberFrom : ℕ → List ℕ → ℕ
-numberFrom v [] = v
-numberFrom v (x ∷ xs) = numberFrom (v * 10 + (x - 48)) xs
 
 -- 4,294,967,295: above every bound of document 01, so that a number held to it is out of bounds where the number is
 abbrev pub mostNumber : ℕ

@@ -2,11 +2,27 @@
 //
 // Document 01, The reporting program. Inner calls all: the reporting program is their only caller.
 // No call refuses anything or prints: a malformed header is an answer.
+use texts::digits_end;
+use texts::number_at;
+use texts::plain_number;
+use texts::stands;
 ghost use mathlib.Core.Path.{_≡_};
-ghost use Prim.Native.Nat.{_+_, _-_, _*_, _≤_};
-ghost use lib.ListN.{length, drop};
-ghost use Rattle.report_npy.specs.Header.{starts, leading, plain, numberFrom, mostNumber, heldNumber, ended, headerOf, preambleOf};
+ghost use lib.ListN.{drop};
+ghost use Rattle.report_npy.specs.Header.{ended, headerOf, preambleOf};
 ghost use Rattle.report_npy.specs.Values.{wordOf, singleOf, rowRead};
+
+// above every bound of document 01: a number is told as at most this
+const MOST_NUMBER: u64 = 4_294_967_295;
+
+// the bytes before N in a header's text, and those between N and B and behind B
+const FRONT: usize = 51;
+
+const COMMA: usize = 2;
+
+const CLOSING: usize = 4;
+
+// the bytes before a header's text
+const FIRST: usize = 10;
 
 // What the first ten bytes say.
 pub enum Preamble {
@@ -18,87 +34,6 @@ pub enum Preamble {
 pub enum Header {
     Malformed,
     Shape(u64, u64),
-}
-
-// Whether the text has these bytes from the place `at` on.
-fn stands(text: &[u8], at: usize, bytes: &[u8]) -> bool
-    ensures { λ r. ⌜ r ≡ starts (now (bytes .entry)) (drop at (now (text .entry))) ⌝ }
-{
-    let mut place = at;
-    let mut i = 0;
-    while i < bytes.len() {
-        if place >= text.len() {
-            return false;
-        }
-        if text[place] != bytes[i] {
-            return false;
-        }
-        place += 1;
-        i += 1;
-    }
-    true
-}
-
-// The place behind the digits that stand from `at` on.
-fn digits_end(text: &[u8], at: usize) -> usize
-    ensures { λ r. ⌜ r ≡ at + length (leading (drop at (now (text .entry)))) ⌝ }
-{
-    let mut place = at;
-    while place < text.len() {
-        let x = text[place];
-        if x < b'0' {
-            return place;
-        }
-        if x > b'9' {
-            return place;
-        }
-        place += 1;
-    }
-    place
-}
-
-// Whether digits stand from `at` on without a needless zero.
-fn plain_number(text: &[u8], at: usize) -> bool
-    ensures { λ r. ⌜ r ≡ plain (leading (drop at (now (text .entry)))) ⌝ }
-{
-    let count = digits_end(text, at) - at;
-    if count == 0 {
-        return false;
-    }
-    if count == 1 {
-        return true;
-    }
-    text[at] != b'0'
-}
-
-// v followed by one digit more, held to 4,294,967,295.
-fn one_more(v: u64, x: u8) -> u64
-    requires { ⌜ (v ≤ mostNumber) × (48 ≤ x) ⌝ }
-    ensures { λ r. ⌜ r ≡ heldNumber (v * 10 + (x - 48)) ⌝ }
-{
-    let digit = (x - b'0') as u64;
-    let w = v * 10 + digit;
-    if w < 4_294_967_295 { w } else { 4_294_967_295 }
-}
-
-// The number whose digits stand from `at` on.
-fn number_at(text: &[u8], at: usize) -> u64
-    ensures { λ r. ⌜ r ≡ heldNumber (numberFrom 0 (leading (drop at (now (text .entry))))) ⌝ }
-{
-    let mut v: u64 = 0;
-    let mut place = at;
-    while place < text.len() {
-        let x = text[place];
-        if x < b'0' {
-            return v;
-        }
-        if x > b'9' {
-            return v;
-        }
-        v = one_more(v, x);
-        place += 1;
-    }
-    v
 }
 
 // Whether spaces and then a line feed stand from `at` on, and nothing behind them.
@@ -128,14 +63,14 @@ pub fn read_header(text: &[u8]) -> Header
     ) {
         return Header::Malformed;
     }
-    if !plain_number(text, 51) {
+    if !plain_number(text, FRONT) {
         return Header::Malformed;
     }
-    let rows_end = digits_end(text, 51);
+    let rows_end = digits_end(text, FRONT);
     if !stands(text, rows_end, b", ") {
         return Header::Malformed;
     }
-    let columns = rows_end + 2;
+    let columns = rows_end + COMMA;
     if !plain_number(text, columns) {
         return Header::Malformed;
     }
@@ -143,10 +78,13 @@ pub fn read_header(text: &[u8]) -> Header
     if !stands(text, columns_end, b"), }") {
         return Header::Malformed;
     }
-    if !ends(text, columns_end + 4) {
+    if !ends(text, columns_end + CLOSING) {
         return Header::Malformed;
     }
-    Header::Shape(number_at(text, 51), number_at(text, columns))
+    Header::Shape(
+        number_at(text, FRONT, MOST_NUMBER),
+        number_at(text, columns, MOST_NUMBER),
+    )
 }
 
 // Inner: reads the ten bytes before a header: the length of its text, or that they are not those of a NumPy 1.0 file.
@@ -157,7 +95,7 @@ pub fn read_preamble(bytes: &[u8]) -> Preamble
     if !stands(bytes, 0, b"\x93NUMPY\x01\x00") {
         return Preamble::Malformed;
     }
-    if bytes.len() < 10 {
+    if bytes.len() < FIRST {
         return Preamble::Malformed;
     }
     Preamble::Length((bytes[8] as usize) + (bytes[9] as usize) * 256)

@@ -1,3 +1,2 @@
 -- The laws that other crates cite, and those that the proofs of this one share.
-pub mod Decimals
 pub mod Puts

@@ -1,10 +1,10 @@
 -- Document 01, "The reporting program": "A refusal writes `refused`, a space and the number. Lines list frames or lags with one space between,
 -- or `none`, and stability as agreeing/windows." A text is the list of its bytes.
 use Prim.Native.Nat.{ℕ, zero, suc, _+_, _*_, _≤_}
-use mathlib.Core.Path.{_≡_}
 use mathlib.Core.List.{List, [], _∷_, _++_}
 use lib.ListN.{length, take}
-use Rattle.report_npy.specs.Header.{decimal, space, lineFeed}
+use Rattle.texts.specs.Texts.{space, lineFeed, Put}
+use Rattle.texts.specs.Decimals.{decimal}
 
 -- ---- the words
 
@@ -80,24 +80,65 @@ stabilityText agreeing windows = stabilityWord ++ shareText agreeing windows ++ 
 unfoldable pub reportText : (onsets candidates beats downbeats : List ℕ) → (agreeing windows : ℕ) → List ℕ
 unfolding lineText stabilityText
 reportText onsets candidates beats downbeats agreeing windows =
-    lineText onsetsWord onsets ++ lineText lagWord (take 1 candidates) ++ lineText candidatesWord candidates ++ lineText beatsWord beats ++ lineText downbeatsWord downbeats ++ stabilityText agreeing windows
+    lineText onsetsWord onsets
+    ++ lineText lagWord (take 1 candidates)
+    ++ lineText candidatesWord candidates
+    ++ lineText beatsWord beats
+    ++ lineText downbeatsWord downbeats
+    ++ stabilityText agreeing windows
 
 -- the line of a refusal
 unfoldable pub refusalText : ℕ → List ℕ
 refusalText number = refusedWord ++ spaced number ++ (lineFeed ∷ [])
 
--- ---- a text that is written on into lent bytes
+-- ---- as it is written into lent bytes, and the room for it
 
--- A piece is written behind the first `at` bytes: the answer is the place behind it, at most `most` bytes on.
-pub record Put (bytes : List ℕ) (at : ℕ) (piece : List ℕ) (most : ℕ) (end : ℕ) (bytes′ : List ℕ) : Type 0 where
-  pub end-is : end ≡ at + length piece
+-- A piece is written from `at` on, and the place behind it is at most `most` bytes on.
+pub record PutWithin (was : List ℕ) (at : ℕ) (piece : List ℕ) (most end : ℕ) (after : List ℕ) : Type 0 where
+  pub put : Put was at piece end after
   pub end-most : end ≤ at + most
-  pub text-is : take end bytes′ ≡ take at bytes ++ piece
 
--- room for a list of n numbers below 2 ^ 32, a space before each, or for `none`
+-- digits of a number below 2 ^ 32
+abbrev pub numberRoom : ℕ
+numberRoom = 10
+
+-- and a space before it
+abbrev pub spacedRoom : ℕ
+spacedRoom = 1 + numberRoom
+
+-- n such numbers
+abbrev pub numbersRoom : ℕ → ℕ
+numbersRoom n = spacedRoom * n
+
+-- or `none`
 abbrev pub listRoom : ℕ → ℕ
-listRoom n = 5 + 11 * n
+listRoom n = length noneText + numbersRoom n
 
--- room for a report of so many onsets, beats and downbeats, with at most three candidates
+-- a word of so many bytes, a list of n numbers, a line feed
+abbrev pub lineRoom : (word n : ℕ) → ℕ
+lineRoom word n = word + listRoom n + 1
+
+-- agreeing/windows, or `none`
+abbrev pub shareRoom : ℕ
+shareRoom = spacedRoom + 1 + numberRoom
+
+abbrev pub stabilityRoom : ℕ
+stabilityRoom = length stabilityWord + shareRoom + 1
+
+-- candidates of an estimate
+abbrev pub mostCandidates : ℕ
+mostCandidates = 3
+
+-- a report of so many onsets, beats and downbeats: its six lines
 abbrev pub reportRoom : (onsets beats downbeats : ℕ) → ℕ
-reportRoom onsets beats downbeats = 11 * (onsets + beats + downbeats) + 139
+reportRoom onsets beats downbeats =
+    lineRoom (length onsetsWord) onsets
+    + lineRoom (length lagWord) 1
+    + lineRoom (length candidatesWord) mostCandidates
+    + lineRoom (length beatsWord) beats
+    + lineRoom (length downbeatsWord) downbeats
+    + stabilityRoom
+
+-- the line of a refusal
+abbrev pub refusalRoom : ℕ
+refusalRoom = length refusedWord + spacedRoom + 1

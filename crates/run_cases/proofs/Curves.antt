@@ -8,7 +8,7 @@ use borrow.Author.Tests.{eq-eqb, ne-eqb, lt-ltb, le-ltb, le-leb, lt-leb}
 use lib.ListN.{length, getD, set, take, drop, drop-of-length-le}
 use lib.Seq.{drop-cons}
 use lib.Ieee.{Float, binary64, toBits, nan}
-use Rattle.run_cases.specs.Curves.{valueOf, spelledIn, differs, differing}
+use Rattle.run_cases.specs.Curves.{caseValue, spelledIn, differs, differing}
 
 -- ---- spelled
 
@@ -19,12 +19,12 @@ spelled-length (x ∷ xs) [] = refl
 spelled-length (x ∷ xs) (v ∷ vs) = ap suc (spelled-length xs vs)
 
 -- one byte more
-pub spelled-step : (xs : List ℕ) (vs : List Float) (i : ℕ) → i < length xs → i < length vs → set (spelledIn (take i xs) vs) i (valueOf (getD xs i 0)) ≡ spelledIn (take (suc i) xs) vs
+pub spelled-step : (xs : List ℕ) (vs : List Float) (i : ℕ) → i < length xs → i < length vs → set (spelledIn (take i xs) vs) i (caseValue (getD xs i 0)) ≡ spelledIn (take (suc i) xs) vs
 unfolding spelledIn
 spelled-step [] vs i h k = absurd (omega arith)
 spelled-step (x ∷ xs) [] i h k = absurd (omega arith)
 spelled-step (x ∷ xs) (v ∷ vs) zero h k = refl
-spelled-step (x ∷ xs) (v ∷ vs) (suc i) h k = ap (λ (l : List Float). valueOf x ∷ l) (spelled-step xs vs i (omega arith) (omega arith))
+spelled-step (x ∷ xs) (v ∷ vs) (suc i) h k = ap (λ (l : List Float). caseValue x ∷ l) (spelled-step xs vs i (omega arith) (omega arith))
 
 -- as many bytes as both have are all that count
 pub spelled-end : (xs : List ℕ) (vs : List Float) (i : ℕ) → min (length xs) (length vs) ≤ i → spelledIn (take i xs) vs ≡ spelledIn xs vs
@@ -34,7 +34,7 @@ spelled-end [] vs (suc i) h = refl
 spelled-end (x ∷ xs) [] zero h = refl
 spelled-end (x ∷ xs) [] (suc i) h = refl
 spelled-end (x ∷ xs) (v ∷ vs) zero h = absurd (omega arith)
-spelled-end (x ∷ xs) (v ∷ vs) (suc i) h = ap (λ (l : List Float). valueOf x ∷ l) (spelled-end xs vs i (omega arith))
+spelled-end (x ∷ xs) (v ∷ vs) (suc i) h = ap (λ (l : List Float). caseValue x ∷ l) (spelled-end xs vs i (omega arith))
 
 -- ---- differing
 

@@ -8,7 +8,7 @@ use borrow.Author.Tests.{eq-eqb, ne-eqb, le-leb, lt-leb}
 use lib.ListN.{length, getD, take, drop, drop-of-length-le}
 use lib.Seq.{drop-cons, take-length}
 use Rattle.bytes.specs.Bytes.{indexOf, slice}
-use Rattle.run_cases.specs.Texts.{marksOf, partsFrom, front, partOf, withDigit, numberFrom}
+use Rattle.run_cases.specs.Texts.{marksOf, partsFrom, casePart}
 
 -- the text from its part 0 on is the text
 pub from-first : (mark : ℕ) (s : List ℕ) → partsFrom mark s 0 ≡ s
@@ -43,17 +43,8 @@ module _ (mark : ℕ) (s : List ℕ) (i : ℕ) where
     from-end h = rw drop-of-length-le
 
 -- the part that begins at a place: from there up to the first mark
-pub part-at : (mark : ℕ) (s : List ℕ) (k from end : ℕ) → drop from s ≡ partsFrom mark s k → end ≡ from + indexOf mark (slice from (length s) s) → take (end - from) (drop from s) ≡ partOf mark s k
-unfolding partOf front slice
+pub part-at : (mark : ℕ) (s : List ℕ) (k from end : ℕ) → drop from s ≡ partsFrom mark s k → end ≡ from + indexOf mark (slice from (length s) s) → take (end - from) (drop from s) ≡ casePart mark s k
+unfolding casePart slice
 part-at mark s k from end e f =
     let n : end - from ≡ indexOf mark (drop from s) = omega (arith, rw take-length at f) in
     rw (n, e)
-
-module _ (s : List ℕ) (i n : ℕ) where
-  pub number-step : i < length s → numberFrom n (drop i s) ≡ numberFrom (withDigit n (getD s i 0)) (drop (i + 1) s)
-  unfolding numberFrom
-  number-step h = rw (add-one, drop-cons s i 0)
-
-  pub number-end : length s ≤ i → numberFrom n (drop i s) ≡ n
-  unfolding numberFrom
-  number-end h = rw drop-of-length-le

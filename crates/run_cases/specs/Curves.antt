@@ -4,34 +4,33 @@ use mathlib.Core.Bool.{Bool, _&&_, _||_, not}
 use mathlib.Core.List.{List, [], _∷_}
 use lib.Dec.{eqb, ltb, leb}
 use lib.Ieee.{Float, binary64, neg, toBits}
-use Rattle.numbers.specs.Rounded.{bits, real, nought, pick, _⊖_, _⊘_, one}
+use Rattle.numbers.specs.Rounded.{bits, real, nought, one, half, pick, _⊖_, _⊘_}
+use Rattle.numbers.specs.Limits.{valueTop}
 
-abbrev top : Float
-top = bits 0x4950_0000_0000_0000
-
-abbrev above : Float
-above = bits 0x4950_0000_0000_0001
+-- the next above the largest size of a value
+abbrev aboveTop : Float
+aboveTop = bits 0x4950_0000_0000_0001
 
 -- a value far from 0, by its letter; else the distance of a byte from 0
 unfoldable pub farOf : ℕ → Float
 farOf b =
-    pick (eqb b 98) top  -- b
-    (pick (eqb b 99) (neg top)  -- c
-    (pick (eqb b 97) above  -- a
-    (pick (eqb b 100) (neg above)  -- d
+    pick (eqb b 98) valueTop  -- b
+    (pick (eqb b 99) (neg valueTop)  -- c
+    (pick (eqb b 97) aboveTop  -- a
+    (pick (eqb b 100) (neg aboveTop)  -- d
     (pick (eqb b 105) (one ⊘ nought)  -- i
     (pick (eqb b 106) (neg one ⊘ nought)  -- j
     (pick (eqb b 110) (nought ⊘ nought)  -- n
     (real b ⊖ bits 0x4048_0000_0000_0000)))))))
 
 -- what a byte of a curve stands for: a letter for a value that is no digit
-unfoldable pub valueOf : ℕ → Float
+unfoldable pub caseValue : ℕ → Float
 unfolding farOf
-valueOf b =
+caseValue b =
     pick (eqb b 122) (neg nought)  -- z
     (pick (eqb b 116) (bits 0x3FB9_9999_9999_999A)  -- t: a tenth
     (pick (eqb b 113) (bits 0x3FD0_0000_0000_0000)  -- q: a quarter
-    (pick (eqb b 104) (bits 0x3FE0_0000_0000_0000)  -- h: a half
+    (pick (eqb b 104) half  -- h: a half
     (pick (eqb b 102) (bits 0x4004_0000_0000_0000)  -- f: 2.5
     (pick (eqb b 117) (bits 0x4014_0000_0000_0001)  -- u: the next above 5
     (pick (eqb b 118) (bits 0x3FF0_0000_0000_0001)  -- v: the next above 1
@@ -43,7 +42,7 @@ valueOf b =
 unfoldable pub spelledIn : List ℕ → List Float → List Float
 spelledIn [] vs = vs
 spelledIn (x ∷ xs) [] = []
-spelledIn (x ∷ xs) (v ∷ vs) = valueOf x ∷ spelledIn xs vs
+spelledIn (x ∷ xs) (v ∷ vs) = caseValue x ∷ spelledIn xs vs
 
 -- 1 where slot i lies outside first up to past and has not the same bits in both
 unfoldable pub differs : ℕ → ℕ → ℕ → Float → Float → ℕ

@@ -1,11 +1,12 @@
 -- What a text of cases says: its parts between marks, and the numbers that they spell.
-use Prim.Native.Nat.{ℕ, _+_, _*_, _-_, _%_}
-use mathlib.Core.Bool.{Bool, _&&_}
+use Prim.Native.Nat.{ℕ, _+_, _-_, _%_, min}
 use mathlib.Core.List.{List, [], _∷_}
-use lib.ListN.{take}
-use lib.Dec.{eqb, leb, ltb}
+use lib.ListN.{take, drop}
+use lib.Dec.{eqb, ltb}
 use Rattle.bytes.specs.Bytes.{indexOf}
 use Rattle.numbers.specs.Rounded.{pick}
+use Rattle.texts.specs.Texts.{starts}
+use Rattle.texts.specs.Decimals.{leading, numberFrom}
 
 -- how many marks a text has
 unfoldable pub marksOf : ℕ → List ℕ → ℕ
@@ -17,29 +18,34 @@ unfoldable pub partsFrom : ℕ → List ℕ → ℕ → List ℕ
 partsFrom mark [] k = []
 partsFrom mark (x ∷ xs) k = pick (eqb k 0) (x ∷ xs) (partsFrom mark xs (pick (eqb x mark) (k - 1) k))
 
--- a text up to its first mark
-unfoldable pub front : ℕ → List ℕ → List ℕ
-front mark xs = take (indexOf mark xs) xs
+-- part k of a text, up to the next mark
+unfoldable pub casePart : ℕ → List ℕ → ℕ → List ℕ
+unfolding partsFrom
+casePart mark text k = let rest = partsFrom mark text k in take (indexOf mark rest) rest
 
--- part k of a text
-unfoldable pub partOf : ℕ → List ℕ → ℕ → List ℕ
-unfolding front
-partOf mark xs k = front mark (partsFrom mark xs k)
+-- `-`
+abbrev pub minus : List ℕ
+minus = 45 ∷ []
 
--- a number with a digit more, and the largest of all where that comes near it or above it; other bytes leave it
-unfoldable pub withDigit : ℕ → ℕ → ℕ
-withDigit n byte = pick (leb 48 byte && leb byte 57) (pick (leb n 1844674407370955160) (n * 10 + (byte - 48)) 18446744073709551615) n
+-- `|`, between the columns of a line
+abbrev pub bar : ℕ
+bar = 124
 
--- the number that the digits of a text spell, behind those of n
-unfoldable pub numberFrom : ℕ → List ℕ → ℕ
-numberFrom n [] = n
-numberFrom n (x ∷ xs) = numberFrom (withDigit n x) xs
+-- the largest u32, and the largest u64
+abbrev pub mostSmall : ℕ
+mostSmall = 4294967295
 
--- the number in column k of a line, whose columns have bars between them
-unfoldable pub columnOf : List ℕ → ℕ → ℕ
-unfolding partOf numberFrom
-columnOf line k = numberFrom 0 (partOf 124 line k)
+abbrev pub mostLarge : ℕ
+mostLarge = 18446744073709551615
+
+-- the number that a text spells: digits, behind a minus sign if it has one
+unfoldable pub caseNumber : List ℕ → ℕ
+caseNumber text = min (numberFrom 0 (leading (pick (starts minus text) (drop 1 text) text))) mostLarge
+
+-- the number in column k of a line
+unfoldable pub caseColumn : List ℕ → ℕ → ℕ
+caseColumn line k = caseNumber (casePart bar line k)
 
 -- the value of a digit, or of a letter from ten on
-unfoldable pub digitOf : ℕ → ℕ
-digitOf byte = pick (ltb byte 97) (byte % 48) (byte - 87)
+unfoldable pub caseDigit : ℕ → ℕ
+caseDigit byte = pick (ltb byte 97) (byte % 48) (byte - 87)

@@ -3,8 +3,8 @@
 ghost use mathlib.Core.Path.{_≡_};
 ghost use Prim.Native.Nat.{_≤_, _%_, min};
 ghost use lib.ListN.{length, drop};
-ghost use Rattle.run_cases.specs.Texts.{marksOf, partsFrom, partOf, withDigit, numberFrom, columnOf, digitOf};
-ghost use Rattle.run_cases.specs.Curves.{valueOf, spelledIn, differs, differing};
+ghost use Rattle.run_cases.specs.Texts.{marksOf, partsFrom, casePart, caseNumber, caseColumn, caseDigit, mostSmall};
+ghost use Rattle.run_cases.specs.Curves.{caseValue, spelledIn, differs, differing};
 
 // How many marks a text has.
 pub fn marks(text: &[u8], mark: u8) -> usize
@@ -41,66 +41,47 @@ fn start(text: &[u8], mark: u8, k: usize) -> usize
 
 // Part k of a text: what stands behind its mark k, up to the next one. Empty where it has fewer.
 pub fn part(text: &[u8], mark: u8, k: usize) -> &[u8]
-    ensures { λ r. ⌜ now r ≡ partOf mark (now (text .entry)) k ⌝ }
+    ensures { λ r. ⌜ now r ≡ casePart mark (now (text .entry)) k ⌝ }
 {
     let from = start(text, mark, k);
     let end = bytes::scan::find(text, from, text.len(), mark);
     &text[from..end]
 }
 
-// The number with a digit more, and the largest of all where that comes near it or above it. Other bytes leave it.
-fn with_digit(n: usize, byte: u8) -> usize
-    ensures { λ r. ⌜ r ≡ withDigit n byte ⌝ }
-{
-    if byte < 48 {
-        return n;
-    }
-    if 57 < byte {
-        return n;
-    }
-    if 1844674407370955160 < n {
-        return 18446744073709551615;
-    }
-    n * 10 + (byte - 48) as usize
-}
-
-// The number that the digits of a text spell.
+// The number that a text spells: digits, behind a minus sign if it has one, which the caller reads.
 pub fn number(text: &[u8]) -> usize
-    ensures { λ r. ⌜ r ≡ numberFrom 0 (now (text .entry)) ⌝ }
+    ensures { λ r. ⌜ r ≡ caseNumber (now (text .entry)) ⌝ }
 {
-    let mut n = 0;
-    let mut i = 0;
-    while i < text.len() {
-        n = with_digit(n, text[i]);
-        i += 1;
+    if texts::stands(text, 0, b"-") {
+        return texts::number_at(text, 1, u64::MAX) as usize;
     }
-    n
+    texts::number_at(text, 0, u64::MAX) as usize
 }
 
 // The number in column k of a line, whose columns have bars between them.
 pub fn column(line: &[u8], k: usize) -> usize
-    ensures { λ r. ⌜ r ≡ columnOf (now (line .entry)) k ⌝ }
+    ensures { λ r. ⌜ r ≡ caseColumn (now (line .entry)) k ⌝ }
 {
     number(part(line, b'|', k))
 }
 
 // The number in column k of a line, at most so much.
 pub fn column_within(line: &[u8], k: usize, most: usize) -> usize
-    ensures { λ r. ⌜ r ≡ min (columnOf (now (line .entry)) k) most ⌝ }
+    ensures { λ r. ⌜ r ≡ min (caseColumn (now (line .entry)) k) most ⌝ }
 {
     numbers::least(column(line, k), most)
 }
 
 // The number in column k of a line, or the largest u32.
 pub fn column_u32(line: &[u8], k: usize) -> u32
-    ensures { λ r. ⌜ r ≡ min (columnOf (now (line .entry)) k) 4294967295 ⌝ }
+    ensures { λ r. ⌜ r ≡ min (caseColumn (now (line .entry)) k) mostSmall ⌝ }
 {
-    column_within(line, k, 4294967295) as u32
+    column_within(line, k, u32::MAX as usize) as u32
 }
 
 // The value of a digit, or of a letter from ten on.
 fn digit_of(byte: u8) -> usize
-    ensures { λ r. ⌜ r ≡ digitOf byte ⌝ }
+    ensures { λ r. ⌜ r ≡ caseDigit byte ⌝ }
 {
     if byte < 97 {
         return (byte % 48) as usize;
@@ -110,7 +91,7 @@ fn digit_of(byte: u8) -> usize
 
 // The value of a digit, or of a letter from ten on, at most so much.
 pub fn digit(byte: u8, most: usize) -> usize
-    ensures { λ r. ⌜ r ≡ min (digitOf byte) most ⌝ }
+    ensures { λ r. ⌜ r ≡ min (caseDigit byte) most ⌝ }
 {
     numbers::least(digit_of(byte), most)
 }
@@ -124,7 +105,7 @@ pub fn letter(byte: u8) -> usize
 
 // What a byte of a curve stands for: a letter for a value that is no digit, else its distance from 0.
 pub fn value(byte: u8) -> f64
-    ensures { λ r. ⌜ r ≡ valueOf byte ⌝ }
+    ensures { λ r. ⌜ r ≡ caseValue byte ⌝ }
 {
     match byte {
         b'z' => -0.0,

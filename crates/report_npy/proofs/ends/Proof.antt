@@ -8,7 +8,7 @@ use denote.Ref.{now}
 use lib.ListN.{length, drop}
 use borrow.Author.Tests.{ne-eqb}
 use Rattle.report_npy.specs.Header.{ended}
-use Rattle.report_npy.proofs.Texts.{ended-none, ended-space, ended-feed, ended-other}
+use Rattle.report_npy.proofs.Endings.{ended-none, ended-space, ended-feed, ended-other}
 use Rattle.report_npy.proofs.ends.Statement.{statement}
 use Rattle.report_npy.proofs.ends.Tie as tie
 

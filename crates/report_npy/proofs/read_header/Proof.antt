@@ -6,9 +6,11 @@ use Prim.Native.Nat.{ℕ, _+_}
 use native.Mathlib.Omega.{arith}
 use denote.Ref.{now}
 use lib.ListN.{drop, length-drop}
-use Rattle.report_npy.proofs.Texts.{fails, holds, starts-fits}
+use Rattle.texts.proofs.Texts.{fails, holds, starts-fits}
 use Rattle.report_npy.specs.declared.Header.the-variants.{Shape}
-use Rattle.report_npy.specs.Header.{front, comma, closing, starts, leading, plain, numberFrom, heldNumber, columnsOf, headerOf}
+use Rattle.texts.specs.Texts.{starts}
+use Rattle.texts.specs.Decimals.{leading, plain, numberFrom}
+use Rattle.report_npy.specs.Header.{front, comma, closing, heldNumber, columnsOf, headerOf}
 use Rattle.report_npy.proofs.Headers.{header-malformed, rows-at-plain, rows-at-comma, rows-at, columns-at-plain, columns-at-closing, columns-at-end, columns-at}
 use borrow.Author.Needs.{needs}
 use Rattle.report_npy.proofs.read_header.Statement.{statement}

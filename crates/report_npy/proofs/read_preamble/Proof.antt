@@ -2,7 +2,7 @@
 use mathlib.Core.Path.{sym}
 use native.Mathlib.Omega.{arith}
 use denote.Ref.{now}
-use Rattle.report_npy.proofs.Texts.{fails, holds}
+use Rattle.texts.proofs.Texts.{fails, holds}
 use Rattle.report_npy.proofs.Preambles.{preamble-malformed, preamble-short, preamble-length}
 use borrow.Author.Needs.{needs}
 use Rattle.report_npy.proofs.read_preamble.Statement.{statement}

@@ -1,6 +1,6 @@
 -- `report_text::put_line` meets its contract: three pieces, one behind the other. Assumes nothing.
 use Rattle.report_text.specs.Text.{lineText}
-use Rattle.report_text.proofs.Puts.{put-then}
+use Rattle.report_text.proofs.Puts.{put-whole, put-then}
 use borrow.Author.Needs.{needs}
 use Rattle.report_text.proofs.put_line.Statement.{statement}
 use Rattle.report_text.proofs.put_line.Tie as tie
@@ -20,7 +20,7 @@ same-length c = search needs
 returns : tie.Need-returns
 unfolding lineText
 returns c =
-    put-then (put-then (c .before .before .before .before .before .before .before .before .before .before .put-words .ensures) (c .before .before .before .before .before .before .put-list .ensures)) (c .before .before .put-byte .ensures)
+    put-then (put-then (put-whole (c .before .before .before .before .before .before .before .before .before .before .put-words .ensures)) (c .before .before .before .before .before .before .put-list .ensures)) (put-whole (c .before .before .put-byte .ensures))
 
 pub put-line-spec : {M : Type 1} → statement M
 put-line-spec =

@@ -1,7 +1,7 @@
 -- `report_text::put_list` meets its contract: `none`, or the numbers. Assumes nothing.
 use mathlib.Core.Path.{sym}
 use native.Mathlib.Omega.{arith}
-use Rattle.report_text.proofs.Puts.{put-as, list-none, list-some}
+use Rattle.report_text.proofs.Puts.{put-whole, put-as, list-none, list-some}
 use borrow.Author.Needs.{needs}
 use Rattle.report_text.proofs.put_list.Statement.{statement}
 use Rattle.report_text.proofs.put_list.Tie as tie
@@ -16,7 +16,7 @@ same-length : tie.Need-same-length
 same-length c = search needs
 
 returns : tie.Need-returns
-returns c = put-as (sym (list-none _ (c .before .before .before .before .before .if1 .taken))) (omega arith) (c .before .before .put-words .ensures)
+returns c = put-as (sym (list-none _ (c .before .before .before .before .before .if1 .taken))) (omega arith) (put-whole (c .before .before .put-words .ensures))
 
 put-numbers-requires : tie.Need-put-numbers-requires
 put-numbers-requires c κs = search needs

@@ -7,20 +7,20 @@ use borrow.Author.Needs.{needs}
 use denote.Ref.{now}
 use lib.ListN.{length, take}
 use lib.Seq.{take-all}
-use Rattle.report_text.specs.Text.{Put, numbersText}
+use Rattle.report_text.specs.Text.{PutWithin, numbersText}
 use Rattle.report_text.proofs.Puts.{put-none, put-as, put-entry, no-numbers}
 use Rattle.report_text.proofs.put_numbers.Statement.{statement}
 use Rattle.report_text.proofs.put_numbers.Tie as tie
 
 abbrev Inv-loop : tie.InvT-loop
 Inv-loop out₀ at entries end₀ i₀ out end i =
-    (i ≤ length entries) × (length out ≡ length out₀) × Put out₀ at (numbersText (take i entries)) (11 * i) end out
+    (i ≤ length entries) × (length out ≡ length out₀) × PutWithin out₀ at (numbersText (take i entries)) (11 * i) end out
 
 abbrev μ-loop : tie.MeasureT-loop
 μ-loop out₀ at entries end₀ i₀ out end i = length entries - i
 
 loop-holds : tie.Need-loop-holds Inv-loop μ-loop
-loop-holds c = (omega arith, refl, put-as (sym no-numbers) (omega arith) (put-none _ _))
+loop-holds c = (omega arith, refl, put-as (sym no-numbers) (omega arith) (put-none _ _ (omega arith)))
 
 mul-put-spaced : tie.Need-mul-put-spaced Inv-loop μ-loop
 mul-put-spaced c = search needs

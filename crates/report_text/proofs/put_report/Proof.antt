@@ -50,7 +50,13 @@ slice-aggregate-put-line-5 : tie.Need-slice-aggregate-put-line-5
 slice-aggregate-put-line-5 c = search needs
 
 put-line-requires-5 : tie.Need-put-line-requires-5
-put-line-requires-5 c κs = search needs
+put-line-requires-5 c κs =
+    let d = c .before .before .before .before in
+    let b = d .before .before .before .before .before in
+    let a = b .before .before .before .before .before in
+    let f = a .before .before .before .before .before .before in
+    let start = f .before .before .before .before .before .before .before .before .before in
+    omega (arith, d .put-line4 .ensures .end-most, b .put-line3 .ensures .end-most, a .put-line2 .ensures .end-most, f .put-line .ensures .end-most, start .pre)
 
 put-stability-requires : tie.Need-put-stability-requires
 put-stability-requires c κs =

@@ -1,5 +1,5 @@
 -- `report_text::put_spaced` meets its contract: a space, and the number behind it. Assumes nothing.
-use Rattle.report_text.proofs.Puts.{put-then}
+use Rattle.report_text.proofs.Puts.{put-whole, put-then}
 use borrow.Author.Needs.{needs}
 use Rattle.report_text.proofs.put_spaced.Statement.{statement}
 use Rattle.report_text.proofs.put_spaced.Tie as tie
@@ -14,7 +14,7 @@ same-length : tie.Need-same-length
 same-length c = search needs
 
 returns : tie.Need-returns
-returns c = put-then (c .before .before .before .before .before .before .put-byte .ensures) (c .before .before .put-number .ensures)
+returns c = put-then (put-whole (c .before .before .before .before .before .before .put-byte .ensures)) (c .before .before .put-number .ensures)
 
 pub put-spaced-spec : {M : Type 1} → statement M
 put-spaced-spec = tie.close (tie.spec put-byte-requires put-number-requires same-length returns)

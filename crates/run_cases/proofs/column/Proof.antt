@@ -1,7 +1,7 @@
 -- `run_cases::column` meets its contract: the number of the part. Assumes nothing.
 use mathlib.Core.Path.{ap, _∙_}
 use borrow.Author.Needs.{needs}
-use Rattle.run_cases.specs.Texts.{numberFrom, columnOf}
+use Rattle.run_cases.specs.Texts.{caseNumber, caseColumn}
 use Rattle.run_cases.proofs.column.Statement.{statement}
 use Rattle.run_cases.proofs.column.Tie as tie
 
@@ -12,8 +12,8 @@ number-requires : tie.Need-number-requires
 number-requires c κs = search needs
 
 returns : tie.Need-returns
-unfolding columnOf
-returns c = c .number .ensures ∙ ap (numberFrom 0) (c .before .part .ensures)
+unfolding caseColumn
+returns c = c .number .ensures ∙ ap caseNumber (c .before .part .ensures)
 
 pub column-spec : {M : Type 1} → statement M
 column-spec = tie.close (tie.spec part-requires number-requires returns)

@@ -1,7 +1,7 @@
 -- `run_cases::digit_of` meets its contract: each answer is what the definition picks by the same test. Assumes nothing.
 use borrow.Author.Needs.{needs}
 use borrow.Author.Tests.{lt-ltb, le-ltb}
-use Rattle.run_cases.specs.Texts.{digitOf}
+use Rattle.run_cases.specs.Texts.{caseDigit}
 use Rattle.run_cases.proofs.digit_of.Statement.{statement}
 use Rattle.run_cases.proofs.digit_of.Tie as tie
 
@@ -9,7 +9,7 @@ cast-result : tie.Need-cast-result
 cast-result c = search needs
 
 returns : tie.Need-returns
-unfolding digitOf
+unfolding caseDigit
 returns c = rw (lt-ltb _ _ (c .if1 .taken))
 
 sub-result : tie.Need-sub-result
@@ -19,7 +19,7 @@ cast-result-2 : tie.Need-cast-result-2
 cast-result-2 c = search needs
 
 returns-2 : tie.Need-returns-2
-unfolding digitOf
+unfolding caseDigit
 returns-2 c = rw (le-ltb _ _ (c .if1 .left))
 
 pub digit-of-spec : {M : Type 1} → statement M

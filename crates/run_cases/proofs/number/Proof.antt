@@ -1,59 +1,37 @@
--- `run_cases::number` meets its contract. The invariant: the number found and what is left spell the text's number. The measure is what is left of the text. Assumes nothing.
-use mathlib.Core.Path.{_≡_, refl, sym, ap, _∙_}
-use Prim.Native.Nat.{ℕ, _≤_, _+_, _-_}
-use native.Mathlib.Omega.{arith}
-use denote.Ref.{now}
-use lib.ListN.{length, drop}
-use Rattle.run_cases.specs.Texts.{numberFrom}
-use Rattle.run_cases.proofs.Texts.{number-step, number-end}
+-- `run_cases::number` meets its contract: the digits behind a minus sign, or from the text's first byte on. Assumes nothing.
+use mathlib.Core.Path.{sym, _∙_}
+use Rattle.run_cases.specs.Texts.{caseNumber}
 use borrow.Author.Needs.{needs}
 use Rattle.run_cases.proofs.number.Statement.{statement}
 use Rattle.run_cases.proofs.number.Tie as tie
-use Rattle.run_cases.proofs.with_digit.Reads as with-digit-reads
 
-abbrev Inv-loop : tie.InvT-loop
-Inv-loop text n₀ i₀ n i = (i ≤ length text) × (numberFrom n (drop i text) ≡ numberFrom 0 text)
+slice-aggregate-stands : tie.Need-slice-aggregate-stands
+slice-aggregate-stands c = search needs
 
-abbrev μ-loop : tie.MeasureT-loop
-μ-loop text n₀ i₀ n i = length text - i
+stands-requires : tie.Need-stands-requires
+stands-requires c κs = search needs
 
-loop-holds : tie.Need-loop-holds Inv-loop μ-loop
-loop-holds c = (search needs, refl)
+number-at-requires : tie.Need-number-at-requires
+number-at-requires c κs = search needs
 
-shared-slice-read-with-digit : tie.Need-shared-slice-read-with-digit Inv-loop μ-loop
-shared-slice-read-with-digit c = search needs
+returns : tie.Need-returns
+unfolding caseNumber
+returns c = rw (sym (c .before .before .stands .ensures) ∙ c .before .if1 .taken) (c .number-at .ensures)
 
-with-digit-requires : tie.Need-with-digit-requires Inv-loop μ-loop
-with-digit-requires c κs = search needs
+number-at-requires-2 : tie.Need-number-at-requires-2
+number-at-requires-2 c κs = search needs
 
-add-i : tie.Need-add-i Inv-loop μ-loop
-add-i c = search needs
-
-loop-less : tie.Need-loop-less Inv-loop μ-loop
-loop-less c = search needs
-
-loop-again : tie.Need-loop-again Inv-loop μ-loop
-loop-again c =
-    let l = c .before .before .before in
-    let s = now (l .before .before .args .text) in
-    let i = l .loop .i in (
-      search needs,
-      ap (λ (n : ℕ). numberFrom n (drop (i + 1) s)) (c .with-digit .ensures) ∙ sym (number-step s i (l .loop .n) (omega arith)) ∙ l .loop .inv .1,
-    )
-
-returns : tie.Need-returns Inv-loop μ-loop
-returns c = sym (number-end _ _ _ (c .loop-test .left)) ∙ c .before .loop .inv .1
+returns-2 : tie.Need-returns-2
+unfolding caseNumber
+returns-2 c = rw (sym (c .before .before .stands .ensures) ∙ c .before .if1 .left) (c .number-at2 .ensures)
 
 pub number-spec : {M : Type 1} → statement M
 number-spec =
     tie.close
     (tie.spec
-    Inv-loop
-    μ-loop
-    loop-holds
-    shared-slice-read-with-digit
-    with-digit-requires
-    add-i
-    loop-less
-    loop-again
-    returns)
+    slice-aggregate-stands
+    stands-requires
+    number-at-requires
+    returns
+    number-at-requires-2
+    returns-2)

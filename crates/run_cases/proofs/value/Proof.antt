@@ -2,7 +2,7 @@
 use mathlib.Core.Path.{sym, ap}
 use borrow.Author.Needs.{needs}
 use borrow.Author.Tests.{ne-eqb}
-use Rattle.run_cases.specs.Curves.{valueOf, farOf}
+use Rattle.run_cases.specs.Curves.{caseValue, farOf}
 use Rattle.run_cases.proofs.value.Statement.{statement}
 use Rattle.run_cases.proofs.value.Tie as tie
 
@@ -10,71 +10,71 @@ int-to-float-result : tie.Need-int-to-float-result
 int-to-float-result c = search needs
 
 returns : tie.Need-returns
-unfolding valueOf
-returns c = sym (ap valueOf (c .match .keys1))
+unfolding caseValue
+returns c = sym (ap caseValue (c .match .keys1))
 
 returns-2 : tie.Need-returns-2
-unfolding valueOf
-returns-2 c = sym (ap valueOf (c .match .keys2))
+unfolding caseValue
+returns-2 c = sym (ap caseValue (c .match .keys2))
 
 returns-3 : tie.Need-returns-3
-unfolding valueOf
-returns-3 c = sym (ap valueOf (c .match .keys3))
+unfolding caseValue
+returns-3 c = sym (ap caseValue (c .match .keys3))
 
 returns-4 : tie.Need-returns-4
-unfolding valueOf
-returns-4 c = sym (ap valueOf (c .match .keys4))
+unfolding caseValue
+returns-4 c = sym (ap caseValue (c .match .keys4))
 
 returns-5 : tie.Need-returns-5
-unfolding valueOf
-returns-5 c = sym (ap valueOf (c .match .keys5))
+unfolding caseValue
+returns-5 c = sym (ap caseValue (c .match .keys5))
 
 returns-6 : tie.Need-returns-6
-unfolding valueOf
-returns-6 c = sym (ap valueOf (c .match .keys6))
+unfolding caseValue
+returns-6 c = sym (ap caseValue (c .match .keys6))
 
 returns-7 : tie.Need-returns-7
-unfolding valueOf
-returns-7 c = sym (ap valueOf (c .match .keys7))
+unfolding caseValue
+returns-7 c = sym (ap caseValue (c .match .keys7))
 
 returns-8 : tie.Need-returns-8
-unfolding valueOf
-returns-8 c = sym (ap valueOf (c .match .keys8))
+unfolding caseValue
+returns-8 c = sym (ap caseValue (c .match .keys8))
 
 returns-9 : tie.Need-returns-9
-unfolding valueOf
-returns-9 c = sym (ap valueOf (c .match .keys9))
+unfolding caseValue
+returns-9 c = sym (ap caseValue (c .match .keys9))
 
 returns-10 : tie.Need-returns-10
-unfolding valueOf
-returns-10 c = sym (ap valueOf (c .match .keys10))
+unfolding caseValue
+returns-10 c = sym (ap caseValue (c .match .keys10))
 
 returns-11 : tie.Need-returns-11
-unfolding valueOf
-returns-11 c = sym (ap valueOf (c .match .keys11))
+unfolding caseValue
+returns-11 c = sym (ap caseValue (c .match .keys11))
 
 returns-12 : tie.Need-returns-12
-unfolding valueOf
-returns-12 c = sym (ap valueOf (c .match .keys12))
+unfolding caseValue
+returns-12 c = sym (ap caseValue (c .match .keys12))
 
 returns-13 : tie.Need-returns-13
-unfolding valueOf
-returns-13 c = sym (ap valueOf (c .match .keys13))
+unfolding caseValue
+returns-13 c = sym (ap caseValue (c .match .keys13))
 
 returns-14 : tie.Need-returns-14
-unfolding valueOf
-returns-14 c = sym (ap valueOf (c .match .keys14))
+unfolding caseValue
+returns-14 c = sym (ap caseValue (c .match .keys14))
 
 returns-15 : tie.Need-returns-15
-unfolding valueOf
-returns-15 c = sym (ap valueOf (c .match .keys15))
+unfolding caseValue
+returns-15 c = sym (ap caseValue (c .match .keys15))
 
 returns-16 : tie.Need-returns-16
-unfolding valueOf
-returns-16 c = sym (ap valueOf (c .match .keys16))
+unfolding caseValue
+returns-16 c = sym (ap caseValue (c .match .keys16))
 
 returns-17 : tie.Need-returns-17
-unfolding valueOf farOf
+unfolding caseValue farOf
 returns-17 c =
     let r = c .before .match .rest in
     rw (
