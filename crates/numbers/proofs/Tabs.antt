@@ -7,7 +7,7 @@ use native.Mathlib.Nat.{not-suc-le-zero, le-of-suc-le-suc, add-zero, add-suc, su
 use native.Mathlib.Numerals.{add-one}
 use native.Mathlib.Omega.{arith}
 use lib.ListN.{length, getD, set, take, drop, length-append, length-drop, take-append-drop, List·getD-append, length-set}
-use lib.Seq.{drop-cons, set-at, append-snoc, length-take-le, getD-append-add, getD-drop, getD-take, ext-getD}
+use lib.Seq.{drop-cons, take-at, set-at, append-snoc, length-take-le, getD-append-add, getD-drop, getD-take, ext-getD}
 use Rattle.numbers.specs.Lists.{tab, curve, filled, listed}
 use Rattle.numbers.proofs.Tests.{lt-or-le}
 
@@ -233,3 +233,8 @@ module _ {A : Type 0} where
       ∙ getD-append-add xs (drop (length xs) d) (i - length xs) z
       ∙ getD-drop (length xs) d (i - length xs) z
       ∙ ap (λ (k : ℕ). getD d k z) e
+
+  -- the first slots, as many as there are entries
+  pub listed-first : (xs d : List A) → take (length xs) (listed xs d) ≡ xs
+  unfolding listed
+  listed-first xs d = take-at xs (drop (length xs) d) (length xs) refl

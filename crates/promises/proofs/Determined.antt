@@ -13,15 +13,16 @@ use Rattle.numbers.specs.Refusals.{unlessRefused}
 use Rattle.numbers.specs.Rounded.{real}
 use Rattle.numbers.specs.declared.Listing.{Listing}
 use Rattle.numbers.specs.Outcomes.{Written, ListWritten}
-use Rattle.numbers.proofs.Outcomes.{written-unique}
+use Rattle.numbers.proofs.Outcomes.{written-unique, open-unique}
 use Rattle.frames.specs.Frames.{RowOf}
 use Rattle.frames.proofs.Laws.{one-part}
-use Rattle.median.specs.Answers.{Answered, sortedIn}
+use Rattle.median.specs.Answers.{Answered}
+use Rattle.median.proofs.Outcomes.{answered-unique}
 use Rattle.median.specs.declared.Answer.{Answer}
 use Rattle.flux.specs.Flux.{fluxAt}
-use Rattle.threshold.specs.Threshold.{sortingRoom, ThresholdPromise}
+use Rattle.threshold.specs.Threshold.{sortingRoom, thresholdRefusal, ThresholdPromise}
 use Rattle.onsets.proofs.Outcomes.{lists-unique}
-use Rattle.threshold.proofs.ThresholdPromise.{thresholds-unique}
+use Rattle.threshold.proofs.Thresholds.{thresholds-unique}
 use Rattle.lags.specs.Lags.{minLag, maxLag, lagRange}
 use Rattle.options.specs.Options.{defaultOptions, optionsOf, withMinBpm, withMaxBpm}
 use Rattle.lags.specs.declared.LagRange.{LagRange}
@@ -114,12 +115,13 @@ row = one-part
 -- `median_of`, `mad_of`: `MedianPromise` and `MadPromise` are `Answered` of their own numbers and values
 pub median : {number : ℕ} {value : Float} {xs work : List Float} {a b : Answer} {v w : List Float}
     → Answered number value xs work a v → Answered number value xs work b w
-    → (a ≡ b) × (length v ≡ length w) × (drop (sortedIn number xs) v ≡ drop (sortedIn number xs) w)
-median p q = (p .answer ∙ sym (q .answer), p .room ∙ sym (q .room), p .rest ∙ sym (q .rest))
+    → let sorted = unlessRefused number (length xs) 0 in (a ≡ b) × (length v ≡ length w) × (drop sorted v ≡ drop sorted w)
+median = answered-unique
 
 -- `adaptive_threshold`
 pub adaptive-threshold : {flux threshold work : List Float} {a b : ℕ} {x y v w : List Float} → ThresholdPromise flux threshold work a x v → ThresholdPromise flux threshold work b y w
-    → (a ≡ b) × (x ≡ y) × (length v ≡ length w) × (drop (unlessRefused a (sortingRoom flux) 0) v ≡ drop (unlessRefused a (sortingRoom flux) 0) w)
+    → let sorted = unlessRefused (thresholdRefusal flux (length threshold) (length work)) (sortingRoom flux) 0 in
+    (a ≡ b) × (x ≡ y) × (length v ≡ length w) × (drop sorted v ≡ drop sorted w)
 adaptive-threshold = thresholds-unique
 
 -- `estimate`: the work slice too, since nothing is sorted in it
@@ -172,7 +174,7 @@ pub boundaries : (number : ℕ) (curve : List Float) (bounds rows : List ℕ) (w
     → Found number curve bounds rows work a x u → Found number curve bounds rows work b y v
     → ((a .number ≡ b .number) × (a .sections ≡ b .sections) × (a .count ≡ b .count) × (a .confidence ≡ b .confidence) × (x ≡ y)
     × (drop (workedIn number (length curve)) u ≡ drop (workedIn number (length curve)) v)) × (length u ≡ length v)
-boundaries number curve bounds rows work p q = (found-unique number curve bounds rows work p q, p .work-length ∙ sym (q .work-length))
+boundaries number curve bounds rows work p q = (found-unique number curve bounds rows work p q, open-unique (p .works) (q .works) .0)
 
 -- `patch_magnitudes`: both ranges, the rows and both curves; and the work slice past the slots that are sorted in
 pub patch-magnitudes : (rows bins : ℕ) (was : tracks.MagnitudeTrack) (patch : Patch) (work : List Float) {a b : Patched} {x y : tracks.MagnitudeTrack} {v w : List Float}
