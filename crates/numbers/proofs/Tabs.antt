@@ -119,6 +119,10 @@ module _ {A : Type 0} where
   unfolding filled
   filled-whole f d n = ap (λ (k : ℕ). tab f 0 k ++ drop n d) (sub-zero n)
 
+  -- the slots that were filled from 0 on are the curve
+  pub filled-first : (f : ℕ → A) (d : List A) (n : ℕ) → take n (filled f d 0 n) ≡ curve f n
+  filled-first f d n = ap (take n) (filled-whole f d n) ∙ take-at (curve f n) (drop n d) n (length-tab f 0 n)
+
   -- a curve that fills its room whole
   pub filled-all : (f : ℕ → A) (d : List A) (n : ℕ) → length d ≡ n → filled f d 0 n ≡ curve f n
   filled-all f d n e =

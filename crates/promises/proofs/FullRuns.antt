@@ -34,7 +34,7 @@ use Rattle.rooms.specs.declared.Room.{Room}
 use Rattle.rooms.proofs.Numbers.{rows-fine, room-inside, magnitudes-0}
 use Rattle.rooms.specs.Enough.{Enough}
 use Rattle.rooms.proofs.Rooms.{enough-suffices, ready-of, told, flux-taken}
-use Rattle.track_parts.specs.Parts.{onsetsIn}
+use Rattle.onsets.specs.Onsets.{onsetsIn}
 use Rattle.track.specs.declared.Analysis.{Analysis}
 use Rattle.track.specs.Analyses.{periodIn, beatsIn, downbeatsIn, analysisOf, withoutAnalysis, writtenIn}
 use Rattle.analysis.specs.Analyses.{EnvelopePromise, MagnitudesPromise}
