@@ -112,7 +112,8 @@ module _ (novelty : List Float) (samples rate maxSections : ℕ) where
   boundaries-timed room f g h =
       lowest-0 (gridFine samples rate && every rowFine bounds) true (leb (length bounds) room) true
       (and-both (gridFine samples rate) (every rowFine bounds) g
-      (every-weaken (λ x. ltb x (length novelty - 1)) rowFine (λ x e. le-leb x mostListedRow (omega (arith, ltb-true x (length novelty - 1) e))) bounds boundaries-inside))
+      (every-weaken (λ x. ltb x (length novelty - 1)) rowFine
+      (λ x e. le-leb x mostListedRow (omega (arith, ltb-true x (length novelty - 1) e))) bounds boundaries-inside))
       refl (le-leb (length bounds) room h) refl
 
 -- ---- refusal
