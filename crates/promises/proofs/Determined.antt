@@ -12,7 +12,7 @@ use Rattle.numbers.specs.Lists.{curve, listed}
 use Rattle.numbers.specs.Refusals.{unlessRefused}
 use Rattle.numbers.specs.Rounded.{real}
 use Rattle.numbers.specs.declared.Listing.{Listing}
-use Rattle.numbers.specs.Outcomes.{Written}
+use Rattle.numbers.specs.Outcomes.{Written, ListWritten}
 use Rattle.numbers.proofs.Outcomes.{written-unique, open-unique}
 use Rattle.frames.specs.Frames.{RowOf}
 use Rattle.frames.proofs.Laws.{one-part}
@@ -96,30 +96,35 @@ pub with-max-bpm : (bpm : Float) (o : TempoOpts) {a b : TempoOpts} → a ≡ wit
     → (a ≡ b) × ((a .«min_bpm» ≡ o .«min_bpm») × (a .«max_bpm» ≡ bpm))
 with-max-bpm bpm o p q = (p ∙ sym q, each-bound p)
 
--- `spectral_flux`: a number, and one lent list
+-- `spectral_flux`, and the two below: a number, and one lent list
 pub written : {A : Type 0} (number : ℕ) (done was : List A) {a b : ℕ} {x y : List A} → Written number done was a x → Written number done was b y
     → (a ≡ b) × (x ≡ y)
 written number done was = written-unique number done was
 
--- `frame_times`, `boundary_times`: the same
+-- `frame_times`, `boundary_times`
 pub frame-times : (frames : List ℕ) (rate : ℕ) (was : List Float) {a b : ℕ} {x y : List Float}
     → FrameTimesPromise frames rate was a x → FrameTimesPromise frames rate was b y → (a ≡ b) × (x ≡ y)
-frame-times frames rate was = written-unique _ _ _
+frame-times frames rate was = written _ _ was
 
 pub boundary-times : (rows : List ℕ) (samples rate : ℕ) (was : List Float) {a b : ℕ} {x y : List Float}
     → RowTimesPromise rows samples rate was a x → RowTimesPromise rows samples rate was b y → (a ≡ b) × (x ≡ y)
-boundary-times rows samples rate was = written-unique _ _ _
+boundary-times rows samples rate was = written _ _ was
 
--- `pick_onsets`, `suppress_close_peaks`: a number, a count, and one lent list
+-- a number, a count, and one lent list
+pub listing : (number : ℕ) (entries was : List ℕ) {a b : Listing} {x y : List ℕ} → ListWritten number entries was a x → ListWritten number entries was b y
+    → (a .number ≡ b .number) × (a .count ≡ b .count) × (x ≡ y)
+listing number entries was = lists-unique number entries was
+
+-- `pick_onsets`, `suppress_close_peaks`
 pub pick-onsets : (flux threshold : List Float) (rate : ℕ) (was : List ℕ) {a b : Listing} {x y : List ℕ}
     → OnsetsPromise flux threshold rate was a x → OnsetsPromise flux threshold rate was b y
     → (a .number ≡ b .number) × (a .count ≡ b .count) × (x ≡ y)
-pick-onsets flux threshold rate was = lists-unique _ _ _
+pick-onsets flux threshold rate was = listing _ _ was
 
 pub suppress-close-peaks : (peaks : List ℕ) (curve : List Float) (gap : ℕ) (was : List ℕ) {a b : Listing} {x y : List ℕ}
     → SuppressionPromise peaks curve gap was a x → SuppressionPromise peaks curve gap was b y
     → (a .number ≡ b .number) × (a .count ≡ b .count) × (x ≡ y)
-suppress-close-peaks peaks curve gap was = lists-unique _ _ _
+suppress-close-peaks peaks curve gap was = listing _ _ was
 
 -- `frames_of`: the reader holds the slab that it was given, and the bins
 pub frames-of : {slab r s : RefT (List Float)} {bins m n : ℕ} → (r ≡ slab) × (m ≡ bins) → (s ≡ slab) × (n ≡ bins) → (r ≡ s) × (m ≡ n)

@@ -32,10 +32,9 @@ module _
   pub downbeats-passed : (room : ℕ) → length env ≤ room → downbeatRefusal env (gridOf env period) commonMeter room ≡ 0
   unfolding downbeatRefusal bars.downbeatNumbersFine bars.downbeatRoomFine
   downbeats-passed room h =
-      lowest-0 (leb (length env) mostRows && (every frameFine (gridOf env period) && between 1 bars.mostMeter commonMeter)) true
-      (leb (length (gridOf env period)) room) (every valueFine env)
-      (and-both (leb (length env) mostRows) _ (le-leb _ _ few)
-      (and-both (every frameFine (gridOf env period)) (between 1 bars.mostMeter commonMeter) (beats-listable env period few) refl)) refl
+      lowest-0 (leb (length env) mostRows && (every frameFine (gridOf env period) && between 1 bars.mostMeter commonMeter)) true (leb (length (gridOf env period)) room)
+      (every valueFine env)
+      (and-both (leb (length env) mostRows) _ (le-leb _ _ few) (and-both (every frameFine (gridOf env period)) (between 1 bars.mostMeter commonMeter) (beats-listable env period few) refl)) refl
       (le-leb (length (gridOf env period)) room (omega (arith, beats-fit env period)))
       fine
 
