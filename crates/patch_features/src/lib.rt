@@ -5,7 +5,7 @@
 use similarities::BAND_WIDTH;
 ghost use mathlib.Core.Bool.{_||_};
 ghost use mathlib.Core.Path.{_≡_};
-ghost use Prim.Native.Nat.{_+_, _-_, _*_, _≤_, _<_};
+ghost use Prim.Native.Nat.{_+_, _-_, _*_, _^_, _≤_, _<_};
 ghost use lib.ListN.{length};
 ghost use Rattle.numbers.specs.Limits.{mostFeatures, featureWidth};
 ghost use Rattle.numbers.specs.Lists.{filled};
@@ -155,7 +155,7 @@ fn mended_slot(features: &[f64], rows: usize, start: usize, past: usize, k: usiz
 }
 
 fn is_touched(start: usize, past: usize, i: usize, d: usize) -> bool
-    requires { ⌜ i + d < 18446744073709551616 ⌝ }
+    requires { ⌜ i + d < 2 ^ 64 ⌝ }
     ensures { λ r. ⌜ r ≡ (replaced start past i || replaced start past (i + d)) ⌝ }
 {
     is_replaced(start, past, i) || is_replaced(start, past, i + d)
