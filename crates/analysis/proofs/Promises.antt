@@ -15,7 +15,7 @@ use Rattle.tempo.proofs.Promises.{isFound, tempo-has-lag}
 use Rattle.numbers.specs.Outcomes.{Open}
 use Rattle.track.specs.declared.Analysis.{Analysis}
 use Rattle.rooms.specs.Rooms.{Results, Spare, magnitudesNumber}
-use Rattle.track_parts.specs.Parts.{onsetsIn}
+use Rattle.onsets.specs.Onsets.{onsetsIn}
 use Rattle.track.specs.Analyses.{estimateIn, periodIn, withoutAnalysis, Analysed}
 use Rattle.analysis.specs.Analyses.{EnvelopePromise, MagnitudesPromise}
 use Rattle.rooms.specs.Inner.{Ready}

@@ -6,7 +6,8 @@ use mathlib.Core.Path.{_≡_, sym, _∙_}
 use mathlib.Core.List.{List}
 use lib.ListN.{length, drop}
 use lib.Ieee.{Float}
-use Rattle.median.specs.Answers.{sortedIn}
+use Rattle.numbers.specs.Refusals.{unlessRefused}
+use Rattle.numbers.proofs.Outcomes.{open-unique}
 use Rattle.options.specs.declared.TempoOpts.{TempoOpts}
 use Rattle.lags.specs.Lags.{minLag, maxLag}
 use Rattle.tempo.proofs.Promises as tempo
@@ -41,11 +42,8 @@ listed-unique p q = (handed-unique (p .handed) (q .handed), p .frames-are ∙ sy
 -- `ph_median_of`, `ph_mad_of`
 pub valued-unique : {number : ℕ} {v : Float} {xs was : List Float} {value₀ : Float} {a b : ℕ} {x y : List Float} {m n : Float}
     → Valued number v xs was value₀ a x m → Valued number v xs was value₀ b y n
-    → ((a ≡ b) × (m ≡ n)) × ((length x ≡ length y) × (drop (sortedIn number xs) x ≡ drop (sortedIn number xs) y))
-valued-unique p q = (
-  handed-unique (p .handed) (q .handed),
-  (p .slices .room ∙ sym (q .slices .room), p .slices .rest ∙ sym (q .slices .rest)),
-)
+    → let sorted = unlessRefused number (length xs) 0 in ((a ≡ b) × (m ≡ n)) × ((length x ≡ length y) × (drop sorted x ≡ drop sorted y))
+valued-unique p q = (handed-unique (p .handed) (q .handed), open-unique (p .works) (q .works))
 
 pub estimate-unique : {env : List Float} {onsets rate : ℕ} {o : TempoOpts} {clarity weight work : List Float} {lent₀ : TempoLent}
     {a b : ℕ} {c d w v k l : List Float} {x y : TempoLent}
@@ -94,7 +92,7 @@ pub boundaries-unique : {number : ℕ} {novelty : List Float} {bounds rows : Lis
     × ((x ≡ y) × (length u ≡ length v) × (drop (workedIn number (length novelty)) u ≡ drop (workedIn number (length novelty)) v))
 boundaries-unique p q = (
   handed-unique (p .handed) (q .handed),
-  (p .rows-are ∙ sym (q .rows-are), p .work-length ∙ sym (q .work-length), p .work-keeps ∙ sym (q .work-keeps)),
+  (p .rows-are ∙ sym (q .rows-are), open-unique (p .works) (q .works) .0, open-unique (p .works) (q .works) .1),
 )
 
 pub rows-unique : {rows bins : ℕ} {was : tracks.MagnitudeTrack} {patch : Patch} {work : List Float} {lent₀ : List ℕ}

@@ -1,14 +1,14 @@
 -- What each exported function promises, from what the proved call behind it promises of its answer and from how that answer is handed over.
 -- Assumes nothing.
 use Prim.Native.Nat.{ℕ, zero, suc}
-use mathlib.Core.Path.{_≡_, refl, _∙_}
-use mathlib.Core.List.{List}
-use lib.ListN.{length}
+use mathlib.Core.Path.{_≡_, refl, ap, _∙_}
+use mathlib.Core.List.{List, [], _∷_}
+use lib.ListN.{length, getD}
 use lib.Ieee.{Float}
 use Rattle.numbers.specs.Refusals.{unlessRefused}
 use Rattle.numbers.specs.Rounded.{nought}
 use Rattle.numbers.specs.declared.Listing.{Listing}
-use Rattle.median.specs.Answers.{answered, Answered}
+use Rattle.median.specs.Answers.{medianSays, Answered}
 use Rattle.median.specs.declared.Answer.{Answer}
 use Rattle.numbers.specs.Outcomes.{ListWritten}
 use Rattle.options.specs.declared.TempoOpts.{TempoOpts}
@@ -31,7 +31,7 @@ use Rattle.patch_features.specs.declared.PatchedFeatures as features-done
 use Rattle.patch_features.specs.Features as features
 use Rattle.patch_features.proofs.Outcomes as features-outcomes
 use Rattle.capi_answers.specs.Handed.{Handed}
-use Rattle.capi_answers.specs.Medians.{numberIn, valueIn}
+use Rattle.capi_answers.specs.Medians.{ValueHanded}
 use Rattle.capi_answers.specs.Tempos.{TempoLent, tempoParts, ShareLent, shareParts}
 use Rattle.capi_answers.specs.Forms.{SectionsLent, sectionsLent, partsIn}
 use Rattle.capi_answers.specs.Repairs.{SlotsHanded}
@@ -73,24 +73,20 @@ beats-told {envelope} {period} {own = own} {part = part} {count₀ = count₀} {
 
 -- ---- medians
 
-number-answered : (n : ℕ) (v : Float) → numberIn (answered n v) ≡ n
-number-answered zero v = refl
-number-answered (suc k) v = refl
-
-value-answered : (n : ℕ) (v value₀ : Float) → valueIn (answered n v) value₀ ≡ unlessRefused n v value₀
-value-answered zero v value₀ = refl
-value-answered (suc k) v value₀ = refl
+value-kept : (n : ℕ) (v value₀ : Float) → getD (unlessRefused n (v ∷ []) []) 0 value₀ ≡ unlessRefused n v value₀
+value-kept zero v value₀ = refl
+value-kept (suc k) v value₀ = refl
 
 pub value-told : {number : ℕ} {v : Float} {xs was : List Float} {own : Answer} {work : List Float} {value₀ : Float} {answer : ℕ} {value : Float}
-    → Answered number v xs was own work → (answer ≡ numberIn own) × (value ≡ valueIn own value₀) → Valued number v xs was value₀ answer work value
-value-told {number} {v} {own = own} {value₀ = value₀} {answer = answer} {value = value} p h =
+    → Answered number v xs was own work → ValueHanded (medianSays own) value₀ answer value → Valued number v xs was value₀ answer work value
+value-told {number} {v} {value₀ = value₀} p h =
     record {
       handed =
           record {
-            number-is = h .0 ∙ rw (p .answer) (number-answered number v);
-            parts-are = h .1 ∙ rw (p .answer) (value-answered number v value₀);
+            number-is = h .number-is ∙ ap (λ (said : ℕ × List Float). said .0) (p .answer);
+            parts-are = h .value-is ∙ ap (λ (said : ℕ × List Float). getD (said .1) 0 value₀) (p .answer) ∙ value-kept number v value₀;
           };
-      slices = record { answer = refl; room = p .room; rest = p .rest };
+      works = p .works;
     }
 
 -- ---- tempo and stability
@@ -125,8 +121,7 @@ boundaries-told {number} {novelty} {bounds} {own = own} p h =
           handed-on number (sectionParts novelty bounds) (sectionsLent 0 0 nought) (p .number-is)
           (parts-kept number novelty bounds own (p .sections-are) (p .count-is) (p .confidence-is)) h;
       rows-are = p .rows-are;
-      work-length = p .work-length;
-      work-keeps = p .work-keeps;
+      works = p .works;
     }
 
 -- ---- patches

@@ -2,10 +2,11 @@
 use Prim.Native.Nat.{ℕ}
 use mathlib.Core.Path.{_≡_}
 use mathlib.Core.List.{List}
-use lib.ListN.{length, drop}
+use lib.ListN.{length}
 use lib.Ieee.{Float}
 use Rattle.numbers.specs.Lists.{listed}
 use Rattle.numbers.specs.Refusals.{unlessRefused}
+use Rattle.numbers.specs.Outcomes.{Open}
 use Rattle.sections.specs.Boundaries.{sectionsOf, boundariesOf, boundariesRefusal}
 use Rattle.sections.specs.Confidence.{confidenceOf}
 use Rattle.sections.specs.Outcomes.{workedIn}
@@ -22,8 +23,7 @@ pub record BoundariesTold
     (answer : ℕ) (rows′ : List ℕ) (work′ : List Float) (lent : SectionsLent) : Type 0 where
   pub handed : Handed number (sectionParts novelty bounds) lent₀ answer lent
   pub rows-are : rows′ ≡ unlessRefused number (listed bounds rows) rows
-  pub work-length : length work′ ≡ length work
-  pub work-keeps : drop (workedIn number (length novelty)) work′ ≡ drop (workedIn number (length novelty)) work
+  pub works : Open (workedIn number (length novelty)) work work′
 
 -- what `ph_boundaries` promises
 abbrev pub PhBoundariesPromise : (novelty : List Float) (samples rate maxSections : ℕ) (rows : List ℕ) (work : List Float) (lent₀ : SectionsLent)

@@ -1,13 +1,12 @@
 // The calls of crates flux, threshold and onsets, for C.
 use capi_answers::counts::counted;
-ghost use mathlib.Core.List.{map};
 ghost use lib.ListN.{length};
-ghost use Rattle.numbers.specs.Lists.{filled, listed};
+ghost use Rattle.numbers.specs.Lists.{filled};
 ghost use Rattle.numbers.specs.Outcomes.{Written};
 ghost use Rattle.flux.specs.Flux.{fluxAt, fluxRefusal};
 ghost use Rattle.threshold.specs.Threshold.{ThresholdPromise};
 ghost use Rattle.onsets.specs.Peaks.{suppressed, suppressionRefusal};
-ghost use Rattle.onsets.specs.Onsets.{onsetsOf, onsetsRefusal, frameTime, timesRefusal};
+ghost use Rattle.onsets.specs.Onsets.{onsetsOf, onsetsRefusal, FrameTimesPromise};
 ghost use Rattle.capi.specs.Lists.{ListHanded};
 
 // `flux::spectral_flux`, for C.
@@ -69,7 +68,7 @@ pub extern "C" fn ph_suppress_close_peaks(
 // `onsets::frame_times`, for C.
 #[no_mangle]
 pub extern "C" fn ph_frame_times(frames: &[u32], rate: u32, ms: &mut [f64]) -> u32
-    ensures { λ r. ⌜ Written (timesRefusal (now (frames .entry)) rate (length (now (ms .entry)))) (listed (map (frameTime rate) (now (frames .entry))) (now (ms .entry))) (now (ms .entry)) r (now (ms .exit)) ⌝ }
+    ensures { λ r. ⌜ FrameTimesPromise (now (frames .entry)) rate (now (ms .entry)) r (now (ms .exit)) ⌝ }
 {
     onsets::frame_times(frames, rate, ms)
 }

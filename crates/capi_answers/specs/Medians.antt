@@ -1,14 +1,12 @@
 -- An answer of `median_of` or `mad_of`, handed over.
 use Prim.Native.Nat.{ℕ}
+use mathlib.Core.Path.{_≡_}
+use mathlib.Core.List.{List}
+use lib.ListN.{getD}
 use lib.Ieee.{Float}
-use Rattle.median.specs.declared.Answer.{Answer}
-use Rattle.median.specs.declared.Answer.the-variants.{Value, Refused}
 
--- Inner: each case's number, and what a lent number, which held `value₀`, then holds
-abbrev pub numberIn : Answer → ℕ
-numberIn (Value v) = 0
-numberIn (Refused k) = k
-
-abbrev pub valueIn : Answer → (value₀ : Float) → Float
-valueIn (Value v) value₀ = v
-valueIn (Refused k) value₀ = value₀
+-- Inner: of what an answer says, the number is returned, and the lent number, which held `value₀`, holds the value, or what it held where there
+-- is none.
+pub record ValueHanded (said : ℕ × List Float) (value₀ : Float) (answer : ℕ) (value : Float) : Type 0 where
+  pub number-is : answer ≡ said .0
+  pub value-is : value ≡ getD (said .1) 0 value₀

@@ -51,7 +51,7 @@ below-mono j k (x ∷ xs) h =
     (lt-or-le (key x) j)
 
 -- where all entries from i on have a key of k or more, at most i are below k
-count-high : (k i : ℕ) (xs : List Float) → ((j : ℕ) → i ≤ j → j < length xs → k ≤ keyAt xs j) → below k xs ≤ i
+pub count-high : (k i : ℕ) (xs : List Float) → ((j : ℕ) → i ≤ j → j < length xs → k ≤ keyAt xs j) → below k xs ≤ i
 unfolding below
 count-high k i [] h = zero-le
 count-high k zero (x ∷ xs) h =
@@ -60,7 +60,7 @@ count-high k (suc i) (x ∷ xs) h =
     omega (arith, count-high k i xs (λ j a b. h (suc j) (omega arith) (omega arith)), one-le (ltb (key x) k))
 
 -- where all entries before i have a key below k, at least i are
-count-low : (k i : ℕ) (xs : List Float) → i ≤ length xs → ((j : ℕ) → j < i → keyAt xs j < k) → i ≤ below k xs
+pub count-low : (k i : ℕ) (xs : List Float) → i ≤ length xs → ((j : ℕ) → j < i → keyAt xs j < k) → i ≤ below k xs
 unfolding below
 count-low k zero xs l h = zero-le
 count-low k (suc i) [] l h = absurd (not-suc-le-zero l)

@@ -1,6 +1,6 @@
 -- The laws that other crates cite, and what the proofs of this one share.
 mod Examples
 pub mod Terms
-mod Lanes
+pub mod Lanes
 pub mod Calls
 pub mod Local

@@ -9,20 +9,38 @@ use Rattle.kernels.specs.Kernel.{places, kernelAt}
 use Rattle.row_pairs.specs.Pairs.{bandWidth}
 use Rattle.novelties.specs.Novelty.{turns}
 
--- ---- the similarities of thirty-nine rows, forty slots to each distance
+-- ---- a block of rows, and the rows around it
 
--- those of rows d apart, the first of which stands at slot first + d, laid out from slot 40 * d on
+-- rows of a block, one to a lane
+abbrev pub laneCount : ℕ
+laneCount = 24
+
+-- rows that the kernels of a block take in, one less than lanes and places together
+abbrev pub span : ℕ
+span = 39
+
+-- slots from those of one distance to those of the next
+abbrev pub stride : ℕ
+stride = 40
+
+-- slots of all distances that a kernel has, as many as places
+abbrev pub nearRoom : ℕ
+nearRoom = 640
+
+-- ---- the similarities of a block's rows, by how far apart they are
+
+-- those of rows d apart, the first of which stands at slot first + d, laid out from slot d * stride on
 unfoldable pub laidApart : (similarity : List Float) (first d k : ℕ) → Float
-laidApart similarity first d k = getD similarity (first + d + bandWidth * (k - d * 40)) nan
+laidApart similarity first d k = getD similarity (first + d + bandWidth * (k - d * stride)) nan
 
 -- those of fewer than n apart are laid out
 pub record Gathered (similarity : List Float) (first n : ℕ) (near : List Float) : Type 0 where
-  pub whole : length near ≡ 640
-  pub slots : (d r : ℕ) → d < n → r < 39 → getD near (d * 40 + r) nan ≡ getD similarity (first + d + bandWidth * r) nan
+  pub whole : length near ≡ nearRoom
+  pub slots : (d r : ℕ) → d < n → r < span → getD near (d * stride + r) nan ≡ getD similarity (first + d + bandWidth * r) nan
 
 -- the slot of places u and v around the first row of a block
 unfoldable pub nearSlot : (u v : ℕ) → ℕ
-nearSlot u v = (max u v - min u v) * 40 + min u v
+nearSlot u v = (max u v - min u v) * stride + min u v
 
 -- ---- the sums of a block of rows
 

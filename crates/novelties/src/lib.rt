@@ -17,9 +17,25 @@ ghost use Prim.Native.Nat.{ℕ, _+_, _-_, _*_, _^_, _≤_, _<_, min, max};
 ghost use lib.ListN.{length, getD};
 ghost use lib.Ieee.{nan};
 ghost use Rattle.numbers.specs.Lists.{filled};
-ghost use Rattle.kernels.specs.Kernel.{kernelTable};
+ghost use Rattle.kernels.specs.Kernel.{places, middle, kernelTable};
+ghost use Rattle.row_pairs.specs.Pairs.{bandWidth};
 ghost use Rattle.novelties.specs.Novelty.{slotOf, addTerm, addRow, noveltyAt, noveltyNumber, NoveltyPromise};
-ghost use Rattle.novelties.specs.Lanes.{nearSlot, laidApart, Gathered, laneTerm, laneRow, laneWhole, laneFrom};
+ghost use Rattle.novelties.specs.Lanes.{laneCount, span, stride, nearRoom, nearSlot, laidApart, Gathered, laneTerm, laneRow, laneWhole, laneFrom};
+
+// places of the kernel's table: offsets -8 to 7 from a row
+const PLACES: usize = 16;
+// the place of offset 0, and how many rows a kernel takes in before its own
+const MIDDLE: usize = 8;
+// how many it takes in after its own
+const ON: usize = 7;
+// Rows go in blocks, one to a lane: as many as three vectors of eight hold.
+const LANES: usize = 24;
+// rows from a block's first to the last that its kernels take in
+const REST: usize = 31;
+// all rows that they take in
+const SPAN: usize = 39;
+// slots from the similarities of one distance to those of the next: whole vectors
+const STRIDE: usize = 40;
 
 // the number that novelty gives
 fn novelty_number(similarity: &[f64], rows: usize, room: usize) -> u32
@@ -56,13 +72,13 @@ pub fn novelty(similarity: &[f64], rows: usize, novelty: &mut [f64]) -> u32
 
 // the slot of the pair of rows a and b
 fn slot_of(a: usize, b: usize) -> usize
-    requires { ⌜ (a * 17 + b < 2 ^ 64) × (b * 17 + a < 2 ^ 64) ⌝ }
+    requires { ⌜ (a * bandWidth + b < 2 ^ 64) × (b * bandWidth + a < 2 ^ 64) ⌝ }
     ensures { λ r. ⌜ r ≡ slotOf a b ⌝ }
 {
     if a <= b {
-        a * 17 + (b - a)
+        a * BAND_WIDTH + (b - a)
     } else {
-        b * 17 + (a - b)
+        b * BAND_WIDTH + (a - b)
     }
 }
 
@@ -76,10 +92,19 @@ fn add_term(
     v: usize,
     sum: f64,
 ) -> f64
-    requires { ⌜ (now table ≡ kernelTable) × (length (now similarity) ≡ rows * 17) × (u < 16) × (v < 16) × (8 ≤ i + u) × (i + u < rows + 8) × (8 ≤ i + v) × (i + v < rows + 8) ⌝ }
+    requires { ⌜
+        (now table ≡ kernelTable)
+        × (length (now similarity) ≡ rows * bandWidth)
+        × (u < places)
+        × (v < places)
+        × (middle ≤ i + u)
+        × (i + u < rows + middle)
+        × (middle ≤ i + v)
+        × (i + v < rows + middle)
+        ⌝ }
     ensures { λ r. ⌜ r ≡ addTerm (now (similarity .entry)) rows i u v sum ⌝ }
 {
-    let k = slot_of(i + u - 8, i + v - 8);
+    let k = slot_of(i + u - MIDDLE, i + v - MIDDLE);
     sum + table[u][v] * similarity[k]
 }
 
@@ -94,7 +119,15 @@ fn add_row(
     u: usize,
     sum: f64,
 ) -> f64
-    requires { ⌜ (now table ≡ kernelTable) × (length (now similarity) ≡ rows * 17) × (i < rows) × (low ≡ 8 - i) × (past ≡ min 16 (rows + 8 - i)) × (low ≤ u) × (u < past) ⌝ }
+    requires { ⌜
+        (now table ≡ kernelTable)
+        × (length (now similarity) ≡ rows * bandWidth)
+        × (i < rows)
+        × (low ≡ middle - i)
+        × (past ≡ min places (rows + middle - i))
+        × (low ≤ u)
+        × (u < past)
+        ⌝ }
     ensures { λ r. ⌜ r ≡ addRow (now (similarity .entry)) rows i u sum ⌝ }
 {
     let mut total = sum;
@@ -106,13 +139,14 @@ fn add_row(
     total
 }
 
-// the novelty of row i, wherever it lies
-fn novelty_slot(table: &[[f64; 16]; 16], similarity: &[f64], rows: usize, i: usize) -> f64
-    requires { ⌜ (now table ≡ kernelTable) × (length (now similarity) ≡ rows * 17) × (i < rows) ⌝ }
+// Inner: the novelty of row i, wherever it lies, by the table that `kernels::kernel` gives. For a caller that writes it itself, as where similarity and
+// novelty lie in one slice and can't be lent apart.
+pub fn novelty_slot(table: &[[f64; 16]; 16], similarity: &[f64], rows: usize, i: usize) -> f64
+    requires { ⌜ (now table ≡ kernelTable) × (length (now similarity) ≡ rows * bandWidth) × (i < rows) ⌝ }
     ensures { λ r. ⌜ r ≡ noveltyAt (now (similarity .entry)) rows i ⌝ }
 {
-    let low = less(8, i);
-    let past = least(16, rows + 8 - i);
+    let low = less(MIDDLE, i);
+    let past = least(PLACES, rows + MIDDLE - i);
     let mut total = 0.0;
     let mut u = low;
     while u < past {
@@ -131,7 +165,13 @@ fn fill_plain(
     past: usize,
     novelty: &mut [f64],
 )
-    requires { ⌜ (now table ≡ kernelTable) × (length (now similarity) ≡ rows * 17) × (from ≤ past) × (past ≤ rows) × (past ≤ length (now novelty)) ⌝ }
+    requires { ⌜
+        (now table ≡ kernelTable)
+        × (length (now similarity) ≡ rows * bandWidth)
+        × (from ≤ past)
+        × (past ≤ rows)
+        × (past ≤ length (now novelty))
+        ⌝ }
     ensures { λ _. ⌜ now (novelty .exit) ≡ filled (noveltyAt (now (similarity .entry)) rows) (now (novelty .entry)) from past ⌝ }
 {
     let mut i = from;
@@ -141,27 +181,30 @@ fn fill_plain(
     }
 }
 
-// Rows go in blocks of twenty-four, whose kernels take in thirty-nine rows. The similarities of those that are d rows apart are laid side by side, from
-// slot 40 * d on; the first of the thirty-nine rows has its similarities from slot `first` on.
+// The similarities of the rows that a block's kernels take in are laid side by side, those of rows d apart from slot d * 40 on; the first of these rows
+// has its similarities from slot `first` on.
 fn gather_apart(similarity: &[f64], first: usize, d: usize, near: &mut [f64; 640])
-    requires { ⌜ (d < 16) × (first + d + 646 < length (now similarity)) × (length (now near) ≡ 640) ⌝ }
-    ensures { λ _. ⌜ now (near .exit) ≡ filled (laidApart (now (similarity .entry)) first d) (now (near .entry)) (d * 40) (d * 40 + 39) ⌝ }
+    requires { ⌜ (d < places) × (first + d + bandWidth * (span - 1) < length (now similarity)) × (length (now near) ≡ nearRoom) ⌝ }
+    ensures { λ _. ⌜
+        now (near .exit) ≡ filled (laidApart (now (similarity .entry)) first d) (now (near .entry)) (d * stride) (d * stride + span)
+        ⌝ }
 {
     let mut r = 0;
-    while r < 39 {
-        near[d * 40 + r] = similarity[first + d + 17 * r];
+    while r < SPAN {
+        near[d * STRIDE + r] = similarity[first + d + BAND_WIDTH * r];
         r += 1;
     }
 }
 
-// the similarities of the thirty-nine rows from `row` on
-fn gather(similarity: &[f64], row: usize, near: &mut [f64; 640])
-    requires { ⌜ (row * 17 + 661 < length (now similarity)) × (length (now near) ≡ 640) ⌝ }
-    ensures { λ _. ⌜ Gathered (now (similarity .entry)) (row * 17) 16 (now (near .exit)) ⌝ }
+// Inner: the similarities of the rows that a block's kernels take in, the first of which is `row`: all that its novelty is made of. Then `block_slots`
+// needs the slice no more.
+pub fn gather(similarity: &[f64], row: usize, near: &mut [f64; 640])
+    requires { ⌜ (row * bandWidth + (places - 1) + bandWidth * (span - 1) < length (now similarity)) × (length (now near) ≡ nearRoom) ⌝ }
+    ensures { λ _. ⌜ Gathered (now (similarity .entry)) (row * bandWidth) places (now (near .exit)) ⌝ }
 {
-    let first = row * 17;
+    let first = row * BAND_WIDTH;
     let mut d = 0;
-    while d < 16 {
+    while d < PLACES {
         gather_apart(similarity, first, d, near);
         d += 1;
     }
@@ -169,24 +212,24 @@ fn gather(similarity: &[f64], row: usize, near: &mut [f64; 640])
 
 // the slot of places u and v among those gathered
 fn near_slot(u: usize, v: usize) -> usize
-    requires { ⌜ (u < 16) × (v < 16) ⌝ }
+    requires { ⌜ (u < places) × (v < places) ⌝ }
     ensures { λ r. ⌜ r ≡ nearSlot u v ⌝ }
 {
     if u <= v {
-        (v - u) * 40 + u
+        (v - u) * STRIDE + u
     } else {
-        (u - v) * 40 + v
+        (u - v) * STRIDE + v
     }
 }
 
 // A block's rows side by side, one to a lane: each lane's sum grows by the weight times its own row's similarity, which stands one slot after that of
 // the lane before.
 fn add_lanes(lanes: &mut [f64; 24], weight: f64, near: &[f64; 640], k: usize)
-    requires { ⌜ (length (now lanes) ≡ 24) × (k + 24 ≤ 640) ⌝ }
-    ensures { λ _. ⌜ now (lanes .exit) ≡ filled (laneTerm (now (lanes .entry)) weight (now (near .entry)) k) (now (lanes .entry)) 0 24 ⌝ }
+    requires { ⌜ (length (now lanes) ≡ laneCount) × (k + laneCount ≤ nearRoom) ⌝ }
+    ensures { λ _. ⌜ now (lanes .exit) ≡ filled (laneTerm (now (lanes .entry)) weight (now (near .entry)) k) (now (lanes .entry)) 0 laneCount ⌝ }
 {
     let mut j = 0;
-    while j < 24 {
+    while j < LANES {
         lanes[j] = lanes[j] + weight * near[k + j];
         j += 1;
     }
@@ -194,24 +237,24 @@ fn add_lanes(lanes: &mut [f64; 24], weight: f64, near: &[f64; 640], k: usize)
 
 // the terms of place u, v ascending, in each lane
 fn add_row_lanes(table: &[[f64; 16]; 16], near: &[f64; 640], u: usize, lanes: &mut [f64; 24])
-    requires { ⌜ (now table ≡ kernelTable) × (u < 16) × (length (now lanes) ≡ 24) ⌝ }
-    ensures { λ _. ⌜ now (lanes .exit) ≡ filled (laneRow (now (lanes .entry)) (now (near .entry)) u) (now (lanes .entry)) 0 24 ⌝ }
+    requires { ⌜ (now table ≡ kernelTable) × (u < places) × (length (now lanes) ≡ laneCount) ⌝ }
+    ensures { λ _. ⌜ now (lanes .exit) ≡ filled (laneRow (now (lanes .entry)) (now (near .entry)) u) (now (lanes .entry)) 0 laneCount ⌝ }
 {
     let mut v = 0;
-    while v < 16 {
+    while v < PLACES {
         add_lanes(lanes, table[u][v], near, near_slot(u, v));
         v += 1;
     }
 }
 
-// the novelty of a block's rows
-fn block_slots(table: &[[f64; 16]; 16], near: &[f64; 640]) -> [f64; 24]
+// Inner: the novelty of a block's rows from what was gathered for them (`lane-novelty`, proofs/Lanes).
+pub fn block_slots(table: &[[f64; 16]; 16], near: &[f64; 640]) -> [f64; 24]
     requires { ⌜ now table ≡ kernelTable ⌝ }
-    ensures { λ r. ⌜ ((j : ℕ) → j < 24 → getD r j nan ≡ laneWhole (now (near .entry)) j) ⌝ }
+    ensures { λ r. ⌜ ((j : ℕ) → j < laneCount → getD r j nan ≡ laneWhole (now (near .entry)) j) ⌝ }
 {
     let mut lanes = [0.0; 24];
     let mut u = 0;
-    while u < 16 {
+    while u < PLACES {
         add_row_lanes(table, near, u, &mut lanes);
         u += 1;
     }
@@ -220,7 +263,7 @@ fn block_slots(table: &[[f64; 16]; 16], near: &[f64; 640]) -> [f64; 24]
 
 // the slots from `from` up to `past` of a block whose first row is `first`
 fn put_part(values: &[f64; 24], first: usize, from: usize, past: usize, novelty: &mut [f64])
-    requires { ⌜ (first ≤ from) × (from ≤ past) × (past ≤ first + 24) × (past ≤ length (now novelty)) ⌝ }
+    requires { ⌜ (first ≤ from) × (from ≤ past) × (past ≤ first + laneCount) × (past ≤ length (now novelty)) ⌝ }
     ensures { λ _. ⌜ now (novelty .exit) ≡ filled (laneFrom (now (values .entry)) first) (now (novelty .entry)) from past ⌝ }
 {
     let mut k = from;
@@ -240,15 +283,23 @@ fn fill_blocks(
     past: usize,
     novelty: &mut [f64],
 )
-    requires { ⌜ (now table ≡ kernelTable) × (length (now similarity) ≡ rows * 17) × (39 ≤ rows) × (min 8 past ≤ from) × (from ≤ past) × (past ≤ max from (rows - 7)) × (past ≤ length (now novelty)) ⌝ }
+    requires { ⌜
+        (now table ≡ kernelTable)
+        × (length (now similarity) ≡ rows * bandWidth)
+        × (span ≤ rows)
+        × (min middle past ≤ from)
+        × (from ≤ past)
+        × (past ≤ max from (rows - (places - 1 - middle)))
+        × (past ≤ length (now novelty))
+        ⌝ }
     ensures { λ _. ⌜ now (novelty .exit) ≡ filled (noveltyAt (now (similarity .entry)) rows) (now (novelty .entry)) from past ⌝ }
 {
     let mut near = [0.0; 640];
     let mut i = from;
     while i < past {
-        let first = least(i, rows - 31);
-        let end = least(first + 24, past);
-        gather(similarity, first - 8, &mut near);
+        let first = least(i, rows - REST);
+        let end = least(first + LANES, past);
+        gather(similarity, first - MIDDLE, &mut near);
         let values = block_slots(table, &near);
         put_part(&values, first, i, end, novelty);
         i = end;
@@ -257,16 +308,16 @@ fn fill_blocks(
 
 // Inner: writes slots from `from` up to `past` of the novelty curve of a similarity of `rows` rows.
 pub fn fill_novelty(similarity: &[f64], rows: usize, from: usize, past: usize, novelty: &mut [f64])
-    requires { ⌜ (length (now similarity) ≡ rows * 17) × (from ≤ past) × (past ≤ rows) × (past ≤ length (now novelty)) ⌝ }
+    requires { ⌜ (length (now similarity) ≡ rows * bandWidth) × (from ≤ past) × (past ≤ rows) × (past ≤ length (now novelty)) ⌝ }
     ensures { λ _. ⌜ now (novelty .exit) ≡ filled (noveltyAt (now (similarity .entry)) rows) (now (novelty .entry)) from past ⌝ }
 {
     let table = kernel();
-    if rows < 39 {
+    if rows < SPAN {
         fill_plain(&table, similarity, rows, from, past, novelty);
         return;
     }
-    let start = least(greatest(from, 8), past);
-    let stop = greatest(start, least(past, rows - 7));
+    let start = least(greatest(from, MIDDLE), past);
+    let stop = greatest(start, least(past, rows - ON));
     fill_plain(&table, similarity, rows, from, start, novelty);
     fill_blocks(&table, similarity, rows, start, stop, novelty);
     fill_plain(&table, similarity, rows, stop, past, novelty);

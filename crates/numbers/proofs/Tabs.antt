@@ -7,7 +7,7 @@ use native.Mathlib.Nat.{not-suc-le-zero, le-of-suc-le-suc, add-zero, add-suc, su
 use native.Mathlib.Numerals.{add-one}
 use native.Mathlib.Omega.{arith}
 use lib.ListN.{length, getD, set, take, drop, length-append, length-drop, take-append-drop, List·getD-append, length-set}
-use lib.Seq.{drop-cons, set-at, append-snoc, length-take-le, getD-append-add, getD-drop, getD-take, ext-getD}
+use lib.Seq.{drop-cons, take-at, set-at, append-snoc, length-take-le, getD-append-add, getD-drop, getD-take, ext-getD}
 use Rattle.numbers.specs.Lists.{tab, curve, filled, listed}
 use Rattle.numbers.proofs.Tests.{lt-or-le}
 
@@ -118,6 +118,10 @@ module _ {A : Type 0} where
   pub filled-whole : (f : ℕ → A) (d : List A) (n : ℕ) → filled f d 0 n ≡ curve f n ++ drop n d
   unfolding filled
   filled-whole f d n = ap (λ (k : ℕ). tab f 0 k ++ drop n d) (sub-zero n)
+
+  -- the slots that were filled from 0 on are the curve
+  pub filled-first : (f : ℕ → A) (d : List A) (n : ℕ) → take n (filled f d 0 n) ≡ curve f n
+  filled-first f d n = ap (take n) (filled-whole f d n) ∙ take-at (curve f n) (drop n d) n (length-tab f 0 n)
 
   -- a curve that fills its room whole
   pub filled-all : (f : ℕ → A) (d : List A) (n : ℕ) → length d ≡ n → filled f d 0 n ≡ curve f n
@@ -233,3 +237,8 @@ module _ {A : Type 0} where
       ∙ getD-append-add xs (drop (length xs) d) (i - length xs) z
       ∙ getD-drop (length xs) d (i - length xs) z
       ∙ ap (λ (k : ℕ). getD d k z) e
+
+  -- the first slots, as many as there are entries
+  pub listed-first : (xs d : List A) → take (length xs) (listed xs d) ≡ xs
+  unfolding listed
+  listed-first xs d = take-at xs (drop (length xs) d) (length xs) refl

@@ -9,6 +9,8 @@ use Rattle.numbers.specs.Rounded.{pick}
 use Rattle.numbers.specs.Limits.{mostRows, valueFine}
 use Rattle.numbers.specs.Refusals.{lowest}
 use Rattle.numbers.specs.Lists.{tab, every, ascending}
+use Rattle.numbers.specs.Outcomes.{ListWritten}
+use Rattle.numbers.specs.declared.Listing.{Listing}
 
 -- slot t of a curve
 abbrev pub at : List Float → ℕ → Float
@@ -63,3 +65,7 @@ unfoldable pub suppressionRefusal : (peaks : List ℕ) → List Float → (room 
 suppressionRefusal peaks curve room =
     lowest (leb (length curve) mostRows && (ascending 0 peaks && pointInto (length curve) peaks)) true
     (leb (length peaks) room) (every valueFine curve)
+
+-- what `suppress_close_peaks` promises
+abbrev pub SuppressionPromise : (peaks : List ℕ) (curve : List Float) (gap : ℕ) (was : List ℕ) (answer : Listing) (after : List ℕ) → Type 0
+SuppressionPromise peaks curve gap was = ListWritten (suppressionRefusal peaks curve (length was)) (suppressed curve gap peaks) was

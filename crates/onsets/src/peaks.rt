@@ -5,21 +5,18 @@
 use numbers::Listing;
 ghost use mathlib.Core.Path.{_≡_};
 ghost use mathlib.Core.Bool.{true, _&&_};
-ghost use mathlib.Core.List.{List, [], _∷_};
-ghost use Prim.Native.Nat.{ℕ, _+_, _≤_, _<_};
+ghost use Prim.Native.Nat.{_+_, _≤_, _<_};
 ghost use lib.ListN.{length};
-ghost use lib.Ieee.{Float};
 ghost use Rattle.numbers.specs.Limits.{mostRows};
-ghost use Rattle.numbers.specs.Lists.{listed, oneIf, ascending};
-ghost use Rattle.numbers.specs.Outcomes.{ListWritten};
-ghost use Rattle.onsets.specs.Peaks.{at, isPeak, those, peaksOf, suppressed, pointInto, suppressionRefusal};
+ghost use Rattle.numbers.specs.Lists.{oneIf, ascending};
+ghost use Rattle.onsets.specs.Peaks.{at, isPeak, peaksOf, suppressed, pointInto, suppressionRefusal, SuppressionPromise};
 ghost use Rattle.onsets.specs.Steps.{Picked, Stepped, Closed};
 
 // Lists the best of each group of peaks: a peak joins a group while it is at most gap past its best. Room: one slot for each peak.
 // Refuses: 1 a curve longer than 1,048,576, or peaks that aren't strictly ascending or point past the curve; 3 frames shorter than
 // peaks; 4 a curve value that isn't finite or is of size above 2^150. Slots past the count stay, all of them at a refusal.
 pub fn suppress_close_peaks(peaks: &[u32], curve: &[f64], gap: usize, frames: &mut [u32]) -> Listing
-    ensures { λ r. ⌜ ListWritten (suppressionRefusal (now (peaks .entry)) (now (curve .entry)) (length (now (frames .entry)))) (suppressed (now (curve .entry)) gap (now (peaks .entry))) (now (frames .entry)) r (now (frames .exit)) ⌝ }
+    ensures { λ r. ⌜ SuppressionPromise (now (peaks .entry)) (now (curve .entry)) gap (now (frames .entry)) r (now (frames .exit)) ⌝ }
 {
     let number = refusal(peaks, curve, frames.len());
     if number != 0 {
@@ -88,7 +85,11 @@ fn suppress(peaks: &[u32], curve: &[f64], gap: usize, frames: &mut [u32]) -> usi
 // Inner: lists the onsets of a curve whose threshold at each slot is lent, and says how many they are.
 pub fn pick_peaks(curve: &[f64], threshold: &[f64], gap: usize, frames: &mut [u32]) -> usize
     requires { ⌜ (length (now curve) ≤ mostRows) × (length (now curve) ≤ length (now threshold)) × (length (now curve) ≤ length (now frames)) ⌝ }
-    ensures { λ r. ⌜ Picked (suppressed (now (curve .entry)) gap (peaksOf (now (curve .entry)) (at (now (threshold .entry))))) (now (frames .entry)) r (now (frames .exit)) ⌝ }
+    ensures { λ r. ⌜
+        Picked (suppressed (now (curve .entry)) gap (peaksOf (now (curve .entry)) (at (now (threshold .entry)))))
+        (now (frames .entry))
+        r (now (frames .exit))
+        ⌝ }
 {
     let last = numbers::less(curve.len(), 1);
     let mut group = Group {
@@ -107,7 +108,11 @@ pub fn pick_peaks(curve: &[f64], threshold: &[f64], gap: usize, frames: &mut [u3
 // Inner: the same with one threshold for every slot.
 pub fn pick_above(curve: &[f64], level: f64, gap: usize, frames: &mut [u32]) -> usize
     requires { ⌜ (length (now curve) ≤ mostRows) × (length (now curve) ≤ length (now frames)) ⌝ }
-    ensures { λ r. ⌜ Picked (suppressed (now (curve .entry)) gap (peaksOf (now (curve .entry)) (λ _. level))) (now (frames .entry)) r (now (frames .exit)) ⌝ }
+    ensures { λ r. ⌜
+        Picked (suppressed (now (curve .entry)) gap (peaksOf (now (curve .entry)) (λ _. level)))
+        (now (frames .entry))
+        r (now (frames .exit))
+        ⌝ }
 {
     let last = numbers::less(curve.len(), 1);
     let mut group = Group {
@@ -132,7 +137,13 @@ struct Group {
 
 // Slot t joins, if it is a peak.
 fn visit(group: Group, curve: &[f64], level: f64, gap: usize, t: usize, frames: &mut [u32]) -> Group
-    requires { ⌜ (length (now curve) ≤ mostRows) × (1 ≤ t) × (t + 1 < length (now curve)) × (group .best ≤ t) × (group .count < length (now frames)) ⌝ }
+    requires { ⌜
+        (length (now curve) ≤ mostRows)
+        × (1 ≤ t)
+        × (t + 1 < length (now curve))
+        × (group .best ≤ t)
+        × (group .count < length (now frames))
+        ⌝ }
     ensures { λ r. ⌜ Stepped (now (curve .entry)) gap t (isPeak (now (curve .entry)) level t) group (now (frames .entry)) r (now (frames .exit)) ⌝ }
 {
     if is_peak(curve, level, t) {

@@ -11,12 +11,12 @@ use lib.Dec.{lit≤}
 use lib.Ieee.{Float, nan}
 use lib.ListN.{length, getD, take, drop}
 use Rattle.numbers.proofs.Overs.{length-over, every-over, patch-fits, row-over, row-over-in, over-none}
-use Rattle.numbers.proofs.Tabs.{length-filled, filled-outside, getD-filled-in}
+use Rattle.numbers.proofs.Tabs.{length-filled, filled-first, filled-outside, getD-filled-in}
 use Rattle.numbers.proofs.Tests.{lt-or-le, pick-false, passed-does, and-both, lowest-0}
 use Rattle.numbers.specs.Limits.{featureWidth, valueFine, similarityFine}
 use Rattle.numbers.specs.Lists.{curve, every, filled, row}
 use Rattle.numbers.specs.Refusals.{unlessRefused}
-use Rattle.patches.proofs.Parts.{filled-first, filled-rest, filled-by}
+use Rattle.patches.proofs.Parts.{filled-rest, filled-by}
 use Rattle.patches.proofs.Wholes.{whole-asked}
 use Rattle.patches.specs.Patches.{Patch, patchOf, pastRow, wholeRows, edited, unlessEmpty}
 use Rattle.novelties.proofs.Calls.{genuine-passes}

@@ -64,7 +64,9 @@ analysedFeatures rows lent =
 -- something new: of a sound track there is none, since its length tells its rows.
 pub data RanFeatures (rows : ℕ) : (was now : FeatureTrack) → Type 0 where
   stays : {was : FeatureTrack} → RanFeatures rows was was
-  patches : {was mid now : FeatureTrack} {patch : Patch} {answer : PatchedFeatures} → PatchFeaturesPromise rows was patch answer mid → RanFeatures rows mid now → RanFeatures rows was now
-  refuses : {was mid now : FeatureTrack} {rows′ k : ℕ} {patch : Patch} → PatchFeaturesPromise rows′ was patch (Refused k) mid → RanFeatures rows mid now → RanFeatures rows was now
+  patches : {was mid now : FeatureTrack} {patch : Patch} {answer : PatchedFeatures}
+      → PatchFeaturesPromise rows was patch answer mid → RanFeatures rows mid now → RanFeatures rows was now
+  refuses : {was mid now : FeatureTrack} {rows′ k : ℕ} {patch : Patch}
+      → PatchFeaturesPromise rows′ was patch (Refused k) mid → RanFeatures rows mid now → RanFeatures rows was now
   empties : {was mid now : FeatureTrack} {rows′ start : ℕ} {answer : PatchedFeatures}
       → PatchFeaturesPromise rows′ was (patchOf start []) answer mid → RanFeatures rows mid now → RanFeatures rows was now

@@ -2,21 +2,21 @@
 // change them.
 //
 // Document 01, Patching (added). The curves are then, bit for bit, those of a full run on the edited rows: proofs/Repairs.antt.
+use similarities::BAND_WIDTH;
 ghost use mathlib.Core.Bool.{_||_};
 ghost use mathlib.Core.Path.{_≡_};
-ghost use Prim.Native.Nat.{_+_, _-_, _*_, _≤_, _<_};
+ghost use Prim.Native.Nat.{_+_, _-_, _*_, _^_, _≤_, _<_};
 ghost use lib.ListN.{length};
-ghost use Rattle.numbers.specs.Limits.{mostFeatures};
+ghost use Rattle.numbers.specs.Limits.{mostFeatures, featureWidth};
 ghost use Rattle.numbers.specs.Lists.{filled};
 ghost use Rattle.numbers.specs.Rounded.{pick};
 ghost use Rattle.patches.specs.Patches.{patchOf};
-ghost use Rattle.row_pairs.specs.Pairs.{similarityAt};
-ghost use Rattle.patch_features.specs.Features.{featureTrack, firstPair, replaced, touched, mendedAt, featurePatchBounds, featurePatchRoom, featurePatchValues, featurePatchNumber, PatchFeaturesPromise};
+ghost use Rattle.row_pairs.specs.Pairs.{bandWidth, similarityAt};
+ghost use Rattle.patch_features.specs.Features.{featureTrack, firstPair, replaced, touched, mendedAt};
+ghost use Rattle.patch_features.specs.Features.{featurePatchBounds, featurePatchRoom, featurePatchValues, featurePatchNumber, PatchFeaturesPromise};
 
 // how many rows after its own a similarity reaches
 const BAND: usize = 16;
-// slots of a row of the similarity
-const BAND_WIDTH: usize = 17;
 // how many rows a novelty reaches back, and on
 const BACK: usize = 8;
 
@@ -98,8 +98,17 @@ fn first_pair(start: usize) -> usize
 
 // Writes the pairs that touch rows start up to past: those of rows before them slot by slot, as only some touch, and their own rows whole.
 fn mend_similarity(features: &[f64], rows: usize, start: usize, past: usize, similarity: &mut [f64])
-    requires { ⌜ (length (now features) ≡ rows * 16) × (rows ≤ mostFeatures) × (start ≤ past) × (past ≤ rows) × (rows * 17 ≤ length (now similarity)) ⌝ }
-    ensures { λ _. ⌜ now (similarity .exit) ≡ filled (mendedAt (now (features .entry)) rows start past (now (similarity .entry))) (now (similarity .entry)) (firstPair start) (past * 17) ⌝ }
+    requires { ⌜
+        (length (now features) ≡ rows * featureWidth)
+        × (rows ≤ mostFeatures)
+        × (start ≤ past)
+        × (past ≤ rows)
+        × (rows * bandWidth ≤ length (now similarity))
+        ⌝ }
+    ensures { λ _. ⌜
+        now (similarity .exit)
+        ≡ filled (mendedAt (now (features .entry)) rows start past (now (similarity .entry))) (now (similarity .entry)) (firstPair start) (past * bandWidth)
+        ⌝ }
 {
     mend_before(features, rows, start, past, first_pair(start), similarity);
     similarities::fill_similarity_rows(features, rows, start, past, similarity);
@@ -113,8 +122,17 @@ fn mend_before(
     from: usize,
     similarity: &mut [f64],
 )
-    requires { ⌜ (length (now features) ≡ rows * 16) × (rows ≤ mostFeatures) × (from ≤ start * 17) × (start ≤ rows) × (rows * 17 ≤ length (now similarity)) ⌝ }
-    ensures { λ _. ⌜ now (similarity .exit) ≡ filled (mendedAt (now (features .entry)) rows start past (now (similarity .entry))) (now (similarity .entry)) from (start * 17) ⌝ }
+    requires { ⌜
+        (length (now features) ≡ rows * featureWidth)
+        × (rows ≤ mostFeatures)
+        × (from ≤ start * bandWidth)
+        × (start ≤ rows)
+        × (rows * bandWidth ≤ length (now similarity))
+        ⌝ }
+    ensures { λ _. ⌜
+        now (similarity .exit)
+        ≡ filled (mendedAt (now (features .entry)) rows start past (now (similarity .entry))) (now (similarity .entry)) from (start * bandWidth)
+        ⌝ }
 {
     let to = start * BAND_WIDTH;
     let mut k = from;
@@ -125,7 +143,7 @@ fn mend_before(
 }
 
 fn mended_slot(features: &[f64], rows: usize, start: usize, past: usize, k: usize, lent: f64) -> f64
-    requires { ⌜ (length (now features) ≡ rows * 16) × (k < rows * 17) ⌝ }
+    requires { ⌜ (length (now features) ≡ rows * featureWidth) × (k < rows * bandWidth) ⌝ }
     ensures { λ r. ⌜ r ≡ pick (touched start past k) (similarityAt (now (features .entry)) rows k) lent ⌝ }
 {
     let i = k / BAND_WIDTH;
@@ -137,7 +155,7 @@ fn mended_slot(features: &[f64], rows: usize, start: usize, past: usize, k: usiz
 }
 
 fn is_touched(start: usize, past: usize, i: usize, d: usize) -> bool
-    requires { ⌜ i + d < 18446744073709551616 ⌝ }
+    requires { ⌜ i + d < 2 ^ 64 ⌝ }
     ensures { λ r. ⌜ r ≡ (replaced start past i || replaced start past (i + d)) ⌝ }
 {
     is_replaced(start, past, i) || is_replaced(start, past, i + d)
@@ -157,7 +175,9 @@ fn refusal(
     similarity: &[f64],
     novelty: &[f64],
 ) -> u32
-    ensures { λ r. ⌜ r ≡ featurePatchNumber rows (featureTrack (now (features .entry)) (now (similarity .entry)) (now (novelty .entry))) (patchOf start (now (new .entry))) ⌝ }
+    ensures { λ r. ⌜
+        r ≡ featurePatchNumber rows (featureTrack (now (features .entry)) (now (similarity .entry)) (now (novelty .entry))) (patchOf start (now (new .entry)))
+        ⌝ }
 {
     if !bounds_fine(rows, start) {
         return numbers::OUT_OF_BOUNDS;
@@ -200,7 +220,7 @@ fn values_fine(
     similarity: &[f64],
     novelty: &[f64],
 ) -> bool
-    requires { ⌜ (rows ≤ mostFeatures) × (rows * 17 ≤ length (now similarity)) × (rows ≤ length (now novelty)) ⌝ }
+    requires { ⌜ (rows ≤ mostFeatures) × (rows * bandWidth ≤ length (now similarity)) × (rows ≤ length (now novelty)) ⌝ }
     ensures { λ r. ⌜ r ≡ featurePatchValues rows (featureTrack (now (features .entry)) (now (similarity .entry)) (now (novelty .entry))) (now (new .entry)) ⌝ }
 {
     if !numbers::values_fine(features) {

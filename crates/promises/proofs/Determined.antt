@@ -13,15 +13,18 @@ use Rattle.numbers.specs.Refusals.{unlessRefused}
 use Rattle.numbers.specs.Rounded.{real}
 use Rattle.numbers.specs.declared.Listing.{Listing}
 use Rattle.numbers.specs.Outcomes.{Written, ListWritten}
-use Rattle.numbers.proofs.Outcomes.{written-unique}
+use Rattle.numbers.proofs.Outcomes.{written-unique, open-unique}
 use Rattle.frames.specs.Frames.{RowOf}
 use Rattle.frames.proofs.Laws.{one-part}
-use Rattle.median.specs.Answers.{Answered, sortedIn}
+use Rattle.median.specs.Answers.{Answered}
+use Rattle.median.proofs.Outcomes.{answered-unique}
 use Rattle.median.specs.declared.Answer.{Answer}
 use Rattle.flux.specs.Flux.{fluxAt}
-use Rattle.threshold.specs.Threshold.{sortingRoom, ThresholdPromise}
+use Rattle.threshold.specs.Threshold.{sortingRoom, thresholdRefusal, ThresholdPromise}
+use Rattle.onsets.specs.Peaks.{SuppressionPromise}
+use Rattle.onsets.specs.Onsets.{OnsetsPromise, FrameTimesPromise}
 use Rattle.onsets.proofs.Outcomes.{lists-unique}
-use Rattle.threshold.proofs.ThresholdPromise.{thresholds-unique}
+use Rattle.threshold.proofs.Thresholds.{thresholds-unique}
 use Rattle.lags.specs.Lags.{minLag, maxLag, lagRange}
 use Rattle.options.specs.Options.{defaultOptions, optionsOf, withMinBpm, withMaxBpm}
 use Rattle.lags.specs.declared.LagRange.{LagRange}
@@ -39,7 +42,7 @@ use Rattle.bars.specs.declared.BarBeat.{BarBeat}
 use Rattle.bars.proofs.BarBeats.{says-one}
 use Rattle.similarities.specs.Similarity.{SimilarityPromise}
 use Rattle.novelties.specs.Novelty.{NoveltyPromise}
-use Rattle.sections.specs.Outcomes.{workedIn, Found}
+use Rattle.sections.specs.Outcomes.{workedIn, Found, RowTimesPromise}
 use Rattle.sections.specs.declared.Sections.{Sections}
 use Rattle.sections.proofs.Outcomes.{found-unique}
 use Rattle.patches.specs.Patches.{Patch}
@@ -93,15 +96,35 @@ pub with-max-bpm : (bpm : Float) (o : TempoOpts) {a b : TempoOpts} → a ≡ wit
     → (a ≡ b) × ((a .«min_bpm» ≡ o .«min_bpm») × (a .«max_bpm» ≡ bpm))
 with-max-bpm bpm o p q = (p ∙ sym q, each-bound p)
 
--- `spectral_flux`, `frame_times`, `boundary_times`: a number, and one lent list
+-- `spectral_flux`, and the two below: a number, and one lent list
 pub written : {A : Type 0} (number : ℕ) (done was : List A) {a b : ℕ} {x y : List A} → Written number done was a x → Written number done was b y
     → (a ≡ b) × (x ≡ y)
 written number done was = written-unique number done was
 
--- `pick_onsets`, `suppress_close_peaks`: a number, a count, and one lent list
+-- `frame_times`, `boundary_times`
+pub frame-times : (frames : List ℕ) (rate : ℕ) (was : List Float) {a b : ℕ} {x y : List Float}
+    → FrameTimesPromise frames rate was a x → FrameTimesPromise frames rate was b y → (a ≡ b) × (x ≡ y)
+frame-times frames rate was = written _ _ was
+
+pub boundary-times : (rows : List ℕ) (samples rate : ℕ) (was : List Float) {a b : ℕ} {x y : List Float}
+    → RowTimesPromise rows samples rate was a x → RowTimesPromise rows samples rate was b y → (a ≡ b) × (x ≡ y)
+boundary-times rows samples rate was = written _ _ was
+
+-- a number, a count, and one lent list
 pub listing : (number : ℕ) (entries was : List ℕ) {a b : Listing} {x y : List ℕ} → ListWritten number entries was a x → ListWritten number entries was b y
     → (a .number ≡ b .number) × (a .count ≡ b .count) × (x ≡ y)
 listing number entries was = lists-unique number entries was
+
+-- `pick_onsets`, `suppress_close_peaks`
+pub pick-onsets : (flux threshold : List Float) (rate : ℕ) (was : List ℕ) {a b : Listing} {x y : List ℕ}
+    → OnsetsPromise flux threshold rate was a x → OnsetsPromise flux threshold rate was b y
+    → (a .number ≡ b .number) × (a .count ≡ b .count) × (x ≡ y)
+pick-onsets flux threshold rate was = listing _ _ was
+
+pub suppress-close-peaks : (peaks : List ℕ) (curve : List Float) (gap : ℕ) (was : List ℕ) {a b : Listing} {x y : List ℕ}
+    → SuppressionPromise peaks curve gap was a x → SuppressionPromise peaks curve gap was b y
+    → (a .number ≡ b .number) × (a .count ≡ b .count) × (x ≡ y)
+suppress-close-peaks peaks curve gap was = listing _ _ was
 
 -- `frames_of`: the reader holds the slab that it was given, and the bins
 pub frames-of : {slab r s : RefT (List Float)} {bins m n : ℕ} → (r ≡ slab) × (m ≡ bins) → (s ≡ slab) × (n ≡ bins) → (r ≡ s) × (m ≡ n)
@@ -114,12 +137,13 @@ row = one-part
 -- `median_of`, `mad_of`: `MedianPromise` and `MadPromise` are `Answered` of their own numbers and values
 pub median : {number : ℕ} {value : Float} {xs work : List Float} {a b : Answer} {v w : List Float}
     → Answered number value xs work a v → Answered number value xs work b w
-    → (a ≡ b) × (length v ≡ length w) × (drop (sortedIn number xs) v ≡ drop (sortedIn number xs) w)
-median p q = (p .answer ∙ sym (q .answer), p .room ∙ sym (q .room), p .rest ∙ sym (q .rest))
+    → let sorted = unlessRefused number (length xs) 0 in (a ≡ b) × (length v ≡ length w) × (drop sorted v ≡ drop sorted w)
+median = answered-unique
 
 -- `adaptive_threshold`
 pub adaptive-threshold : {flux threshold work : List Float} {a b : ℕ} {x y v w : List Float} → ThresholdPromise flux threshold work a x v → ThresholdPromise flux threshold work b y w
-    → (a ≡ b) × (x ≡ y) × (length v ≡ length w) × (drop (unlessRefused a (sortingRoom flux) 0) v ≡ drop (unlessRefused a (sortingRoom flux) 0) w)
+    → let sorted = unlessRefused (thresholdRefusal flux (length threshold) (length work)) (sortingRoom flux) 0 in
+    (a ≡ b) × (x ≡ y) × (length v ≡ length w) × (drop sorted v ≡ drop sorted w)
 adaptive-threshold = thresholds-unique
 
 -- `estimate`: the work slice too, since nothing is sorted in it
@@ -172,7 +196,7 @@ pub boundaries : (number : ℕ) (curve : List Float) (bounds rows : List ℕ) (w
     → Found number curve bounds rows work a x u → Found number curve bounds rows work b y v
     → ((a .number ≡ b .number) × (a .sections ≡ b .sections) × (a .count ≡ b .count) × (a .confidence ≡ b .confidence) × (x ≡ y)
     × (drop (workedIn number (length curve)) u ≡ drop (workedIn number (length curve)) v)) × (length u ≡ length v)
-boundaries number curve bounds rows work p q = (found-unique number curve bounds rows work p q, p .work-length ∙ sym (q .work-length))
+boundaries number curve bounds rows work p q = (found-unique number curve bounds rows work p q, open-unique (p .works) (q .works) .0)
 
 -- `patch_magnitudes`: both ranges, the rows and both curves; and the work slice past the slots that are sorted in
 pub patch-magnitudes : (rows bins : ℕ) (was : tracks.MagnitudeTrack) (patch : Patch) (work : List Float) {a b : Patched} {x y : tracks.MagnitudeTrack} {v w : List Float}

@@ -9,14 +9,13 @@ use mathlib.Core.List.{List, []}
 use mathlib.Core.Path.{_≡_, refl, sym, ap, _∙_}
 use Prim.Native.Nat.{ℕ, zero, suc, _≤_}
 use lib.Ieee.{Float}
-use lib.ListN.{length, take, drop}
-use lib.Seq.{take-append-seam}
+use lib.ListN.{length, take}
 use native.Mathlib.Omega.{arith}
 use Rattle.numbers.specs.Rounded.{pick}
 use Rattle.numbers.specs.Limits.{magnitudeFine}
 use Rattle.numbers.specs.Lists.{curve, filled, listed, every}
 use Rattle.numbers.specs.Refusals.{unlessRefused}
-use Rattle.numbers.proofs.Tabs.{length-tab, length-filled}
+use Rattle.numbers.proofs.Tabs.{length-tab, length-filled, filled-first, listed-first}
 use Rattle.numbers.proofs.Tests.{passed-does}
 use Rattle.flux.specs.Flux.{fluxAt}
 use Rattle.flux.proofs.Fluxes.{flux-told}
@@ -34,12 +33,11 @@ use Rattle.rooms.specs.declared.Room.{Room}
 use Rattle.rooms.proofs.Numbers.{rows-fine, room-inside, magnitudes-0}
 use Rattle.rooms.specs.Enough.{Enough}
 use Rattle.rooms.proofs.Rooms.{enough-suffices, ready-of, told, flux-taken}
-use Rattle.track_parts.specs.Parts.{onsetsIn}
+use Rattle.onsets.specs.Onsets.{onsetsIn}
 use Rattle.track.specs.declared.Analysis.{Analysis}
 use Rattle.track.specs.Analyses.{periodIn, beatsIn, downbeatsIn, analysisOf, withoutAnalysis, writtenIn}
 use Rattle.analysis.specs.Analyses.{EnvelopePromise, MagnitudesPromise}
 use Rattle.analysis.proofs.Promises.{coincide, flux-is-the-envelope}
-use Rattle.patches.proofs.Parts.{filled-first}
 use Rattle.patch_refusal.specs.Tracks.{MagnitudeTrack, magnitudeTrack}
 use Rattle.patch_magnitudes.specs.Runs.{fluxCurve, thresholdCurve, Fresh, Sound, analysed, Ran, stays}
 use Rattle.patch_magnitudes.proofs.Repairs.{analysed-is-fresh, analysed-is-sound, calls-end-fresh, calls-keep-sound}
@@ -243,8 +241,7 @@ module _
 
 -- what is written first into a lent list doesn't depend on the list: entries,
 pub same-entries : {A : Type 0} (xs d e : List A) {n : ℕ} → length xs ≡ n → take n (listed xs d) ≡ take n (listed xs e)
-unfolding listed
-same-entries xs d e l = rw (← l) (take-append-seam xs (drop (length xs) d) ∙ sym (take-append-seam xs (drop (length xs) e)))
+same-entries xs d e l = rw (← l) (listed-first xs d ∙ sym (listed-first xs e))
 
 -- a curve,
 same-slots : (rule : ℕ → Float) (d e : List Float) {n k : ℕ} → k ≡ n → take n (filled rule d 0 k) ≡ take n (filled rule e 0 k)

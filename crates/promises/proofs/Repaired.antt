@@ -13,8 +13,7 @@ use native.Mathlib.Omega.{arith}
 use lib.Ieee.{Float}
 use lib.ListN.{length, take}
 use Rattle.numbers.specs.declared.Listing.{Listing}
-use Rattle.onsets.specs.Onsets.{onsetsOf, onsetsRefusal}
-use Rattle.numbers.specs.Outcomes.{ListWritten}
+use Rattle.onsets.specs.Onsets.{OnsetsPromise}
 use Rattle.lags.specs.Lags.{boundsFine}
 use Rattle.options.specs.declared.TempoOpts.{TempoOpts}
 use Rattle.tempo.specs.Answers.{EstimatePromise}
@@ -37,7 +36,7 @@ use Rattle.rooms.specs.Enough.{Enough}
 use Rattle.analysis.specs.Analyses.{EnvelopePromise, MagnitudesPromise}
 use Rattle.track.specs.declared.Analysis.{Analysis}
 use Rattle.promises.specs.Repaired.{Begun, Used, SameRun, SameElsewhere}
-use Rattle.promises.proofs.Determined.{listing, estimate, stability-of, beat-grid, downbeats, analysis}
+use Rattle.promises.proofs.Determined.{pick-onsets, estimate, stability-of, beat-grid, downbeats, analysis}
 use Rattle.promises.proofs.FullRuns.{begun-is-fresh, begun-is-sound, used-keeps, same-as-full-run, same-elsewhere}
 
 -- However a track began and whatever was done with it, an analysis of its flux is a full run on its rows.
@@ -160,10 +159,9 @@ module _ (rows bins : ℕ) (was last : MagnitudeTrack) (fresh : Fresh rows bins 
       let threshold = take rows (last .threshold) in
       let full = fluxCurve rows bins (last .magnitudes) in
       let fullThreshold = thresholdCurve rows bins (last .magnitudes) in
-      ListWritten (onsetsRefusal flux threshold rate (length frames)) (onsetsOf flux threshold rate) frames a x
-      → ListWritten (onsetsRefusal full fullThreshold rate (length frames)) (onsetsOf full fullThreshold rate) frames b y
+      OnsetsPromise flux threshold rate frames a x → OnsetsPromise full fullThreshold rate frames b y
       → (a .number ≡ b .number) × (a .count ≡ b .count) × (x ≡ y)
-  same-onsets rate frames p q = listing _ _ frames (rw (flux-is, threshold-is) at p) q
+  same-onsets rate frames p q = pick-onsets _ _ rate frames (rw (flux-is, threshold-is) at p) q
 
   -- the tempo, with its candidates and lag curves
   pub same-tempo : (onsets rate : ℕ) (o : TempoOpts) (clarity weight work : List Float) {a b : TempoEstimate} {c d w v k l : List Float}

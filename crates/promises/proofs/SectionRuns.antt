@@ -15,7 +15,7 @@ use native.Mathlib.Omega.{arith}
 use lib.ListN.{length, take}
 use Rattle.numbers.specs.Limits.{mostFeatures, valueFine}
 use Rattle.numbers.specs.Lists.{filled, listed, every}
-use Rattle.numbers.proofs.Tabs.{length-tab, length-filled}
+use Rattle.numbers.proofs.Tabs.{length-tab, length-filled, filled-first}
 use Rattle.numbers.proofs.Tests.{and-both, lowest-0, passed-does}
 use Rattle.similarities.specs.Similarity.{SimilarityPromise}
 use Rattle.similarities.proofs.Calls.{similarity-passed}
@@ -24,7 +24,6 @@ use Rattle.novelties.proofs.Calls.{novelty-passed}
 use Rattle.sections.specs.Boundaries.{gridFine, boundariesOf, boundariesRefusal}
 use Rattle.sections.specs.Outcomes.{BoundariesPromise}
 use Rattle.sections.specs.declared.Sections.{Sections}
-use Rattle.patches.proofs.Parts.{filled-first}
 use Rattle.patch_features.specs.Features.{FeatureTrack, featureTrack, pairs}
 use Rattle.patch_features.specs.Runs.{similarityCurve, noveltyCurve, FreshFeatures, SoundFeatures, analysedFeatures, RanFeatures, stays}
 use Rattle.patch_features.proofs.Fine.{novelties-are-fine}

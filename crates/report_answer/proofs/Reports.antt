@@ -29,7 +29,7 @@ use Rattle.stability.proofs.Promises.{windows-most, agreeing-most}
 use Rattle.track.specs.declared.Analysis.{Analysis}
 use Rattle.rooms.specs.declared.Room.{Room}
 use Rattle.rooms.specs.Rooms.{Results, Spare, frameSlots, lagSlots, lagsOf, analysisNumbersFine, roomOf, suffices, envelopeRefusal, envelopeNumber}
-use Rattle.track_parts.specs.Parts.{onsetsIn}
+use Rattle.onsets.specs.Onsets.{onsetsIn}
 use Rattle.track.specs.Analyses.{estimateIn, periodIn, beatsIn, downbeatsIn, analysisOf, writtenIn}
 use Rattle.analysis.specs.Analyses.{EnvelopePromise}
 use Rattle.rooms.proofs.Numbers.{inBounds, by-bounds, room-inside}

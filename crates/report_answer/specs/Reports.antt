@@ -9,7 +9,7 @@ use Rattle.lags.specs.Lags.{minLag, maxLag}
 use Rattle.tempo.specs.declared.TempoEstimate.{TempoEstimate}
 use Rattle.stability.specs.declared.Stability.{Stability}
 use Rattle.stability.specs.Answers.{shareOf}
-use Rattle.track_parts.specs.Parts.{onsetsIn}
+use Rattle.onsets.specs.Onsets.{onsetsIn}
 use Rattle.track.specs.Analyses.{estimateIn, periodIn, beatsIn, downbeatsIn}
 use Rattle.report.specs.Input.{reportNumber, reportFlux}
 use Rattle.report_text.specs.Text.{reportText, refusalText}

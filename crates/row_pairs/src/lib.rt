@@ -1,33 +1,34 @@
 // One slot of the similarity: how alike two rows of features are.
 //
 // Document 01, Sections. The Rust: structure.rs `BandedSimilarity`.
+use numbers::FEATURE_WIDTH;
 use roots::sqrt;
 ghost use mathlib.Core.Path.{_≡_};
 ghost use Prim.Native.Nat.{_+_, _-_, _*_, _<_};
 ghost use lib.ListN.{length};
 ghost use lib.Ieee.{neg, lt};
 ghost use Rattle.numbers.specs.Rounded.{nought, pick, held};
-ghost use Rattle.numbers.specs.Limits.{similarityTop};
+ghost use Rattle.numbers.specs.Limits.{featureWidth, similarityTop};
 ghost use Rattle.row_pairs.specs.Pairs.{featureRow, dotOf, isZero, settled, slotAt};
 
 // Inner: row i of the features.
 pub fn feature_row(features: &[f64], rows: usize, i: usize) -> &[f64]
-    requires { ⌜ (length (now features) ≡ rows * 16) × (i < rows) ⌝ }
+    requires { ⌜ (length (now features) ≡ rows * featureWidth) × (i < rows) ⌝ }
     ensures { λ r. ⌜ now r ≡ featureRow (now (features .entry)) i ⌝ }
 {
-    let from = i * 16;
-    let past = from + 16;
+    let from = i * FEATURE_WIDTH;
+    let past = from + FEATURE_WIDTH;
     &features[from..past]
 }
 
 // Inner: the sum of the products of two rows.
 pub fn dot(a: &[f64], b: &[f64]) -> f64
-    requires { ⌜ (length (now a) ≡ 16) × (length (now b) ≡ 16) ⌝ }
+    requires { ⌜ (length (now a) ≡ featureWidth) × (length (now b) ≡ featureWidth) ⌝ }
     ensures { λ r. ⌜ r ≡ dotOf (now (a .entry)) (now (b .entry)) ⌝ }
 {
     let mut sum = 0.0;
     let mut k = 0;
-    while k < 16 {
+    while k < FEATURE_WIDTH {
         sum = sum + a[k] * b[k];
         k += 1;
     }
@@ -65,7 +66,7 @@ pub fn settle(quotient: f64, norm: f64, other: f64) -> f64
 
 // Inner: slot (i, d) of the similarity, by itself.
 pub fn similarity_slot(features: &[f64], rows: usize, i: usize, d: usize) -> f64
-    requires { ⌜ (length (now features) ≡ rows * 16) × (i < rows) ⌝ }
+    requires { ⌜ (length (now features) ≡ rows * featureWidth) × (i < rows) ⌝ }
     ensures { λ r. ⌜ r ≡ slotAt (now (features .entry)) rows i d ⌝ }
 {
     if rows - i <= d {

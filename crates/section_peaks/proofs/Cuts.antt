@@ -6,7 +6,7 @@ use mathlib.Core.Path.{_≡_, refl, sym, ap, _∙_}
 use mathlib.Core.Logic.{_⊎_, ⊎-elim}
 use mathlib.Core.Bool.{Bool, true, false, _&&_, _||_}
 use mathlib.Core.List.{List, [], _∷_, _++_, map}
-use native.Mathlib.Nat.{not-suc-le-zero, le-of-suc-le-suc, le-refl, zero-lt-suc}
+use native.Mathlib.Nat.{le-refl, zero-lt-suc}
 use native.Mathlib.Numerals.{add-one}
 use native.Mathlib.Omega.{arith}
 use lib.Dec.{leb, ltb, eqb}
@@ -19,7 +19,7 @@ use Rattle.numbers.proofs.Tests.{which, lt-or-le, and-left, and-right, and-both
 use Rattle.numbers.specs.Lists.{every, oneIf, ascending}
 use Rattle.numbers.specs.Rounded.{pick}
 use Rattle.floats.specs.TotalOrder.{key}
-use Rattle.median.proofs.Ranks.{same-sort, sort-ordered}
+use Rattle.median.proofs.Ranks.{count-high, count-low, same-sort, sort-ordered}
 use Rattle.median.specs.Median.{sort}
 use Rattle.median.specs.Ranks.{keyAt, below}
 use Rattle.onsets.proofs.Onsets.{every-weaken}
@@ -270,26 +270,6 @@ module _ (curve : List Float) where
       (none-passes (λ y. ltb (placeOf curve (x ∷ xs) y) 0) (x ∷ xs) (λ y. le-ltb (placeOf curve (x ∷ xs) y) 0 zero-le))
 
 -- ---- the cut of a sorted list
-
--- where all entries from i on have a key of k or more, at most i are below k
-count-high : (k i : ℕ) (xs : List Float) → ((j : ℕ) → i ≤ j → j < length xs → k ≤ keyAt xs j) → below k xs ≤ i
-unfolding below
-count-high k i [] h = zero-le
-count-high k zero (x ∷ xs) h =
-    omega (arith, count-high k zero xs (λ j a b. h (suc j) zero-le (omega arith)), one-ge (key x) k (h zero (le-refl 0) (omega arith)))
-count-high k (suc i) (x ∷ xs) h = omega (arith, count-high k i xs (λ j a b. h (suc j) (omega arith) (omega arith)), one-most (ltb (key x) k))
-  where
-    one-most : (b : Bool) → oneIf b ≤ 1
-    one-most true = le-refl 1
-    one-most false = zero-le
-
--- where all entries before i have a key below k, at least i are
-count-low : (k i : ℕ) (xs : List Float) → i ≤ length xs → ((j : ℕ) → j < i → keyAt xs j < k) → i ≤ below k xs
-unfolding below
-count-low k zero xs l h = zero-le
-count-low k (suc i) [] l h = absurd (not-suc-le-zero l)
-count-low k (suc i) (x ∷ xs) l h =
-    omega (arith, count-low k i xs (le-of-suc-le-suc l) (λ j a. h (suc j) (omega arith)), one-lt (key x) k (h zero (zero-lt-suc i)))
 
 -- the entry of the sorted list with all that is taken from it on
 module _ (most : ℕ) (xs : List Float) (fit : most < length xs) (some : 0 < most) where

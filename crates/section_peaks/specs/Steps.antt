@@ -5,10 +5,11 @@ use mathlib.Core.Path.{_≡_}
 use mathlib.Core.Bool.{Bool, true, false}
 use mathlib.Core.List.{List, [], _∷_}
 use lib.Dec.{ltb}
-use lib.ListN.{length, drop}
+use lib.ListN.{length}
 use lib.Ieee.{Float}
 use Rattle.numbers.specs.Rounded.{pick}
 use Rattle.numbers.specs.Lists.{tab, listed}
+use Rattle.numbers.specs.Outcomes.{Open}
 use Rattle.floats.specs.TotalOrder.{key}
 use Rattle.median.specs.Ranks.{below}
 use Rattle.onsets.specs.Peaks.{at, isPeak, those, suppressed}
@@ -81,4 +82,4 @@ pub record Noted (entries was : List Float) (count : ℕ) (after : List Float) :
 -- an inner call that lists rows and says how many, and sorts in the first n slots of a work slice
 pub record PickedIn (n : ℕ) (entries was : List ℕ) (work : List Float) (count : ℕ) (after : List ℕ) (work′ : List Float) : Type 0 where
   pub picked : Picked entries was count after
-  pub work-keeps : drop n work′ ≡ drop n work
+  pub works : Open n work work′

@@ -25,7 +25,12 @@ pub fn pick_boundaries(
     work: &mut [f64],
 ) -> usize
     requires { ⌜ (length (now curve) ≤ mostFeatures) × (length (now curve) ≤ length (now rows)) × (length (now curve) ≤ length (now work)) ⌝ }
-    ensures { λ r. ⌜ PickedIn (length (now (curve .entry))) (keptGreatest (now (curve .entry)) most (suppressed (now (curve .entry)) gap (peaksOf (now (curve .entry)) (λ _. level)))) (now (rows .entry)) (now (work .entry)) r (now (rows .exit)) (now (work .exit)) ⌝ }
+    ensures { λ r. ⌜
+        PickedIn (length (now (curve .entry)))
+        (keptGreatest (now (curve .entry)) most (suppressed (now (curve .entry)) gap (peaksOf (now (curve .entry)) (λ _. level))))
+        (now (rows .entry)) (now (work .entry))
+        r (now (rows .exit)) (now (work .exit))
+        ⌝ }
 {
     if most == 0 {
         return 0;
@@ -59,7 +64,11 @@ fn note_values(curve: &[f64], level: f64, gap: usize, work: &mut [f64]) -> usize
 // Lists the kept peaks that a cut takes, and says how many they are.
 fn list_chosen(curve: &[f64], level: f64, gap: usize, cut: Cut, rows: &mut [u32]) -> usize
     requires { ⌜ (length (now curve) ≤ mostFeatures) × (length (now curve) ≤ length (now rows)) ⌝ }
-    ensures { λ r. ⌜ Picked (chosen (now (curve .entry)) (key (cut .level)) (cut .spare) (keptFrom (now (curve .entry)) level gap 1)) (now (rows .entry)) r (now (rows .exit)) ⌝ }
+    ensures { λ r. ⌜
+        Picked (chosen (now (curve .entry)) (key (cut .level)) (cut .spare) (keptFrom (now (curve .entry)) level gap 1))
+        (now (rows .entry))
+        r (now (rows .exit))
+        ⌝ }
 {
     let last = numbers::less(curve.len(), 1);
     let edge = cut.level;

@@ -10,7 +10,7 @@ use lib.Ieee.{Float}
 use lib.ListN.{length}
 use borrow.Author.Tests.{leb-true, le-leb, ltb-true, lt-ltb}
 use Rattle.numbers.proofs.Tests.{and-left, and-right, and-both, lowest-zero, lowest-0}
-use Rattle.numbers.specs.Limits.{mostFeatures, valueFine, rowFine}
+use Rattle.numbers.specs.Limits.{mostFeatures, mostListedRow, valueFine, rowFine}
 use Rattle.numbers.specs.Lists.{every, ascending}
 use Rattle.numbers.specs.Rounded.{pick}
 use Rattle.onsets.proofs.Onsets.{every-weaken}
@@ -112,7 +112,8 @@ module _ (novelty : List Float) (samples rate maxSections : ℕ) where
   boundaries-timed room f g h =
       lowest-0 (gridFine samples rate && every rowFine bounds) true (leb (length bounds) room) true
       (and-both (gridFine samples rate) (every rowFine bounds) g
-      (every-weaken (λ x. ltb x (length novelty - 1)) rowFine (λ x e. lt-ltb x mostFeatures (omega (arith, ltb-true x (length novelty - 1) e))) bounds boundaries-inside))
+      (every-weaken (λ x. ltb x (length novelty - 1)) rowFine
+      (λ x e. le-leb x mostListedRow (omega (arith, ltb-true x (length novelty - 1) e))) bounds boundaries-inside))
       refl (le-leb (length bounds) room h) refl
 
 -- ---- refusal

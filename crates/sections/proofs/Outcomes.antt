@@ -7,9 +7,10 @@ use native.Mathlib.Omega.{arith}
 use borrow.Author.Tests.{lt-ltb, le-ltb}
 use lib.Ieee.{Float}
 use lib.ListN.{length, take, drop}
-use lib.Seq.{take-at}
 use Rattle.median.specs.Median.{medianOf, madOf}
-use Rattle.numbers.proofs.Tabs.{listed-none}
+use Rattle.numbers.proofs.Tabs.{listed-none, listed-first}
+use Rattle.numbers.proofs.Outcomes.{open-same, open-then, open-unique}
+use Rattle.numbers.specs.Outcomes.{Open}
 use Rattle.numbers.proofs.Tests.{refused-keeps}
 use Rattle.numbers.specs.Lists.{listed}
 use Rattle.numbers.specs.Rounded.{_⊕_, _⊗_, nought}
@@ -33,8 +34,7 @@ module _ (number : ℕ) (novelty : List Float) (bounds rows : List ℕ) (work : 
         count-is = n ∙ sym (refused-keeps number (length bounds) 0 no);
         confidence-is = c ∙ sym (refused-keeps number (confidenceOf novelty bounds) nought no);
         rows-are = sym (refused-keeps number (listed bounds rows) rows no);
-        work-length = refl;
-        work-keeps = refl;
+        works = open-same _ work;
       }
 
   -- any two outcomes coincide, but for the sorting room
@@ -47,7 +47,7 @@ module _ (number : ℕ) (novelty : List Float) (bounds rows : List ℕ) (work : 
     p .count-is ∙ sym (q .count-is),
     p .confidence-is ∙ sym (q .confidence-is),
     p .rows-are ∙ sym (q .rows-are),
-    p .work-keeps ∙ sym (q .work-keeps),
+    open-unique (p .works) (q .works) .1,
   )
 
 -- ---- a curve that is too short
@@ -69,8 +69,7 @@ found-short number novelty samples rate maxSections rows work answer z h a s n c
       count-is = n;
       confidence-is = c;
       rows-are = sym (listed-none rows);
-      work-length = refl;
-      work-keeps = refl;
+      works = open-same _ work;
     })
 
 -- ---- a curve that is long enough
@@ -89,10 +88,9 @@ picked-at novelty gap most med mad e h p = rw (candidates-at novelty gap med mad
 
 -- the part of rows that is listed
 pub picked-part : (bounds rows : List ℕ) (count : ℕ) (rows′ : List ℕ) → Picked bounds rows count rows′ → take (count - 0) rows′ ≡ bounds
-unfolding listed
 picked-part bounds rows count rows′ p =
-    let n : length bounds ≡ count - 0 = omega (arith, p .count-is) in
-    rw (p .frames-are) (take-at bounds (drop (length bounds) rows) (count - 0) n)
+    let n : count - 0 ≡ length bounds = omega (arith, p .count-is) in
+    rw (p .frames-are, n) (listed-first bounds rows)
 
 sections-long : (n b : ℕ) → 0 < n → b + 1 ≡ sectionsOf n b
 unfolding sectionsOf
@@ -101,18 +99,16 @@ sections-long (suc n) b h = refl
 
 pub found-picked : (novelty : List Float) (bounds rows : List ℕ) (work : List Float) (answer : Sections) (rows′ : List ℕ) (work₁ work′ : List Float)
     → leastRows ≤ length novelty → answer .number ≡ 0 → answer .sections ≡ answer .count + 1 → answer .confidence ≡ confidenceOf novelty bounds
-    → length work′ ≡ length work
-    → drop (length novelty) work₁ ≡ drop (length novelty) work → PickedIn (length novelty) bounds rows work₁ (answer .count) rows′ work′
+    → Open (length novelty) work work₁ → PickedIn (length novelty) bounds rows work₁ (answer .count) rows′ work′
     → Found 0 novelty bounds rows work answer rows′ work′
-found-picked novelty bounds rows work answer rows′ work₁ work′ h a s c l w p =
+found-picked novelty bounds rows work answer rows′ work₁ work′ h a s c w p =
     record {
       number-is = a;
       sections-are = s ∙ rw (p .picked .count-is) (sections-long (length novelty) (length bounds) (omega arith));
       count-is = p .picked .count-is;
       confidence-is = c;
       rows-are = p .picked .frames-are;
-      work-length = l;
-      work-keeps = rw (le-ltb (length novelty) leastRows h) (p .work-keeps ∙ w);
+      works = rw (le-ltb (length novelty) leastRows h) (open-then _ _ _ _ w (p .works));
     }
 
 pub found-long : (number : ℕ) (novelty : List Float) (samples rate maxSections gap most : ℕ) (rows : List ℕ) (work : List Float) (answer : Sections) (rows′ : List ℕ) (work′ : List Float)

@@ -4,12 +4,12 @@ use Prim.Native.Nat.{ℕ}
 use mathlib.Core.Path.{_≡_}
 use mathlib.Core.List.{List, map}
 use lib.Dec.{ltb}
-use lib.ListN.{length, drop}
+use lib.ListN.{length}
 use lib.Ieee.{Float}
 use Rattle.numbers.specs.Rounded.{nought, pick}
 use Rattle.numbers.specs.Lists.{listed}
 use Rattle.numbers.specs.Refusals.{unlessRefused}
-use Rattle.numbers.specs.Outcomes.{Written}
+use Rattle.numbers.specs.Outcomes.{Written, Open}
 use Rattle.sections.specs.Boundaries.{leastRows, boundariesOf, sectionsOf, boundariesRefusal}
 use Rattle.sections.specs.Confidence.{confidenceOf}
 use Rattle.sections.specs.Times.{rowTime, rowTimesRefusal}
@@ -21,8 +21,7 @@ abbrev pub workedIn : (number rows : ℕ) → ℕ
 workedIn number rows = unlessRefused number (pick (ltb rows leastRows) 0 rows) 0
 
 -- A call that finds these boundaries in a novelty curve: it answers this number, how many sections there are, how many boundaries it
--- listed, and a confidence; a refusal answers zeros and changes no slot. Of the sorting room, which is left open: it keeps its length
--- and its slots past those that are worked in.
+-- listed, and a confidence; a refusal answers zeros and changes no slot. The slots of `work` that are worked in are left open.
 pub record Found
     (number : ℕ) (novelty : List Float) (bounds rows : List ℕ) (work : List Float)
     (answer : Sections) (rows′ : List ℕ) (work′ : List Float) : Type 0 where
@@ -31,8 +30,7 @@ pub record Found
   pub count-is : answer .count ≡ unlessRefused number (length bounds) 0
   pub confidence-is : answer .confidence ≡ unlessRefused number (confidenceOf novelty bounds) nought
   pub rows-are : rows′ ≡ unlessRefused number (listed bounds rows) rows
-  pub work-length : length work′ ≡ length work
-  pub work-keeps : drop (workedIn number (length novelty)) work′ ≡ drop (workedIn number (length novelty)) work
+  pub works : Open (workedIn number (length novelty)) work work′
 
 -- what `boundaries` promises
 abbrev pub BoundariesPromise : (novelty : List Float) (samples rate maxSections : ℕ) (rows : List ℕ) (work : List Float)

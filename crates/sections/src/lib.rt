@@ -26,6 +26,12 @@ pub struct Sections {
 
 // fewer rows are one section
 const LEAST_ROWS: usize = 16;
+// the least time between two boundaries, in milliseconds
+const MIN_GAP_MS: f64 = 4000.0;
+// a novelty counts from so many times the distance of the values from their median
+const MAD_SCALE: f64 = 1.5;
+// milliseconds of a second
+const THOUSAND: f64 = 1000.0;
 
 // Lists the rows of a novelty curve at which a section begins, at most max(1, max_sections) - 1, given a feature row's length in samples and the
 // sample rate. Room: a slot of rows and of work for each slot of novelty. Refuses: 1 a novelty longer than 50,000, a length outside
@@ -83,7 +89,7 @@ fn find(novelty: &[f64], gap: usize, most: usize, rows: &mut [u32], work: &mut [
         ⌝ }
 {
     let med = median::median_in(novelty, work);
-    let level = med + 1.5 * median::mad_in(novelty, med, work);
+    let level = med + MAD_SCALE * median::mad_in(novelty, med, work);
     let count = section_peaks::pick_boundaries(novelty, level, gap, most, rows, work);
     let sure = confidence::confidence_of(novelty, med, &rows[0..count]);
     Sections {
@@ -132,14 +138,14 @@ fn grid_fine(length: u64, rate: u32) -> bool
 pub fn frame_ms(length: u64, rate: u32) -> f64
     ensures { λ r. ⌜ r ≡ frameMs length rate ⌝ }
 {
-    std::num::nearest_u64_to_f64(length) / (rate as f64) * 1000.0
+    std::num::nearest_u64_to_f64(length) / (rate as f64) * THOUSAND
 }
 
 // Inner: the rows within which one boundary is kept.
 pub fn section_gap(length: u64, rate: u32) -> usize
     ensures { λ r. ⌜ r ≡ sectionGap length rate ⌝ }
 {
-    let rows = floats::wholes::ceil_of(4000.0 / frame_ms(length, rate)) as usize;
+    let rows = floats::wholes::ceil_of(MIN_GAP_MS / frame_ms(length, rate)) as usize;
     numbers::greatest(1, rows)
 }
 

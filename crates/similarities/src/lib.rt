@@ -18,13 +18,20 @@ ghost use mathlib.Core.Path.{_≡_};
 ghost use Prim.Native.Nat.{ℕ, _+_, _-_, _*_, _≤_, _<_, min};
 ghost use lib.ListN.{length, getD};
 ghost use lib.Ieee.{nan};
+ghost use Rattle.numbers.specs.Limits.{featureWidth};
 ghost use Rattle.numbers.specs.Lists.{filled};
-ghost use Rattle.row_pairs.specs.Pairs.{dotOf, similarityAt};
+ghost use Rattle.row_pairs.specs.Pairs.{bandWidth, dotOf, similarityAt};
 ghost use Rattle.similarities.specs.Similarity.{similarityNumber, SimilarityPromise};
-ghost use Rattle.similarities.specs.Lanes.{turnedAt, turnedColumn, squareAt, rootAt, Block, laneProduct, laneQuotient, settledFrom};
+ghost use Rattle.similarities.specs.Lanes.{columns, ownColumns, turnedRoom, turnedAt, turnedColumn, squareAt, rootAt, Block};
+ghost use Rattle.similarities.specs.Lanes.{laneProduct, laneQuotient, settledFrom};
 
 // slots of a row of the similarity: the row with itself, and with the sixteen rows after it
 pub const BAND_WIDTH: usize = 17;
+
+// rows of a block, turned so that one value of neighbouring rows lies side by side
+const COLUMNS: usize = 128;
+// those of them whose slots are written: each has the sixteen rows after it in the block
+const OWN_COLUMNS: usize = 112;
 
 // the number that similarity gives
 fn similarity_number(features: &[f64], rows: usize, room: usize) -> u32
@@ -68,23 +75,32 @@ fn turn_value(
     k: usize,
     turned: &mut [f64; 2048],
 )
-    requires { ⌜ (length (now features) ≡ rows * 16) × (first + count ≤ rows) × (count ≤ 128) × (k < 16) × (length (now turned) ≡ 2048) ⌝ }
-    ensures { λ _. ⌜ now (turned .exit) ≡ filled (turnedAt (now (features .entry)) first) (now (turned .entry)) (k * 128) (k * 128 + count) ⌝ }
+    requires { ⌜
+        (length (now features) ≡ rows * featureWidth)
+        × (first + count ≤ rows)
+        × (count ≤ columns)
+        × (k < featureWidth)
+        × (length (now turned) ≡ turnedRoom)
+        ⌝ }
+    ensures { λ _. ⌜ now (turned .exit) ≡ filled (turnedAt (now (features .entry)) first) (now (turned .entry)) (k * columns) (k * columns + count) ⌝ }
 {
     let mut r = 0;
     while r < count {
-        turned[k * 128 + r] = features[(first + r) * 16 + k];
+        turned[k * COLUMNS + r] = features[(first + r) * FEATURE_WIDTH + k];
         r += 1;
     }
 }
 
 // all sixteen values
 fn turn(features: &[f64], rows: usize, first: usize, count: usize, turned: &mut [f64; 2048])
-    requires { ⌜ (length (now features) ≡ rows * 16) × (first + count ≤ rows) × (count ≤ 128) × (length (now turned) ≡ 2048) ⌝ }
-    ensures { λ _. ⌜ ((r k : ℕ) → r < count → k < 16 → getD (now (turned .exit)) (k * 128 + r) nan ≡ getD (now (features .entry)) ((first + r) * 16 + k) nan) ⌝ }
+    requires { ⌜ (length (now features) ≡ rows * featureWidth) × (first + count ≤ rows) × (count ≤ columns) × (length (now turned) ≡ turnedRoom) ⌝ }
+    ensures { λ _. ⌜
+        ((r k : ℕ) → r < count → k < featureWidth
+        → getD (now (turned .exit)) (k * columns + r) nan ≡ getD (now (features .entry)) ((first + r) * featureWidth + k) nan)
+        ⌝ }
 {
     let mut k = 0;
-    while k < 16 {
+    while k < FEATURE_WIDTH {
         turn_value(features, rows, first, count, k, turned);
         k += 1;
     }
@@ -92,7 +108,7 @@ fn turn(features: &[f64], rows: usize, first: usize, count: usize, turned: &mut 
 
 // the sums of the rows' squares
 fn square_rows(features: &[f64], rows: usize, first: usize, count: usize, squares: &mut [f64; 128])
-    requires { ⌜ (length (now features) ≡ rows * 16) × (first + count ≤ rows) × (count ≤ 128) × (length (now squares) ≡ 128) ⌝ }
+    requires { ⌜ (length (now features) ≡ rows * featureWidth) × (first + count ≤ rows) × (count ≤ columns) × (length (now squares) ≡ columns) ⌝ }
     ensures { λ _. ⌜ now (squares .exit) ≡ filled (squareAt (now (features .entry)) first) (now (squares .entry)) 0 count ⌝ }
 {
     let mut r = 0;
@@ -105,11 +121,11 @@ fn square_rows(features: &[f64], rows: usize, first: usize, count: usize, square
 
 // guesses at the norms, in a loop of their own: the compiler runs it on several lanes
 fn guess_all(squares: &[f64; 128], guesses: &mut [u64; 128])
-    requires { ⌜ length (now guesses) ≡ 128 ⌝ }
-    ensures { λ _. ⌜ length (now (guesses .exit)) ≡ 128 ⌝ }
+    requires { ⌜ length (now guesses) ≡ columns ⌝ }
+    ensures { λ _. ⌜ length (now (guesses .exit)) ≡ columns ⌝ }
 {
     let mut r = 0;
-    while r < 128 {
+    while r < COLUMNS {
         guesses[r] = guess_root(squares[r]);
         r += 1;
     }
@@ -117,13 +133,13 @@ fn guess_all(squares: &[f64; 128], guesses: &mut [u64; 128])
 
 // the norms
 fn root_all(squares: &[f64; 128], norms: &mut [f64; 128])
-    requires { ⌜ length (now norms) ≡ 128 ⌝ }
-    ensures { λ _. ⌜ now (norms .exit) ≡ filled (rootAt (now (squares .entry))) (now (norms .entry)) 0 128 ⌝ }
+    requires { ⌜ length (now norms) ≡ columns ⌝ }
+    ensures { λ _. ⌜ now (norms .exit) ≡ filled (rootAt (now (squares .entry))) (now (norms .entry)) 0 columns ⌝ }
 {
     let mut guesses = [0u64; 128];
     guess_all(squares, &mut guesses);
     let mut r = 0;
-    while r < 128 {
+    while r < COLUMNS {
         norms[r] = sqrt_from(squares[r], guesses[r]);
         r += 1;
     }
@@ -131,11 +147,11 @@ fn root_all(squares: &[f64; 128], norms: &mut [f64; 128])
 
 // Sixteen sums of products at once, in lanes 1 to 16: lane j is that with the row j columns on. Each keeps its own order.
 fn add_products(sums: &mut [f64; 17], x: f64, turned: &[f64; 2048], at: usize)
-    requires { ⌜ (length (now sums) ≡ 17) × (at + 16 < 2048) ⌝ }
-    ensures { λ _. ⌜ now (sums .exit) ≡ filled (laneProduct (now (sums .entry)) x (now (turned .entry)) at) (now (sums .entry)) 1 17 ⌝ }
+    requires { ⌜ (length (now sums) ≡ bandWidth) × (at + featureWidth < turnedRoom) ⌝ }
+    ensures { λ _. ⌜ now (sums .exit) ≡ filled (laneProduct (now (sums .entry)) x (now (turned .entry)) at) (now (sums .entry)) 1 bandWidth ⌝ }
 {
     let mut j = 1;
-    while j < 17 {
+    while j < BAND_WIDTH {
         sums[j] = sums[j] + x * turned[at + j];
         j += 1;
     }
@@ -143,13 +159,17 @@ fn add_products(sums: &mut [f64; 17], x: f64, turned: &[f64; 2048], at: usize)
 
 // the dot products of the block's row in column c with itself, which is `own`, and with the sixteen rows after it
 fn row_dots(row: &[f64], turned: &[f64; 2048], c: usize, own: f64) -> [f64; 17]
-    requires { ⌜ (length (now row) ≡ 16) × (c < 112) ⌝ }
-    ensures { λ r. ⌜ (length r ≡ 17) × (getD r 0 nan ≡ own) × ((d : ℕ) → 0 < d → d < 17 → getD r d nan ≡ dotOf (now (row .entry)) (turnedColumn (now (turned .entry)) (c + d))) ⌝ }
+    requires { ⌜ (length (now row) ≡ featureWidth) × (c < ownColumns) ⌝ }
+    ensures { λ r. ⌜
+        (length r ≡ bandWidth)
+        × (getD r 0 nan ≡ own)
+        × ((d : ℕ) → 0 < d → d < bandWidth → getD r d nan ≡ dotOf (now (row .entry)) (turnedColumn (now (turned .entry)) (c + d)))
+        ⌝ }
 {
     let mut sums = [0.0; 17];
     let mut k = 0;
-    while k < 16 {
-        add_products(&mut sums, row[k], turned, k * 128 + c);
+    while k < FEATURE_WIDTH {
+        add_products(&mut sums, row[k], turned, k * COLUMNS + c);
         k += 1;
     }
     sums[0] = own;
@@ -158,12 +178,12 @@ fn row_dots(row: &[f64], turned: &[f64; 2048], c: usize, own: f64) -> [f64; 17]
 
 // The divisions in a loop of their own, apart from the choices that settle them: the compiler then runs both on several lanes.
 fn divide(sums: &mut [f64; 17], norms: &[f64; 128], c: usize)
-    requires { ⌜ (length (now sums) ≡ 17) × (c < 112) ⌝ }
-    ensures { λ _. ⌜ now (sums .exit) ≡ filled (laneQuotient (now (sums .entry)) (now (norms .entry)) c) (now (sums .entry)) 0 17 ⌝ }
+    requires { ⌜ (length (now sums) ≡ bandWidth) × (c < ownColumns) ⌝ }
+    ensures { λ _. ⌜ now (sums .exit) ≡ filled (laneQuotient (now (sums .entry)) (now (norms .entry)) c) (now (sums .entry)) 0 bandWidth ⌝ }
 {
     let norm = norms[c];
     let mut d = 0;
-    while d < 17 {
+    while d < BAND_WIDTH {
         sums[d] = sums[d] / (norm * norms[c + d]);
         d += 1;
     }
@@ -171,12 +191,15 @@ fn divide(sums: &mut [f64; 17], norms: &[f64; 128], c: usize)
 
 // the lanes, settled, to slots at to at + 16
 fn put_row(quotients: &[f64; 17], norms: &[f64; 128], c: usize, at: usize, similarity: &mut [f64])
-    requires { ⌜ (c < 112) × (at + 17 ≤ length (now similarity)) ⌝ }
-    ensures { λ _. ⌜ now (similarity .exit) ≡ filled (settledFrom (now (quotients .entry)) (now (norms .entry)) c at) (now (similarity .entry)) at (at + 17) ⌝ }
+    requires { ⌜ (c < ownColumns) × (at + bandWidth ≤ length (now similarity)) ⌝ }
+    ensures { λ _. ⌜
+        now (similarity .exit)
+        ≡ filled (settledFrom (now (quotients .entry)) (now (norms .entry)) c at) (now (similarity .entry)) at (at + bandWidth)
+        ⌝ }
 {
     let norm = norms[c];
     let mut d = 0;
-    while d < 17 {
+    while d < BAND_WIDTH {
         similarity[at + d] = settle(quotients[d], norm, norms[c + d]);
         d += 1;
     }
@@ -193,13 +216,23 @@ fn put_slots(
     norms: &[f64; 128],
     similarity: &mut [f64],
 )
-    requires { ⌜ (length (now features) ≡ rows * 16) × (first ≤ i) × (i < rows) × (i < first + 112) × (i * 17 + 17 ≤ length (now similarity)) × Block (now features) first (min 128 (rows - first)) (now turned) (now squares) (now norms) ⌝ }
-    ensures { λ _. ⌜ now (similarity .exit) ≡ filled (similarityAt (now (features .entry)) rows) (now (similarity .entry)) (i * 17) (i * 17 + 17) ⌝ }
+    requires { ⌜
+        (length (now features) ≡ rows * featureWidth)
+        × (first ≤ i)
+        × (i < rows)
+        × (i < first + ownColumns)
+        × (i * bandWidth + bandWidth ≤ length (now similarity))
+        × Block (now features) first (min columns (rows - first)) (now turned) (now squares) (now norms)
+        ⌝ }
+    ensures { λ _. ⌜
+        now (similarity .exit)
+        ≡ filled (similarityAt (now (features .entry)) rows) (now (similarity .entry)) (i * bandWidth) (i * bandWidth + bandWidth)
+        ⌝ }
 {
     let c = i - first;
     let mut sums = row_dots(feature_row(features, rows, i), turned, c, squares[c]);
     divide(&mut sums, norms, c);
-    put_row(&sums, norms, c, i * 17, similarity);
+    put_row(&sums, norms, c, i * BAND_WIDTH, similarity);
 }
 
 // the slots of rows first to past - 1 of a block
@@ -213,8 +246,18 @@ fn put_block(
     norms: &[f64; 128],
     similarity: &mut [f64],
 )
-    requires { ⌜ (length (now features) ≡ rows * 16) × (first ≤ past) × (past ≤ rows) × (past ≤ first + 112) × (past * 17 ≤ length (now similarity)) × Block (now features) first (min 128 (rows - first)) (now turned) (now squares) (now norms) ⌝ }
-    ensures { λ _. ⌜ now (similarity .exit) ≡ filled (similarityAt (now (features .entry)) rows) (now (similarity .entry)) (first * 17) (past * 17) ⌝ }
+    requires { ⌜
+        (length (now features) ≡ rows * featureWidth)
+        × (first ≤ past)
+        × (past ≤ rows)
+        × (past ≤ first + ownColumns)
+        × (past * bandWidth ≤ length (now similarity))
+        × Block (now features) first (min columns (rows - first)) (now turned) (now squares) (now norms)
+        ⌝ }
+    ensures { λ _. ⌜
+        now (similarity .exit)
+        ≡ filled (similarityAt (now (features .entry)) rows) (now (similarity .entry)) (first * bandWidth) (past * bandWidth)
+        ⌝ }
 {
     let mut i = first;
     while i < past {
@@ -225,10 +268,19 @@ fn put_block(
 
 // The slots of rows first to past - 1, at most 112. These and the sixteen rows after them make a block: turned, with each norm taken once.
 fn fill_block(features: &[f64], rows: usize, first: usize, past: usize, similarity: &mut [f64])
-    requires { ⌜ (length (now features) ≡ rows * 16) × (first ≤ past) × (past ≤ rows) × (past ≤ first + 112) × (past * 17 ≤ length (now similarity)) ⌝ }
-    ensures { λ _. ⌜ now (similarity .exit) ≡ filled (similarityAt (now (features .entry)) rows) (now (similarity .entry)) (first * 17) (past * 17) ⌝ }
+    requires { ⌜
+        (length (now features) ≡ rows * featureWidth)
+        × (first ≤ past)
+        × (past ≤ rows)
+        × (past ≤ first + ownColumns)
+        × (past * bandWidth ≤ length (now similarity))
+        ⌝ }
+    ensures { λ _. ⌜
+        now (similarity .exit)
+        ≡ filled (similarityAt (now (features .entry)) rows) (now (similarity .entry)) (first * bandWidth) (past * bandWidth)
+        ⌝ }
 {
-    let count = least(128, rows - first);
+    let count = least(COLUMNS, rows - first);
     let mut turned = [0.0; 2048];
     turn(features, rows, first, count, &mut turned);
     let mut squares = [0.0; 128];
@@ -255,12 +307,15 @@ pub fn fill_similarity_rows(
     past: usize,
     similarity: &mut [f64],
 )
-    requires { ⌜ (length (now features) ≡ rows * 16) × (from ≤ past) × (past ≤ rows) × (past * 17 ≤ length (now similarity)) ⌝ }
-    ensures { λ _. ⌜ now (similarity .exit) ≡ filled (similarityAt (now (features .entry)) rows) (now (similarity .entry)) (from * 17) (past * 17) ⌝ }
+    requires { ⌜ (length (now features) ≡ rows * featureWidth) × (from ≤ past) × (past ≤ rows) × (past * bandWidth ≤ length (now similarity)) ⌝ }
+    ensures { λ _. ⌜
+        now (similarity .exit)
+        ≡ filled (similarityAt (now (features .entry)) rows) (now (similarity .entry)) (from * bandWidth) (past * bandWidth)
+        ⌝ }
 {
     let mut i = from;
     while i < past {
-        let next = least(i + 112, past);
+        let next = least(i + OWN_COLUMNS, past);
         fill_block(features, rows, i, next, similarity);
         i = next;
     }

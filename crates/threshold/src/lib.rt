@@ -5,6 +5,7 @@ ghost use mathlib.Core.Path.{_≡_};
 ghost use Prim.Native.Nat.{_≤_, _<_};
 ghost use lib.ListN.{length, drop};
 ghost use Rattle.numbers.specs.Lists.{filled};
+ghost use Rattle.numbers.specs.Outcomes.{Open};
 ghost use Rattle.threshold.specs.Threshold.{thresholdOf, thresholdAt, sortingRoom, thresholdRefusal, ThresholdPromise};
 
 // the most slots of a window
@@ -20,7 +21,11 @@ const DELTA_MIN: f64 = 0.000001;
 // Refuses: 1 a flux longer than 1,048,576; 3 threshold or work shorter than their room; 4 a flux value that isn't finite or is
 // of size above 2^150. A refusal writes nothing. Work's slots past min(21, N) stay; a threshold may be of size above 2^150.
 pub fn adaptive_threshold(flux: &[f64], threshold: &mut [f64], work: &mut [f64]) -> u32
-    ensures { λ r. ⌜ ThresholdPromise (now (flux .entry)) (now (threshold .entry)) (now (work .entry)) r (now (threshold .exit)) (now (work .exit)) ⌝ }
+    ensures { λ r. ⌜
+        ThresholdPromise (now (flux .entry))
+        (now (threshold .entry)) (now (work .entry))
+        r (now (threshold .exit)) (now (work .exit))
+        ⌝ }
 {
     let number = refusal(flux, threshold.len(), work.len());
     if number != 0 {
@@ -67,10 +72,11 @@ pub fn fill_threshold(
     }
 }
 
-fn threshold_slot(flux: &[f64], t: usize, work: &mut [f64]) -> f64
+// Inner: the threshold at one slot, for a caller that writes it itself, as where flux and threshold lie in one slice and can't be lent apart.
+pub fn threshold_slot(flux: &[f64], t: usize, work: &mut [f64]) -> f64
     requires { ⌜ (t < length (now flux)) × (sortingRoom (now flux) ≤ length (now work)) ⌝ }
     ensures { λ r. ⌜ r ≡ thresholdAt (now (flux .entry)) t ⌝ }
-    ensures { λ _. ⌜ drop (sortingRoom (now (flux .entry))) (now (work .exit)) ≡ drop (sortingRoom (now (flux .entry))) (now (work .entry)) ⌝ }
+    ensures { λ _. ⌜ Open (sortingRoom (now (flux .entry))) (now (work .entry)) (now (work .exit)) ⌝ }
 {
     let start = numbers::less(t, REACH);
     let end = numbers::least(t + REACH + 1, flux.len());
@@ -80,7 +86,7 @@ fn threshold_slot(flux: &[f64], t: usize, work: &mut [f64]) -> f64
 fn over_window(window: &[f64], work: &mut [f64]) -> f64
     requires { ⌜ (0 < length (now window)) × (length (now window) ≤ length (now work)) ⌝ }
     ensures { λ r. ⌜ r ≡ thresholdOf (now (window .entry)) ⌝ }
-    ensures { λ _. ⌜ drop (length (now (window .entry))) (now (work .exit)) ≡ drop (length (now (window .entry))) (now (work .entry)) ⌝ }
+    ensures { λ _. ⌜ Open (length (now (window .entry))) (now (work .entry)) (now (work .exit)) ⌝ }
 {
     let med = median::median_in(window, work);
     let mad = median::mad_in(window, med, work);

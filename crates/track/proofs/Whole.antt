@@ -7,7 +7,7 @@ use lib.ListN.{length, drop, getD}
 use lib.Ieee.{Float}
 use Rattle.numbers.specs.Limits.{mostPeriod}
 use Rattle.numbers.proofs.Tests.{refused-keeps, passed-does}
-use Rattle.numbers.proofs.Outcomes.{drop-later}
+use Rattle.numbers.proofs.Outcomes.{drop-later, open-same}
 use Rattle.threshold.specs.Threshold.{sortingRoom}
 use Rattle.options.specs.declared.TempoOpts.{TempoOpts}
 use Rattle.lags.specs.Lags.{minLag, maxLag}
@@ -17,14 +17,16 @@ use Rattle.tempo.specs.Answers.{unused, searchRefusal, tempoOf, unwritten, esti
 use Rattle.tempo.proofs.Promises.{winner-most}
 use Rattle.stability.specs.declared.Stability.{Stability}
 use Rattle.numbers.specs.Outcomes.{Open}
+use Rattle.onsets.specs.Steps.{OnsetsListed}
+use Rattle.onsets.specs.Onsets.{onsetsIn}
 use Rattle.stability.specs.Answers.{shareOf, leftOpen}
 use Rattle.beats.specs.Grids.{gridOf}
 use Rattle.bars.specs.Downbeats.{commonMeter, downbeatsOf}
 use Rattle.rooms.specs.Rooms.{Results, Spare, results, spare}
 use Rattle.rooms.specs.Inner.{Ready}
 use Rattle.track_parts.specs.declared.Following.{Following}
-use Rattle.track_parts.specs.Parts.{onsetsIn, OnsetsListed, Followed}
-use Rattle.track_parts.proofs.Follows.{search-passed, open-same}
+use Rattle.track_parts.specs.Inner.{Followed}
+use Rattle.track_parts.proofs.Follows.{search-passed}
 use Rattle.track.specs.declared.Analysis.{Analysis}
 use Rattle.track.specs.Analyses.{estimateIn, winnersLag, periodIn, beatsIn, downbeatsIn, analysisOf, withoutAnalysis, writtenIn, openLags, openWork, Analysed}
 

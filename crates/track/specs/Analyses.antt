@@ -1,5 +1,9 @@
 -- Document 01, Onsets, Tempo and candidates, Beats and bars: one whole analysis, as its parts called in turn. What the calls answer,
 -- and what they leave in the slices that they are lent.
+--
+-- To read in this order: `estimateIn`, `periodIn`, `beatsIn`, `downbeatsIn`, each part from those before it (the first, `onsetsIn`, stands in
+-- crate onsets); `analysisOf`, the answer they make; `writtenIn`, the results in the lent slices; `openLags` and `openWork`, what is left open;
+-- and `Analysed`, the promise, which is all of these for a number that refuses or does not.
 use Prim.Native.Nat.{ℕ, max}
 use mathlib.Core.List.{List}
 use mathlib.Core.Path.{_≡_}
@@ -18,7 +22,7 @@ use Rattle.stability.specs.Answers.{shareOf, withoutStability, leftOpen}
 use Rattle.beats.specs.Grids.{scoresOf, linksOf, gridOf}
 use Rattle.bars.specs.Downbeats.{commonMeter, downbeatsOf}
 use Rattle.rooms.specs.Rooms.{Results, Spare, lagsOf}
-use Rattle.track_parts.specs.Parts.{onsetsIn}
+use Rattle.onsets.specs.Onsets.{onsetsIn}
 use Rattle.track.specs.declared.Analysis.{Analysis}
 
 -- ---- the parts in turn

@@ -1,6 +1,7 @@
 // One whole track where nothing is refused: onsets, tempo, stability, beats and downbeats, each part called in turn.
 //
 // Document 01, Onsets, Tempo and candidates, Beats and bars. Inner: the calls of crate analysis have looked at what is lent.
+use onsets::list_onsets;
 use options::TempoOpts;
 use stability::Stability;
 use tempo::Candidate;
@@ -8,7 +9,6 @@ use tempo::Tempo;
 use tempo::TempoEstimate;
 use tempo::estimate;
 use track_parts::follow;
-use track_parts::list_onsets;
 ghost use mathlib.Core.Path.{_≡_};
 ghost use Rattle.rooms.specs.Rooms.{results, spare};
 ghost use Rattle.rooms.specs.Inner.{Ready};
@@ -73,8 +73,23 @@ pub fn analyse(
     downbeats: &mut [u32],
     work: &mut [f64],
 ) -> Analysis
-    requires { ⌜ Ready (now envelope) rate opts (results (now threshold) (now onsets) (now clarity) (now weight) (now score) (now back) (now beats) (now downbeats)) (spare (now «window_clarity») (now «window_weight») (now work)) ⌝ }
-    ensures { λ r. ⌜ Analysed 0 (now (envelope .entry)) rate opts (results (now (threshold .entry)) (now (onsets .entry)) (now (clarity .entry)) (now (weight .entry)) (now (score .entry)) (now (back .entry)) (now (beats .entry)) (now (downbeats .entry))) (spare (now («window_clarity» .entry)) (now («window_weight» .entry)) (now (work .entry))) r (results (now (threshold .exit)) (now (onsets .exit)) (now (clarity .exit)) (now (weight .exit)) (now (score .exit)) (now (back .exit)) (now (beats .exit)) (now (downbeats .exit))) (spare (now («window_clarity» .exit)) (now («window_weight» .exit)) (now (work .exit))) ⌝ }
+    requires { ⌜
+        Ready (now envelope) rate opts
+        (results (now threshold) (now onsets) (now clarity) (now weight) (now score) (now back) (now beats) (now downbeats))
+        (spare (now «window_clarity») (now «window_weight») (now work))
+        ⌝ }
+    ensures { λ r. ⌜
+        Analysed 0 (now (envelope .entry)) rate opts
+        (results
+        (now (threshold .entry)) (now (onsets .entry)) (now (clarity .entry)) (now (weight .entry))
+        (now (score .entry)) (now (back .entry)) (now (beats .entry)) (now (downbeats .entry)))
+        (spare (now («window_clarity» .entry)) (now («window_weight» .entry)) (now (work .entry)))
+        r
+        (results
+        (now (threshold .exit)) (now (onsets .exit)) (now (clarity .exit)) (now (weight .exit))
+        (now (score .exit)) (now (back .exit)) (now (beats .exit)) (now (downbeats .exit)))
+        (spare (now («window_clarity» .exit)) (now («window_weight» .exit)) (now (work .exit)))
+        ⌝ }
 {
     let heard = list_onsets(envelope, rate, threshold, onsets, work);
     let found = estimate(envelope, heard, rate, opts, clarity, weight, work);

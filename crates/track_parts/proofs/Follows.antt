@@ -11,6 +11,7 @@ use Rattle.numbers.specs.Limits.{mostRows, mostPeriod, valueFine}
 use Rattle.numbers.specs.Lists.{every, listed}
 use Rattle.numbers.proofs.Tests.{and-both, lowest-0, passed-does, pick-true}
 use Rattle.numbers.proofs.Tabs.{listed-none}
+use Rattle.numbers.proofs.Outcomes.{open-same}
 use Rattle.numbers.specs.Rounded.{epsilon}
 use Rattle.options.specs.declared.TempoOpts.{TempoOpts}
 use Rattle.lags.specs.Lags.{minLag, maxLag, boundsFine}
@@ -24,7 +25,7 @@ use Rattle.beats.specs.Grids.{scoresOf, linksOf, gridOf}
 use Rattle.bars.specs.Downbeats.{commonMeter, inPhase, downbeatsOf}
 use Rattle.track_parts.specs.declared.Laid.{Laid}
 use Rattle.rooms.specs.Rooms.{lagsOf}
-use Rattle.track_parts.specs.Parts.{Grid, Followed}
+use Rattle.track_parts.specs.Inner.{Grid, Followed}
 
 -- ---- the parts are not refused
 
@@ -95,9 +96,6 @@ module _ (env : List Float) where
   share-none : (rate least most : ℕ) → None ≡ shareOf env rate least most 0
   unfolding shareOf
   share-none rate least most = refl
-
-pub open-same : (room : ℕ) (xs : List Float) → Open room xs xs
-open-same room xs = record { same-length = refl; kept = refl }
 
 module _
     (env : List Float) (rate : ℕ) (o : TempoOpts) (lag : ℕ)

@@ -9,36 +9,15 @@ use lib.Dec.{leb}
 use lib.ListN.{length, take, drop}
 use lib.Ieee.{Float}
 use Rattle.numbers.specs.Refusals.{unlessRefused}
-use Rattle.numbers.specs.Limits.{mostRows, mostPeriod, between, valueFine}
-use Rattle.numbers.specs.Lists.{every, filled, listed}
+use Rattle.numbers.specs.Limits.{mostRows, mostPeriod, between, valueFine, frameFine}
+use Rattle.numbers.specs.Lists.{every, listed}
 use Rattle.numbers.proofs.Tests.{and-both, lowest-0, passed-does}
-use Rattle.threshold.specs.Threshold.{thresholdAt, sortingRoom}
-use Rattle.onsets.specs.Peaks.{at, peaksOf, suppressed}
-use Rattle.onsets.specs.Onsets.{gapOf, onsetsOf}
-use Rattle.onsets.specs.Steps.{Picked}
 use Rattle.beats.specs.Grids.{gridNumbersFine, gridRoomFine, gridRefusal, gridOf, GridPromise}
 use Rattle.beats.proofs.Steps.{beats-fit}
 use Rattle.bars.specs.Downbeats.{commonMeter, downbeatRefusal, DownbeatsPromise}
 use Rattle.bars.specs.Downbeats as bars
-use Rattle.track_parts.specs.Parts.{onsetsIn}
-use Rattle.track_parts.specs.Parts.{OnsetsListed, Grid}
-use Rattle.track_parts.proofs.Lists.{written-part, listed-part, beats-listable}
-
--- ---- onsets
-
-pub listed-by : (env : List Float) (rate gap count : ℕ) (threshold threshold′ : List Float) (onsets onsets′ : List ℕ) (work work′ : List Float)
-    → threshold′ ≡ filled (thresholdAt env) threshold 0 (length env)
-    → length work′ ≡ length work → drop (sortingRoom env) work′ ≡ drop (sortingRoom env) work
-    → gap ≡ gapOf rate
-    → Picked (suppressed env gap (peaksOf env (at (take (length env - 0) (drop 0 threshold′))))) onsets count onsets′
-    → OnsetsListed env rate threshold onsets work count threshold′ onsets′ work′
-unfolding onsetsIn onsetsOf
-listed-by env rate gap count threshold threshold′ onsets onsets′ work work′ t l k g p =
-    let c = written-part (thresholdAt env) threshold threshold′ (length env) t in
-    let p′ = rw (c, g) at p in
-    record { count-is = p′ .count-is; threshold-is = t; onsets-are = p′ .frames-are; works = record { same-length = l; kept = k } }
-
--- ---- beats and downbeats
+use Rattle.track_parts.specs.Inner.{Grid}
+use Rattle.track_parts.proofs.Lists.{listed-part, beats-listable}
 
 module _
     (env : List Float) (period : ℕ) (few : length env ≤ mostRows) (fine : every valueFine env ≡ true) (short : period ≤ mostPeriod) where
@@ -53,9 +32,9 @@ module _
   pub downbeats-passed : (room : ℕ) → length env ≤ room → downbeatRefusal env (gridOf env period) commonMeter room ≡ 0
   unfolding downbeatRefusal bars.downbeatNumbersFine bars.downbeatRoomFine
   downbeats-passed room h =
-      lowest-0 (leb (length env) mostRows && (every bars.frameFine (gridOf env period) && between 1 bars.mostMeter commonMeter)) true (leb (length (gridOf env period)) room)
+      lowest-0 (leb (length env) mostRows && (every frameFine (gridOf env period) && between 1 bars.mostMeter commonMeter)) true (leb (length (gridOf env period)) room)
       (every valueFine env)
-      (and-both (leb (length env) mostRows) _ (le-leb _ _ few) (and-both (every bars.frameFine (gridOf env period)) (between 1 bars.mostMeter commonMeter) (beats-listable env period few) refl)) refl
+      (and-both (leb (length env) mostRows) _ (le-leb _ _ few) (and-both (every frameFine (gridOf env period)) (between 1 bars.mostMeter commonMeter) (beats-listable env period few) refl)) refl
       (le-leb (length (gridOf env period)) room (omega (arith, beats-fit env period)))
       fine
 

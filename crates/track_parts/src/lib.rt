@@ -1,23 +1,19 @@
-// The parts of one whole analysis: onsets by their threshold, and what follows from the lag of a tempo.
+// The parts of one whole analysis that follow from the lag of a tempo: how steady it is, its beats and its downbeats.
 //
-// Document 01, Onsets and Beats and bars. Inner: the calls of crate analysis have looked at what is lent.
+// Document 01, Tempo and candidates, Beats and bars. Inner: the calls of crate analysis have looked at what is lent.
 use beats::beat_grid;
 use options::TempoOpts;
-use onsets::gap_of;
-use onsets::peaks::pick_peaks;
 use stability::Stability;
 use stability::stability_of;
-use threshold::fill_threshold;
 ghost use mathlib.Core.Path.{_≡_};
 ghost use mathlib.Core.Bool.{true};
 ghost use Prim.Native.Nat.{_≤_};
 ghost use lib.ListN.{length};
 ghost use Rattle.numbers.specs.Limits.{mostRows, mostPeriod, valueFine};
 ghost use Rattle.numbers.specs.Lists.{every};
-ghost use Rattle.threshold.specs.Threshold.{sortingRoom};
 ghost use Rattle.lags.specs.Lags.{boundsFine};
 ghost use Rattle.rooms.specs.Rooms.{lagsOf};
-ghost use Rattle.track_parts.specs.Parts.{OnsetsListed, Grid, Followed};
+ghost use Rattle.track_parts.specs.Inner.{Grid, Followed};
 
 // How many beats and downbeats are listed.
 pub struct Laid {
@@ -32,22 +28,6 @@ pub struct Following {
     pub downbeats: usize,
 }
 
-// Inner: writes the threshold of an envelope, lists its onsets and says how many they are.
-pub fn list_onsets(
-    envelope: &[f64],
-    rate: u32,
-    threshold: &mut [f64],
-    frames: &mut [u32],
-    work: &mut [f64],
-) -> usize
-    requires { ⌜ (length (now envelope) ≤ mostRows) × (length (now envelope) ≤ length (now threshold)) × (length (now envelope) ≤ length (now frames)) × (sortingRoom (now envelope) ≤ length (now work)) ⌝ }
-    ensures { λ r. ⌜ OnsetsListed (now (envelope .entry)) rate (now (threshold .entry)) (now (frames .entry)) (now (work .entry)) r (now (threshold .exit)) (now (frames .exit)) (now (work .exit)) ⌝ }
-{
-    let n = envelope.len();
-    fill_threshold(envelope, threshold, 0, n, work);
-    pick_peaks(envelope, &threshold[0..n], gap_of(rate), frames)
-}
-
 // Inner: lays the beats of an envelope at a period, lists the downbeats among them and says how many there are of both.
 pub fn lay_beats(
     envelope: &[f64],
@@ -58,8 +38,17 @@ pub fn lay_beats(
     downbeats: &mut [u32],
 ) -> Laid
     requires { ⌜ (length (now envelope) ≤ mostRows) × (every valueFine (now envelope) ≡ true) × (period ≤ mostPeriod) ⌝ }
-    requires { ⌜ (length (now envelope) ≤ length (now score)) × (length (now envelope) ≤ length (now back)) × (length (now envelope) ≤ length (now frames)) × (length (now envelope) ≤ length (now downbeats)) ⌝ }
-    ensures { λ r. ⌜ Grid (now (envelope .entry)) period (now (score .entry)) (now (back .entry)) (now (frames .entry)) (now (downbeats .entry)) r (now (score .exit)) (now (back .exit)) (now (frames .exit)) (now (downbeats .exit)) ⌝ }
+    requires { ⌜
+        (length (now envelope) ≤ length (now score))
+        × (length (now envelope) ≤ length (now back))
+        × (length (now envelope) ≤ length (now frames))
+        × (length (now envelope) ≤ length (now downbeats))
+        ⌝ }
+    ensures { λ r. ⌜
+        Grid (now (envelope .entry)) period
+        (now (score .entry)) (now (back .entry)) (now (frames .entry)) (now (downbeats .entry))
+        r (now (score .exit)) (now (back .exit)) (now (frames .exit)) (now (downbeats .exit))
+        ⌝ }
 {
     let grid = beat_grid(envelope, period, score, back, frames);
     let count = grid.count;
@@ -84,10 +73,26 @@ pub fn follow(
     downbeats: &mut [u32],
     work: &mut [f64],
 ) -> Following
-    requires { ⌜ (length (now envelope) ≤ mostRows) × (every valueFine (now envelope) ≡ true) × (lag ≤ mostPeriod) × (boundsFine rate opts ≡ true) ⌝ }
-    requires { ⌜ (length (now envelope) ≤ length (now score)) × (length (now envelope) ≤ length (now back)) × (length (now envelope) ≤ length (now frames)) × (length (now envelope) ≤ length (now downbeats)) ⌝ }
+    requires { ⌜
+        (length (now envelope) ≤ mostRows)
+        × (every valueFine (now envelope) ≡ true)
+        × (lag ≤ mostPeriod)
+        × (boundsFine rate opts ≡ true)
+        ⌝ }
+    requires { ⌜
+        (length (now envelope) ≤ length (now score))
+        × (length (now envelope) ≤ length (now back))
+        × (length (now envelope) ≤ length (now frames))
+        × (length (now envelope) ≤ length (now downbeats))
+        ⌝ }
     requires { ⌜ (lagsOf rate opts ≤ length (now clarity)) × (lagsOf rate opts ≤ length (now weight)) × (lagsOf rate opts ≤ length (now work)) ⌝ }
-    ensures { λ r. ⌜ Followed (now (envelope .entry)) rate opts lag (now (clarity .entry)) (now (weight .entry)) (now (score .entry)) (now (back .entry)) (now (frames .entry)) (now (downbeats .entry)) (now (work .entry)) r (now (clarity .exit)) (now (weight .exit)) (now (score .exit)) (now (back .exit)) (now (frames .exit)) (now (downbeats .exit)) (now (work .exit)) ⌝ }
+    ensures { λ r. ⌜
+        Followed (now (envelope .entry)) rate opts lag
+        (now (clarity .entry)) (now (weight .entry))
+        (now (score .entry)) (now (back .entry)) (now (frames .entry)) (now (downbeats .entry)) (now (work .entry))
+        r (now (clarity .exit)) (now (weight .exit))
+        (now (score .exit)) (now (back .exit)) (now (frames .exit)) (now (downbeats .exit)) (now (work .exit))
+        ⌝ }
 {
     if lag == 0 {
         return Following {

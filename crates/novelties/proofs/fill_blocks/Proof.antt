@@ -11,8 +11,10 @@ use lib.Ieee.{Float}
 use Rattle.numbers.specs.Lists.{filled}
 use Rattle.numbers.specs.Rounded.{nought}
 use Rattle.numbers.proofs.Tabs.{filled-none, length-filled}
+use Rattle.kernels.specs.Kernel.{places, middle}
+use Rattle.row_pairs.specs.Pairs.{bandWidth}
 use Rattle.novelties.specs.Novelty.{noveltyAt}
-use Rattle.novelties.specs.Lanes.{Gathered, laneFrom}
+use Rattle.novelties.specs.Lanes.{span, Gathered, laneFrom}
 use Rattle.novelties.proofs.Lanes.{lanes-join, lane-novelty}
 use Rattle.novelties.proofs.fill_blocks.Statement.{statement}
 use Rattle.novelties.proofs.fill_blocks.Tie as tie
@@ -60,7 +62,8 @@ block c =
 sub-gather : tie.Need-sub-gather Inv-loop μ-loop
 sub-gather c = block c .low
 
-rows-in : (rows first slots : ℕ) → 8 ≤ first → first + 31 ≤ rows → slots ≡ rows * 17 → (first - 8) * 17 + 661 < slots
+rows-in : (rows first slots : ℕ) → middle ≤ first → first + 31 ≤ rows → slots ≡ rows * bandWidth
+    → (first - middle) * bandWidth + (places - 1) + bandWidth * (span - 1) < slots
 rows-in rows first slots h k e = omega arith
 
 gather-requires : tie.Need-gather-requires Inv-loop μ-loop

@@ -34,7 +34,7 @@ returns-2 c =
     let p = c .before .before in
     let n = p .before .before .before .before .before in
     let start = n .before .before .before .before .before .before in
-    picked-few _ _ _ _ _ _ _ _ (n .note-values .ensures) _ _ (p .before .before .if2 .taken) (p .pick-above .ensures)
+    picked-few _ _ _ _ _ _ _ _ (n .note-values .ensures) _ _ (start .pre .2) (p .before .before .if2 .taken) (p .pick-above .ensures)
 
 slice-relend-prefix-cut-at : tie.Need-slice-relend-prefix-cut-at
 slice-relend-prefix-cut-at c =
@@ -68,8 +68,8 @@ returns-3 c =
     let start = n .before .before .before .before .before .before in
     let a = start .args in
     picked-cut (now (a .curve)) (a .level) (a .gap) (a .most) (now (a .rows)) (now (a .work)) (n .note-values .result) (n .note-values .last .1 .1 .1 .0)
-    (n .note-values .ensures) (l .list-chosen .result) (l .list-chosen .last .1 .1 .1 .1 .0) (k .cut-at .result) (k .cut-at .last .0) (omega arith)
-    (k .cut-at .ensures) (omega arith) (l .list-chosen .ensures)
+    (n .note-values .ensures) (l .list-chosen .result) (l .list-chosen .last .1 .1 .1 .1 .0) (k .cut-at .result) (k .cut-at .last .0)
+    (start .pre .2) (omega arith) (k .cut-at .ensures) (omega arith) (l .list-chosen .ensures)
 
 pub pick-boundaries-spec : {M : Type 1} → statement M
 pick-boundaries-spec =

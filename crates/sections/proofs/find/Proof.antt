@@ -5,6 +5,7 @@ use Prim.Native.Nat.{_-_, _≤_}
 use native.Mathlib.Omega.{arith}
 use denote.Ref.{now}
 use lib.ListN.{length}
+use Rattle.numbers.proofs.Outcomes.{open-then}
 use Rattle.section_peaks.specs.Greatest.{keptGreatest}
 use Rattle.sections.specs.Boundaries.{sectionPeaks}
 use Rattle.sections.specs.Confidence.{confidenceOf}
@@ -74,7 +75,7 @@ returns c =
     let med = mad .before .before .before .before in
     let start = p .before .before .before .before .before .before .before .before .before .before .before .before .before .before in
     found-picked _ _ _ _ _ _ _ _ (start .pre .0) refl refl (c .confidence-of .ensures ∙ ap (confidenceOf (now (start .args .novelty))) (picked-part _ _ _ _ (picked p .picked)))
-    (omega arith) (mad .mad-in .ensures .rest ∙ med .median-in .ensures .rest) (picked p)
+    (open-then _ _ _ _ (med .median-in .ensures .works) (mad .mad-in .ensures .works)) (picked p)
 
 pub find-spec : {M : Type 1} → statement M
 find-spec =

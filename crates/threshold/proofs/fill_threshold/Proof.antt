@@ -49,7 +49,7 @@ loop-again c =
       simp length-set (v .2),
       omega arith,
       rw (v .4, s .threshold-slot .ensures .0) (filled-more _ _ _ _ (omega arith) nan (omega arith)),
-      s .threshold-slot .ensures .1 ∙ v .5,
+      s .threshold-slot .ensures .1 .kept ∙ v .5,
     )
 
 same-length : tie.Need-same-length Inv-loop μ-loop

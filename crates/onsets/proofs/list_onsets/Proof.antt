@@ -1,8 +1,8 @@
--- `track_parts::list_onsets` meets its contract: the part of the threshold's slice that is read is the curve that was written. Assumes nothing.
-use Rattle.track_parts.proofs.Together.{listed-by}
+-- `onsets::list_onsets` meets its contract: the part of the threshold's slice that is read is the curve that was written. Assumes nothing.
+use Rattle.onsets.proofs.Outcomes.{listed-by}
 use borrow.Author.Needs.{needs}
-use Rattle.track_parts.proofs.list_onsets.Statement.{statement}
-use Rattle.track_parts.proofs.list_onsets.Tie as tie
+use Rattle.onsets.proofs.list_onsets.Statement.{statement}
+use Rattle.onsets.proofs.list_onsets.Tie as tie
 
 fill-threshold-requires : tie.Need-fill-threshold-requires
 fill-threshold-requires c κs = search needs
