@@ -9,7 +9,7 @@ use Rattle.numbers.specs.Limits.{featureWidth}
 use Rattle.numbers.specs.Lists.{filled}
 use Rattle.patches.proofs.Wholes.{empty-keeps, full-does}
 use Rattle.patches.proofs.Answers.{same-number, same-slots, some-slots, refused-returns}
-use Rattle.patches.specs.PatchFeaturesPromise.{Patch, pastRow, edited, unlessEmpty, ranges, rangesNamed, returned}
+use Rattle.patches.specs.Patches.{Patch, pastRow, edited, unlessEmpty, ranges, rangesNamed, returned}
 use Rattle.novelties.specs.Novelty.{noveltyAt}
 use Rattle.patch_features.specs.declared.PatchedFeatures.{PatchedFeatures}
 use Rattle.patch_features.specs.declared.PatchedFeatures.the-variants.{Refused, Wrote}

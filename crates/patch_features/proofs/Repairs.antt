@@ -18,7 +18,7 @@ use Rattle.numbers.specs.Lists.{curve, every, filled, row}
 use Rattle.numbers.specs.Refusals.{unlessRefused}
 use Rattle.patches.proofs.Parts.{filled-first, filled-rest, filled-by}
 use Rattle.patches.proofs.Wholes.{whole-asked}
-use Rattle.patches.specs.PatchFeaturesPromise.{Patch, patchOf, pastRow, wholeRows, edited, unlessEmpty}
+use Rattle.patches.specs.Patches.{Patch, patchOf, pastRow, wholeRows, edited, unlessEmpty}
 use Rattle.novelties.proofs.Calls.{genuine-passes}
 use Rattle.novelties.specs.Novelty.{noveltyAt, noveltyNumber, NoveltyPromise}
 use Rattle.row_pairs.specs.Pairs.{similarityAt}

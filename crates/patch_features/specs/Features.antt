@@ -12,7 +12,7 @@ use Rattle.numbers.specs.Limits.{mostFeatures, featureWidth, valueFine, similar
 use Rattle.numbers.specs.Lists.{filled, every}
 use Rattle.numbers.specs.Refusals.{lowest, unlessRefused}
 use Rattle.numbers.specs.Rounded.{pick}
-use Rattle.patches.specs.PatchFeaturesPromise.{Patch, pastRow, wholeRows, edited, unlessEmpty, ranges, rangesNamed, returned}
+use Rattle.patches.specs.Patches.{Patch, pastRow, wholeRows, edited, unlessEmpty, ranges, rangesNamed, returned}
 use Rattle.row_pairs.specs.Pairs.{bandWidth, similarityAt}
 use Rattle.novelties.specs.Novelty.{noveltyAt}
 use Rattle.patch_features.specs.declared.PatchedFeatures.{PatchedFeatures}

@@ -11,7 +11,7 @@ use Rattle.numbers.specs.Limits.{mostFeatures, featureWidth, valueFine}
 use Rattle.numbers.specs.Lists.{curve, filled, row, every}
 use Rattle.row_pairs.specs.Pairs.{similarityAt}
 use Rattle.novelties.specs.Novelty.{noveltyAt}
-use Rattle.patches.specs.PatchFeaturesPromise.{Patch, patchOf, pastRow}
+use Rattle.patches.specs.Patches.{Patch, patchOf, pastRow}
 use Rattle.patch_features.specs.declared.PatchedFeatures.{PatchedFeatures}
 use Rattle.patch_features.specs.declared.PatchedFeatures.the-variants.{Refused}
 use Rattle.patch_features.specs.Features.{FeatureTrack, featureTrack, pairs, touched, PatchFeaturesPromise}

@@ -9,7 +9,7 @@ ghost use lib.ListN.{length};
 ghost use Rattle.numbers.specs.Limits.{mostFeatures};
 ghost use Rattle.numbers.specs.Lists.{filled};
 ghost use Rattle.numbers.specs.Rounded.{pick};
-ghost use Rattle.patches.specs.PatchFeaturesPromise.{patchOf};
+ghost use Rattle.patches.specs.Patches.{patchOf};
 ghost use Rattle.row_pairs.specs.Pairs.{similarityAt};
 ghost use Rattle.patch_features.specs.Features.{featureTrack, firstPair, replaced, touched, mendedAt, featurePatchBounds, featurePatchRoom, featurePatchValues, featurePatchNumber, PatchFeaturesPromise};
 

@@ -10,7 +10,7 @@ use Rattle.flux.specs.Flux.{fluxAt}
 use Rattle.threshold.specs.Threshold.{thresholdAt, windowRoom}
 use Rattle.patches.proofs.Wholes.{empty-keeps, full-does}
 use Rattle.patches.proofs.Answers.{same-number, same-slots, some-slots, refused-returns}
-use Rattle.patches.specs.PatchMagnitudesPromise.{Patch, edited, unlessEmpty, ranges, rangesNamed, returned}
+use Rattle.patches.specs.Patches.{Patch, edited, unlessEmpty, ranges, rangesNamed, returned}
 use Rattle.patch_magnitudes.specs.declared.Patched.{Patched}
 use Rattle.patch_magnitudes.specs.declared.Patched.the-variants.{Refused, Wrote}
 use Rattle.patch_refusal.specs.Tracks.{MagnitudeTrack, magnitudeTrack, patchNumber}

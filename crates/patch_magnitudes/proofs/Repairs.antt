@@ -20,7 +20,7 @@ use Rattle.flux.specs.Flux.{fluxAt, fluxRefusal}
 use Rattle.threshold.specs.Threshold.{thresholdAt, windowRoom, thresholdRefusal, ThresholdPromise}
 use Rattle.patches.proofs.Parts.{filled-first, filled-rest, filled-by}
 use Rattle.patches.proofs.Wholes.{whole-asked}
-use Rattle.patches.specs.PatchMagnitudesPromise.{Patch, patchOf, wholeRows, edited, unlessEmpty}
+use Rattle.patches.specs.Patches.{Patch, patchOf, wholeRows, edited, unlessEmpty}
 use Rattle.patch_magnitudes.specs.declared.Patched.{Patched}
 use Rattle.patch_magnitudes.specs.declared.Patched.the-variants.{Refused, Wrote}
 use Rattle.patch_refusal.specs.Tracks.{MagnitudeTrack, magnitudeTrack, patchValues, patchNumber}

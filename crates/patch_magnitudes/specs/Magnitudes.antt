@@ -10,7 +10,7 @@ use Rattle.numbers.specs.Lists.{filled}
 use Rattle.numbers.specs.Refusals.{unlessRefused}
 use Rattle.flux.specs.Flux.{fluxAt}
 use Rattle.threshold.specs.Threshold.{reach, thresholdAt, windowRoom}
-use Rattle.patches.specs.PatchMagnitudesPromise.{Patch, pastRow, edited, unlessEmpty, ranges, rangesNamed, returned}
+use Rattle.patches.specs.Patches.{Patch, pastRow, edited, unlessEmpty, ranges, rangesNamed, returned}
 use Rattle.patch_refusal.specs.Tracks.{MagnitudeTrack, magnitudeTrack, patchNumber}
 use Rattle.patch_magnitudes.specs.declared.Patched.{Patched}
 use Rattle.patch_magnitudes.specs.declared.Patched.the-variants.{Refused, Wrote}

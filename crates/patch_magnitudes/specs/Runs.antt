@@ -11,7 +11,7 @@ use Rattle.numbers.specs.Limits.{mostRows, mostBins, magnitudeFine}
 use Rattle.numbers.specs.Lists.{curve, filled, row, every}
 use Rattle.flux.specs.Flux.{fluxAt}
 use Rattle.threshold.specs.Threshold.{thresholdAt, windowRoom}
-use Rattle.patches.specs.PatchMagnitudesPromise.{Patch, patchOf, pastRow}
+use Rattle.patches.specs.Patches.{Patch, patchOf, pastRow}
 use Rattle.patch_magnitudes.specs.declared.Patched.{Patched}
 use Rattle.patch_magnitudes.specs.declared.Patched.the-variants.{Refused}
 use Rattle.patch_refusal.specs.Tracks.{MagnitudeTrack, magnitudeTrack}

@@ -1,7 +1,7 @@
 // A repair of a track: some magnitude rows are replaced, and the flux and threshold curves are mended where that can change them.
 //
 // Document 01, Patching (added). The curves are then, bit for bit, those of a full run on the edited rows: proofs/Repairs.antt.
-ghost use Rattle.patches.specs.PatchMagnitudesPromise.{patchOf};
+ghost use Rattle.patches.specs.Patches.{patchOf};
 ghost use Rattle.patch_refusal.specs.Tracks.{magnitudeTrack};
 ghost use Rattle.patch_magnitudes.specs.Magnitudes.{PatchMagnitudesPromise};
 

@@ -23,7 +23,7 @@ use Rattle.stability.specs.Answers.{StabilityPromise}
 use Rattle.stability.specs.declared.Steadiness.{Steadiness}
 use Rattle.beats.specs.Grids.{GridPromise}
 use Rattle.bars.specs.Downbeats.{DownbeatsPromise}
-use Rattle.patches.specs.PatchMagnitudesPromise.{Patch, patchOf, pastRow, edited}
+use Rattle.patches.specs.Patches.{Patch, patchOf, pastRow, edited}
 use Rattle.patch_magnitudes.specs.declared.Patched.{Patched}
 use Rattle.patch_magnitudes.specs.declared.Patched.the-variants.{Refused, Wrote}
 use Rattle.patch_refusal.specs.Tracks.{MagnitudeTrack, magnitudeTrack, patchNumber}

@@ -15,7 +15,7 @@ use Rattle.novelties.specs.Novelty.{NoveltyPromise}
 use Rattle.sections.specs.Boundaries.{gridFine}
 use Rattle.sections.specs.Outcomes.{BoundariesPromise}
 use Rattle.sections.specs.declared.Sections.{Sections}
-use Rattle.patches.specs.PatchFeaturesPromise.{Patch, patchOf, pastRow, edited}
+use Rattle.patches.specs.Patches.{Patch, patchOf, pastRow, edited}
 use Rattle.patch_features.specs.declared.PatchedFeatures.{PatchedFeatures}
 use Rattle.patch_features.specs.declared.PatchedFeatures.the-variants.{Refused, Wrote}
 use Rattle.patch_features.specs.Features.{FeatureTrack, featureTrack, pairs, similarityFirst, similarityPast, noveltyFirst, noveltyPast, featurePatchNumber, featuresAnswered, PatchFeaturesPromise}

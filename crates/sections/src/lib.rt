@@ -64,7 +64,7 @@ pub fn boundaries(
             confidence: 0.0,
         };
     }
-    let most = numbers::keptGreatest(1, max_sections) - 1;
+    let most = numbers::greatest(1, max_sections) - 1;
     find(novelty, section_gap(length, rate), most, rows, work)
 }
 
@@ -140,7 +140,7 @@ pub fn section_gap(length: u64, rate: u32) -> usize
     ensures { λ r. ⌜ r ≡ sectionGap length rate ⌝ }
 {
     let rows = floats::wholes::ceil_of(4000.0 / frame_ms(length, rate)) as usize;
-    numbers::keptGreatest(1, rows)
+    numbers::greatest(1, rows)
 }
 
 // Writes the time in milliseconds at which each row begins, in the rows' order. Room: one slot for each row.
