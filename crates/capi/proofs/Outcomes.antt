@@ -14,7 +14,7 @@ use Rattle.stability.specs.Answers.{stabilityRefusal, leftOpen}
 use Rattle.stability.proofs.Promises as stability
 use Rattle.sections.specs.Outcomes.{workedIn}
 use Rattle.patches.specs.Patches.{Patch}
-use Rattle.patch_refusal.specs.Tracks as tracks
+use Rattle.patch_magnitudes.specs.Tracks as tracks
 use Rattle.patch_magnitudes.specs.Magnitudes as magnitudes
 use Rattle.patch_features.specs.Features as features
 use Rattle.capi_answers.specs.Handed.{Handed}

@@ -24,7 +24,7 @@ use Rattle.sections.specs.Outcomes.{Found}
 use Rattle.sections.specs.declared.Sections.{Sections}
 use Rattle.patches.specs.Patches.{Patch, ranges}
 use Rattle.patch_magnitudes.specs.declared.Patched as rows-done
-use Rattle.patch_refusal.specs.Tracks as tracks
+use Rattle.patch_magnitudes.specs.Tracks as tracks
 use Rattle.patch_magnitudes.specs.Magnitudes as magnitudes
 use Rattle.patch_magnitudes.proofs.Outcomes as rows-outcomes
 use Rattle.patch_features.specs.declared.PatchedFeatures as features-done

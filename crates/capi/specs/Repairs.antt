@@ -4,7 +4,7 @@ use mathlib.Core.List.{List}
 use lib.ListN.{length}
 use lib.Ieee.{Float}
 use Rattle.patches.specs.Patches.{Patch}
-use Rattle.patch_refusal.specs.Tracks as tracks
+use Rattle.patch_magnitudes.specs.Tracks as tracks
 use Rattle.patch_magnitudes.specs.Magnitudes as magnitudes
 use Rattle.patch_features.specs.Features as features
 use Rattle.capi_answers.specs.Handed.{Handed}

@@ -43,7 +43,7 @@ use Rattle.sections.specs.Outcomes.{workedIn, Found}
 use Rattle.sections.specs.declared.Sections.{Sections}
 use Rattle.sections.proofs.Outcomes.{found-unique}
 use Rattle.patches.specs.Patches.{Patch}
-use Rattle.patch_refusal.specs.Tracks as tracks
+use Rattle.patch_magnitudes.specs.Tracks as tracks
 use Rattle.patch_magnitudes.specs.Magnitudes as magnitudes
 use Rattle.patch_magnitudes.specs.declared.Patched.{Patched}
 use Rattle.patch_magnitudes.proofs.Outcomes as magnitude-outcomes

@@ -40,7 +40,7 @@ use Rattle.track.specs.Analyses.{periodIn, beatsIn, downbeatsIn, analysisOf, wi
 use Rattle.analysis.specs.Analyses.{EnvelopePromise, MagnitudesPromise}
 use Rattle.analysis.proofs.Promises.{coincide, flux-is-the-envelope}
 use Rattle.patches.proofs.Parts.{filled-first}
-use Rattle.patch_refusal.specs.Tracks.{MagnitudeTrack, magnitudeTrack}
+use Rattle.patch_magnitudes.specs.Tracks.{MagnitudeTrack, magnitudeTrack}
 use Rattle.patch_magnitudes.specs.Runs.{fluxCurve, thresholdCurve, Fresh, Sound, analysed, Ran, stays}
 use Rattle.patch_magnitudes.proofs.Repairs.{analysed-is-fresh, analysed-is-sound, calls-end-fresh, calls-keep-sound}
 use Rattle.promises.specs.Repaired.{

@@ -26,7 +26,7 @@ use Rattle.bars.specs.Downbeats.{DownbeatsPromise}
 use Rattle.patches.specs.Patches.{Patch, patchOf, pastRow, edited}
 use Rattle.patch_magnitudes.specs.declared.Patched.{Patched}
 use Rattle.patch_magnitudes.specs.declared.Patched.the-variants.{Refused, Wrote}
-use Rattle.patch_refusal.specs.Tracks.{MagnitudeTrack, magnitudeTrack, patchNumber}
+use Rattle.patch_magnitudes.specs.Tracks.{MagnitudeTrack, magnitudeTrack, patchNumber}
 use Rattle.patch_magnitudes.specs.Magnitudes.{fluxFirst, fluxPast, thresholdFirst, thresholdPast, patchAnswered, PatchMagnitudesPromise}
 use Rattle.patch_magnitudes.specs.Runs.{fluxCurve, thresholdCurve, Fresh, Kept, Sound, Good, analysed, Ran, stays}
 use Rattle.patch_magnitudes.proofs.Outcomes.{is-answered}

@@ -16,7 +16,7 @@ use Rattle.tempo.specs.Answers.{unwritten}
 use Rattle.rooms.specs.Rooms.{Results, Spare, lagsOf}
 use Rattle.track.specs.declared.Analysis.{Analysis}
 use Rattle.analysis.specs.Analyses.{EnvelopePromise, MagnitudesPromise}
-use Rattle.patch_refusal.specs.Tracks.{MagnitudeTrack, magnitudeTrack}
+use Rattle.patch_magnitudes.specs.Tracks.{MagnitudeTrack, magnitudeTrack}
 use Rattle.patch_magnitudes.specs.Runs.{Ran}
 
 -- ---- how it begins

@@ -5,8 +5,8 @@ use borrow.Author.Needs.{needs}
 use denote.Ref.{now}
 use lib.ListN.{length}
 use Rattle.patches.specs.Patches.{patchOf}
-use Rattle.patch_refusal.specs.Tracks.{magnitudeTrack, patchNumber}
-use Rattle.patch_refusal.proofs.Asked.{Asked, asked}
+use Rattle.patch_magnitudes.specs.Tracks.{magnitudeTrack, patchNumber}
+use Rattle.patch_magnitudes.proofs.Asked.{Asked, asked}
 use Rattle.patch_magnitudes.proofs.Outcomes.{refused, empty, wrote}
 use Rattle.patch_magnitudes.proofs.patch_magnitudes.Statement.{statement}
 use Rattle.patch_magnitudes.proofs.patch_magnitudes.Tie as tie

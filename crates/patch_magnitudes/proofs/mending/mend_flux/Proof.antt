@@ -1,4 +1,4 @@
--- `mending::mend_flux` meets its contract: the new rows fit (`fits`), and the flux is written from the rows with them copied in. Assumes nothing.
+-- `patch_magnitudes::mending::mend_flux` meets its contract: the new rows fit (`fits`), and the flux is written from the rows with them copied in. Assumes nothing.
 use mathlib.Core.Path.{_∙_}
 use Prim.Native.Nat.{_+_, _*_, _≤_}
 use native.Mathlib.Omega.{arith}
@@ -8,8 +8,8 @@ use lib.Ieee.{nan}
 use lib.ListN.{length}
 use Rattle.numbers.proofs.Overs.{length-over, every-over, patch-fits}
 use Rattle.patches.specs.Patches.{edited}
-use Rattle.mending.proofs.mend_flux.Statement.{statement}
-use Rattle.mending.proofs.mend_flux.Tie as tie
+use Rattle.patch_magnitudes.proofs.mending.mend_flux.Statement.{statement}
+use Rattle.patch_magnitudes.proofs.mending.mend_flux.Tie as tie
 
 fits : (c : tie.Start) → c .args .start * c .args .bins + length (now (c .args .new)) ≤ length (now (c .args .magnitudes))
 fits c =
