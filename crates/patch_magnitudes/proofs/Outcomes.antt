@@ -71,8 +71,7 @@ module _ (slab : Slab) (was : MagnitudeTrack) (patch : Patch) (work : List Float
         record {
           answer-is = rw (none, empty-keeps _ (ranges 0 0 0 0) (patch .new) e);
           track-is = rw none (sym (empty-keeps _ was (patch .new) e));
-          work-length = refl;
-          work-keeps = refl;
+          works = record { same-length = refl; kept = refl };
         }
 
     -- the slots and curves are given as the code finds them

@@ -209,8 +209,8 @@ calls-keep : (P : MagnitudeTrack → Type 0) (slab : Slab)
 calls-keep P slab keeps h stays = h
 calls-keep P slab keeps h (patches p ran) =
     calls-keep P slab keeps (rw (p .track-is) (by-outcome P slab _ _ _ h (keeps _ _ _ h))) ran
-calls-keep P slab keeps h (refuses p ran) = calls-keep P slab keeps (rw (refused-changes-nothing _ _ _ _ _ _ _ _ p .0) h) ran
-calls-keep P slab keeps h (empties p ran) = calls-keep P slab keeps (rw (empty-changes-nothing _ _ _ _ _ _ _ _ p .0) h) ran
+calls-keep P slab keeps h (refuses p ran) = calls-keep P slab keeps (rw (refused-changes-nothing _ _ _ _ _ _ _ p .0) h) ran
+calls-keep P slab keeps h (empties p ran) = calls-keep P slab keeps (rw (empty-changes-nothing _ _ _ _ _ _ _ p .0) h) ran
 
 module _ (slab : Slab) (lent : MagnitudeTrack) where
   pub analysed-is-fresh : Fresh slab (analysed slab lent)

@@ -11,11 +11,11 @@ slab-fine-requires c κs = search needs
 
 returns : tie.Need-returns
 unfolding patchBounds
-returns c = and-held _ _ (sym (c .before .slab-fine .ensures) ∙ c .if1 .taken)
+returns c = and-held _ _ (sym (c .before .before .slab-fine .ensures) ∙ c .before .if1 .taken)
 
 returns-2 : tie.Need-returns-2
 unfolding patchBounds
-returns-2 c = rw (sym (c .before .slab-fine .ensures) ∙ c .if1 .left)
+returns-2 c = c .before .slab-fine .ensures ∙ and-failed _ _ (sym (c .before .slab-fine .ensures) ∙ c .if1 .left)
 
 pub bounds-fine-spec : {M : Type 1} → statement M
 bounds-fine-spec = tie.close (tie.spec slab-fine-requires returns returns-2)

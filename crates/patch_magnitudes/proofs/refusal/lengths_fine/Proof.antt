@@ -2,7 +2,7 @@
 use mathlib.Core.Path.{sym, _∙_}
 use borrow.Author.Needs.{needs}
 use Rattle.numbers.proofs.Slabs.{slab-fits}
-use Rattle.numbers.proofs.Tests.{and-held}
+use Rattle.numbers.proofs.Tests.{and-held, and-failed}
 use Rattle.patch_magnitudes.specs.Tracks.{patchLengths}
 use Rattle.patch_magnitudes.proofs.Asked.{bounds-told}
 use Rattle.patch_magnitudes.proofs.refusal.lengths_fine.Statement.{statement}
@@ -18,11 +18,11 @@ new-rows-requires c κs =
 
 returns : tie.Need-returns
 unfolding patchLengths
-returns c = ?
+returns c = c .new-rows .ensures ∙ and-held _ _ (sym (c .before .before .slab-whole .ensures) ∙ c .before .if1 .taken)
 
 returns-2 : tie.Need-returns-2
 unfolding patchLengths
-returns-2 c = ?
+returns-2 c = c .before .slab-whole .ensures ∙ and-failed _ _ (sym (c .before .slab-whole .ensures) ∙ c .if1 .left)
 
 pub lengths-fine-spec : {M : Type 1} → statement M
 lengths-fine-spec = tie.close (tie.spec slab-whole-requires new-rows-requires returns returns-2)
