@@ -27,6 +27,7 @@ import ctypes
 import operator
 import os
 import pathlib
+import re
 import site
 import sys
 import threading
@@ -45,6 +46,21 @@ __all__ = [
 
 # what beat_grid writes in `back` for a frame with no beat before it
 NO_LINK = 4_294_967_295
+
+# the most that calls take, widths of rows and the threshold's window: tools/header holds them, and the one above, to the source
+_MOST_RATE = 192_000
+_MOST_ROWS = 1_048_576
+_MOST_BINS = 4_096
+_MOST_FRAME = 1_048_575
+_MOST_PERIOD = 45_000
+_MOST_FEATURE_ROWS = 50_000
+_MOST_LISTED_ROW = 49_999
+_MOST_FEATURE_LENGTH = 2_147_483_648
+_MOST_MAGNITUDE = 85070591730234615865843651857942052864.0
+_MOST_VALUE = 1427247692705959881058285969449495136382746624.0
+_FEATURE_WIDTH = 16
+_SIMILARITY_WIDTH = 17
+_MEDIAN_WINDOW = 21
 
 # anything with the buffer protocol, which has no type of its own before Python 3.12
 Lent = Any
@@ -182,6 +198,83 @@ def _load():
 
 _library = _load()
 
+# what each exported function takes, in the words of crates/capi/src
+# ---- written by tools/header --write
+_EXPORTED = {
+    "ph_version": "",
+    "ph_median_of": "values: &[f64], work: &mut [f64], median: &mut f64",
+    "ph_mad_of": "values: &[f64], median: f64, work: &mut [f64], mad: &mut f64",
+    "ph_spectral_flux": "magnitudes: &[f32], rows: usize, bins: usize, flux: &mut [f64]",
+    "ph_adaptive_threshold": "flux: &[f64], threshold: &mut [f64], work: &mut [f64]",
+    "ph_pick_onsets": "flux: &[f64], threshold: &[f64], rate: u32, frames: &mut [u32], count: &mut usize",
+    "ph_suppress_close_peaks": "peaks: &[u32], curve: &[f64], gap: usize, frames: &mut [u32], count: &mut usize",
+    "ph_frame_times": "frames: &[u32], rate: u32, ms: &mut [f64]",
+    "ph_lag_range": "rate: u32, min_bpm: f64, max_bpm: f64, min_lag: &mut usize, max_lag: &mut usize",
+    "ph_estimate": (
+        "envelope: &[f64], onsets: usize, rate: u32, min_bpm: f64, max_bpm: f64, clarity_curve: &mut [f64], weight_curve: &mut [f64], "
+        "work: &mut [f64], found: &mut u32, bpm: &mut f64, clarity: &mut f64, lags: &mut [usize; 3], saliences: &mut [f64; 3], "
+        "count: &mut usize"),
+    "ph_stability_of": (
+        "envelope: &[f64], rate: u32, min_bpm: f64, max_bpm: f64, whole_lag: usize, clarity_curve: &mut [f64], "
+        "weight_curve: &mut [f64], work: &mut [f64], found: &mut u32, fraction: &mut f64, agreeing: &mut usize, windows: &mut usize"),
+    "ph_beat_grid": "envelope: &[f64], period: usize, score: &mut [f64], back: &mut [u32], beats: &mut [u32], count: &mut usize",
+    "ph_downbeats": "envelope: &[f64], beats: &[u32], frames: &mut [u32], count: &mut usize",
+    "ph_bar_beat_at": "time: f64, downbeats: &[f64], beats: &[f64], found: &mut u32, bar: &mut usize, beat: &mut usize",
+    "ph_similarity": "features: &[f64], rows: usize, similarity: &mut [f64]",
+    "ph_novelty": "similarity: &[f64], rows: usize, novelty: &mut [f64]",
+    "ph_boundaries": (
+        "novelty: &[f64], length: u64, rate: u32, max_sections: usize, rows: &mut [u32], work: &mut [f64], sections: &mut usize, "
+        "count: &mut usize, confidence: &mut f64"),
+    "ph_boundary_times": "rows: &[u32], length: u64, rate: u32, ms: &mut [f64]",
+    "ph_patch_magnitudes": (
+        "magnitudes: &mut [f32], rows: usize, bins: usize, start: usize, new_rows: &[f32], flux: &mut [f64], threshold: &mut [f64], "
+        "work: &mut [f64], flux_first: &mut usize, flux_past: &mut usize, threshold_first: &mut usize, threshold_past: &mut usize"),
+    "ph_patch_features": (
+        "features: &mut [f64], rows: usize, start: usize, new_rows: &[f64], similarity: &mut [f64], novelty: &mut [f64], "
+        "similarity_first: &mut usize, similarity_past: &mut usize, novelty_first: &mut usize, novelty_past: &mut usize"),
+    "ph_room_of": (
+        "rows: usize, rate: u32, min_bpm: f64, max_bpm: f64, row_slots: &mut usize, lag_slots: &mut usize, work_slots: &mut usize"),
+    "ph_analyse_envelope": (
+        "envelope: &[f64], rate: u32, min_bpm: f64, max_bpm: f64, threshold: &mut [f64], onsets: &mut [u32], "
+        "clarity_curve: &mut [f64], weight_curve: &mut [f64], window_clarity: &mut [f64], window_weight: &mut [f64], "
+        "score: &mut [f64], back: &mut [u32], beats: &mut [u32], downbeats: &mut [u32], work: &mut [f64], onset_count: &mut usize, "
+        "found: &mut u32, bpm: &mut f64, clarity: &mut f64, lags: &mut [usize; 3], saliences: &mut [f64; 3], count: &mut usize, "
+        "steady: &mut u32, fraction: &mut f64, agreeing: &mut usize, windows: &mut usize, beat_count: &mut usize, "
+        "downbeat_count: &mut usize"),
+    "ph_analyse_magnitudes": (
+        "magnitudes: &[f32], rows: usize, bins: usize, rate: u32, min_bpm: f64, max_bpm: f64, flux: &mut [f64], "
+        "threshold: &mut [f64], onsets: &mut [u32], clarity_curve: &mut [f64], weight_curve: &mut [f64], window_clarity: &mut [f64], "
+        "window_weight: &mut [f64], score: &mut [f64], back: &mut [u32], beats: &mut [u32], downbeats: &mut [u32], work: &mut [f64], "
+        "onset_count: &mut usize, found: &mut u32, bpm: &mut f64, clarity: &mut f64, lags: &mut [usize; 3], saliences: &mut [f64; 3], "
+        "count: &mut usize, steady: &mut u32, fraction: &mut f64, agreeing: &mut usize, windows: &mut usize, beat_count: &mut usize, "
+        "downbeat_count: &mut usize"),
+}
+# ---- up to here
+
+_TYPES = {"f32": ctypes.c_float, "f64": ctypes.c_double, "u32": ctypes.c_uint32, "u64": ctypes.c_uint64, "usize": ctypes.c_size_t}
+
+
+def _argument(kind):
+    """The C types of one parameter: a slice is a pointer and a length, a lent number a pointer, and so many of them are an array."""
+    lent, slice_, slot, many = re.fullmatch(r"(&(?:mut )?)?(\[)?(\w+)(?:; (\d+))?\]?", kind).groups()
+    if many:
+        return [_TYPES[slot] * int(many)]
+    return ([ctypes.POINTER(_TYPES[slot])] if lent else [_TYPES[slot]]) + ([ctypes.c_size_t] if slice_ else [])
+
+
+def _declare():
+    """Tells ctypes what each function takes, so that a word of another type is an error and not a call."""
+    for name, words in _EXPORTED.items():
+        try:
+            function = getattr(_library, name)
+        except AttributeError:
+            raise ImportError(f"{_library._name} has no {name}: {_REMEDY}") from None
+        kinds = re.findall(r"\w+: ([^,]+)", words)
+        function.restype, function.argtypes = ctypes.c_uint32, [word for kind in kinds for word in _argument(kind)]
+
+
+_declare()
+
 
 # ---- lending: a buffer's address and length, taken as the C interface of CPython gives them
 
@@ -280,8 +373,8 @@ class _Slice:
         return f"the shape ({'rows' if rows is None else rows}, {'bins' if width is None else width}), rows first{turned}, or one dimension"
 
 
-_MOST_ROWS, _MOST_BINS, _MOST_FEATURE_ROWS = 1_048_576, 4_096, 50_000
 _FLOAT64, _FLOAT32, _UINT32 = ("float64", ("d",), 8), ("float32", ("f",), 4), ("uint32", ("I", "L"), 4)
+_SLOTS = {"float64": ctypes.c_double, "float32": ctypes.c_float, "uint32": ctypes.c_uint32}
 
 
 def _reals(name, lent):
@@ -356,7 +449,8 @@ def _features(call, name, lent, rows, width, written=False):
 
 
 # the least and the greatest that calls take, of numbers that mean the same in every call
-_TAKEN = {"rate": (1, 192_000), "bins": (1, _MOST_BINS), "period": (0, 45_000), "whole_lag": (0, 45_000), "length": (1, 2 ** 31)}
+_TAKEN = {"rate": (1, _MOST_RATE), "bins": (1, _MOST_BINS), "period": (0, _MOST_PERIOD), "whole_lag": (0, _MOST_PERIOD),
+          "length": (1, _MOST_FEATURE_LENGTH)}
 
 
 def _whole(name, number, kind, taken=None):
@@ -436,13 +530,12 @@ def _call(call, *parts):
             if isinstance(part, _Slice):
                 view = part.take(call)
                 lent.append((part, view))
-                words.append(ctypes.c_void_p(view.buf if view.len else ctypes.addressof(_nowhere)))
-                words.append(ctypes.c_size_t(view.len // part.size))
+                words.append(ctypes.byref(_SLOTS[part.kind].from_address(view.buf if view.len else ctypes.addressof(_nowhere))))
+                words.append(view.len // part.size)
             else:
                 words.append(part)
         _apart(call, lent)
         function = getattr(_library, "ph_" + call)
-        function.restype = ctypes.c_uint32
         with _gate:
             for others in list(_flying.values()):
                 _apart(call, lent, others)
@@ -479,9 +572,8 @@ class _Numbers:
     def of(self, name, slots=None):
         """The first so many values of a slice, as they lie."""
         part, view = self.parts[name]
-        kind = {"float64": ctypes.c_double, "float32": ctypes.c_float, "uint32": ctypes.c_uint32}[part.kind]
         slots = part.slots if slots is None else min(slots, part.slots)
-        return (kind * slots).from_address(view.buf) if slots else ()
+        return (_SLOTS[part.kind] * slots).from_address(view.buf) if slots else ()
 
 
 def _many(count, thing):
@@ -599,7 +691,8 @@ def _first_outside(values, most):
     return None
 
 
-_MAGNITUDE, _VALUE = (2.0 ** 126, "a value is finite and at most 2**126 in size"), (2.0 ** 150, "a value is finite and at most 2**150 in size")
+_MAGNITUDE = _MOST_MAGNITUDE, "a value is finite and at most 2**126 in size"
+_VALUE = _MOST_VALUE, "a value is finite and at most 2**150 in size"
 _SIMILARITY = 1.0, "a similarity is -1 to 1"
 
 
@@ -635,7 +728,7 @@ def _track(rows, input_, first):
 
     by_row = tuple(_room(name, of_rows, made) for name in first + ("threshold", "onsets", "score", "back", "beats", "downbeats"))
     by_lag = tuple(_room(name, lambda n: n.lags, made) for name in ("clarity", "weight", "window_clarity", "window_weight"))
-    return (*input_, _RATE, *_OPTS, *by_row, *by_lag, _room("work", lambda n: max(n.lags, min(21, of_rows(n))), made))
+    return (*input_, _RATE, *_OPTS, *by_row, *by_lag, _room("work", lambda n: max(n.lags, threshold_room(of_rows(n))), made))
 
 
 # what each call takes, in the order of its parameters, in the words of include/prohunsev.h; bar_beat_at refuses nothing
@@ -643,30 +736,30 @@ _TAKES = {
     "median_of": (_some("values"), _room("work", lambda n: n.values), _values("values")),
     "mad_of": (_some("values"), _room("work", lambda n: n.values), _values("values"), _value("median")),
     "spectral_flux": (*_ROWS, _room("flux", lambda n: n.rows), _values("magnitudes", _MAGNITUDE)),
-    "adaptive_threshold": (_frames_of("flux"), _room("threshold", lambda n: n.flux), _room("work", lambda n: min(21, n.flux)),
+    "adaptive_threshold": (_frames_of("flux"), _room("threshold", lambda n: n.flux), _room("work", lambda n: threshold_room(n.flux)),
                            _values("flux")),
     "pick_onsets": (_frames_of("flux"), _RATE, _as_long("threshold", "flux"), _room("frames", lambda n: n.flux), _values("flux"),
                     _values("threshold")),
     "suppress_close_peaks": (_frames_of("curve"), _peaks("peaks", "curve"), _room("frames", lambda n: n.peaks), _values("curve")),
-    "frame_times": (_RATE, _entries("frames", 1_048_575), _room("ms", lambda n: n.frames)),
+    "frame_times": (_RATE, _entries("frames", _MOST_FRAME), _room("ms", lambda n: n.frames)),
     "lag_range": (_RATE, *_OPTS),
     "estimate": (_frames_of("envelope"), _RATE, *_OPTS, *_LAG_CURVES, _values("envelope")),
     "stability_of": (_frames_of("envelope"), _RATE, *_OPTS, _number("whole_lag", *_TAKEN["whole_lag"]), *_LAG_CURVES, _values("envelope")),
     "beat_grid": (_frames_of("envelope"), _number("period", *_TAKEN["period"]),
                   *(_room(name, lambda n: n.envelope) for name in ("score", "back", "beats")), _values("envelope")),
-    "downbeats": (_frames_of("envelope"), _entries("beats", 1_048_575), _room("frames", lambda n: n.beats), _values("envelope")),
-    "similarity": (_FEATURE_ROWS, _table("features", 16), _room("similarity", lambda n: 17 * n.rows), _values("features")),
-    "novelty": (_FEATURE_ROWS, _table("similarity", 17), _room("novelty", lambda n: n.rows), _values("similarity", _SIMILARITY)),
+    "downbeats": (_frames_of("envelope"), _entries("beats", _MOST_FRAME), _room("frames", lambda n: n.beats), _values("envelope")),
+    "similarity": (_FEATURE_ROWS, _table("features", _FEATURE_WIDTH), _room("similarity", lambda n: similarity_room(n.rows)), _values("features")),
+    "novelty": (_FEATURE_ROWS, _table("similarity", _SIMILARITY_WIDTH), _room("novelty", lambda n: n.rows), _values("similarity", _SIMILARITY)),
     "boundaries": (_at_most("novelty", _MOST_FEATURE_ROWS), _LENGTH, _RATE, _room("rows", lambda n: n.novelty), _room("work", lambda n: n.novelty),
                    _values("novelty")),
-    "boundary_times": (_LENGTH, _RATE, _entries("rows", 49_999), _room("ms", lambda n: n.rows)),
+    "boundary_times": (_LENGTH, _RATE, _entries("rows", _MOST_LISTED_ROW), _room("ms", lambda n: n.rows)),
     "patch_magnitudes": (*_ROWS, _number("start", 0, "rows"), _new_rows("bins"), _room("flux", lambda n: n.rows),
-                         _room("threshold", lambda n: n.rows), _room("work", lambda n: min(21, n.rows)), _values("magnitudes", _MAGNITUDE),
+                         _room("threshold", lambda n: n.rows), _room("work", lambda n: threshold_room(n.rows)), _values("magnitudes", _MAGNITUDE),
                          _values("new_rows", _MAGNITUDE), _values("flux", slots=lambda n: n.rows),
                          _values("threshold", slots=lambda n: n.rows)),
-    "patch_features": (_FEATURE_ROWS, _table("features", 16), _number("start", 0, "rows"), _new_rows(16),
-                       _room("similarity", lambda n: 17 * n.rows), _room("novelty", lambda n: n.rows), _values("features"),
-                       _values("new_rows"), _values("similarity", _SIMILARITY, lambda n: 17 * n.rows),
+    "patch_features": (_FEATURE_ROWS, _table("features", _FEATURE_WIDTH), _number("start", 0, "rows"), _new_rows(_FEATURE_WIDTH),
+                       _room("similarity", lambda n: similarity_room(n.rows)), _room("novelty", lambda n: n.rows), _values("features"),
+                       _values("new_rows"), _values("similarity", _SIMILARITY, lambda n: similarity_room(n.rows)),
                        _values("novelty", slots=lambda n: n.rows)),
     "room_of": (_number("rows", 0, _MOST_ROWS), _RATE, *_OPTS),
     "analyse_envelope": (*_track("envelope", (_frames_of("envelope"),), ()), _values("envelope")),
@@ -708,7 +801,7 @@ def spectral_flux(magnitudes: Lent, rows: Optional[int] = None, bins: Optional[i
 
 def threshold_room(slots: int) -> int:
     """Slots of work for the threshold of so many slots, also while patching."""
-    return min(21, slots)
+    return min(_MEDIAN_WINDOW, slots)
 
 
 def adaptive_threshold(flux: Lent, threshold: Lent, work: Lent) -> None:
@@ -799,20 +892,20 @@ def bar_beat_at(time: float, downbeats: Lent, beats: Lent) -> Optional[BarBeat]:
 
 def similarity_room(rows: int) -> int:
     """Slots of similarity for so many feature rows."""
-    return 17 * rows
+    return _SIMILARITY_WIDTH * rows
 
 
 def similarity(features: Lent, rows: Optional[int] = None, similarity: Lent = None) -> None:
     """Slot 17 i + d: how alike rows i and i + d of 16 features are, -1 to 1. Room: similarity_room(rows)."""
     _given("similarity", similarity=similarity)
-    _call("similarity", *_features("similarity", "features", features, rows, 16),
-          _Slice("similarity", similarity, _FLOAT64, True, None, 17))
+    _call("similarity", *_features("similarity", "features", features, rows, _FEATURE_WIDTH),
+          _Slice("similarity", similarity, _FLOAT64, True, None, _SIMILARITY_WIDTH))
 
 
 def novelty(similarity: Lent, rows: Optional[int] = None, novelty: Lent = None) -> None:
     """How new each row is. The similarity has exactly similarity_room(rows) slots. Room: rows slots of novelty."""
     _given("novelty", novelty=novelty)
-    _call("novelty", *_features("novelty", "similarity", similarity, rows, 17), _reals_out("novelty", novelty))
+    _call("novelty", *_features("novelty", "similarity", similarity, rows, _SIMILARITY_WIDTH), _reals_out("novelty", novelty))
 
 
 def boundaries(novelty: Lent, length: int, rate: int, max_sections: int, rows: Lent, work: Lent) -> Sections:
@@ -858,9 +951,9 @@ def patch_features(features: Lent, rows: Optional[int] = None, start: Optional[i
     Room: similarity_room(rows) slots of similarity and rows slots of novelty."""
     call = "patch_features"
     _given(call, start=start, new_rows=new_rows, similarity=similarity, novelty=novelty)
-    return PatchedFeatures(*_patch(call, *_features(call, "features", features, rows, 16, True), _size("start", start),
-                                   _Slice("new_rows", new_rows, _FLOAT64, False, None, 16),
-                                   _Slice("similarity", similarity, _FLOAT64, True, None, 17), _reals_out("novelty", novelty)))
+    return PatchedFeatures(*_patch(call, *_features(call, "features", features, rows, _FEATURE_WIDTH, True), _size("start", start),
+                                   _Slice("new_rows", new_rows, _FLOAT64, False, None, _FEATURE_WIDTH),
+                                   _Slice("similarity", similarity, _FLOAT64, True, None, _SIMILARITY_WIDTH), _reals_out("novelty", novelty)))
 
 
 # ---- a whole track

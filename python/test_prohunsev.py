@@ -480,7 +480,8 @@ class Refusals(unittest.TestCase):
 
 
 class Declarations(unittest.TestCase):
-    """What each call hands over has the types that the header declares, in its order: ctypes itself checks nothing of the kind."""
+    """What each call hands over has the types that the header declares, in its order, and what it lends to be read is not written: of the
+    types ctypes is told the same, by a table that tools/header writes; of what is written it knows nothing."""
 
     HEADER = pathlib.Path(__file__).resolve().parent.parent / "include/prohunsev.h"
     TYPES = {"double": ctypes.c_double, "float": ctypes.c_float, "size_t": ctypes.c_size_t, "uint32_t": ctypes.c_uint32,
@@ -528,6 +529,14 @@ class Declarations(unittest.TestCase):
                 getattr(buffers if call.startswith("analyse_") else ph, call)(*given)
             (name, parts), = seen
             self.assertEqual((name, [word for part in parts for word in self.handed(part)]), (call, declared[call]))
+            told = [kind * many if many > 1 else ctypes.POINTER(kind) if lent else kind for lent, kind, many in declared[call]]
+            self.assertEqual(getattr(ph._library, "ph_" + call).argtypes, told, call)
+
+    def test_a_word_of_another_type_is_no_call(self):
+        d, median = reals(1), ctypes.c_double()
+        for other in (ph._Slice("values", singles(1), ph._FLOAT32, False), ph._Slice("values", frames(1), ph._UINT32, False), ctypes.c_double(1.0)):
+            with self.assertRaises((ctypes.ArgumentError, TypeError)):
+                ph._call("median_of", other, ph._reals_out("work", d), ctypes.byref(median))
 
 
 class Lending(unittest.TestCase):

@@ -9,6 +9,11 @@
 //!   fuzz guards                   whether the guards and the checks catch functions that misbehave on purpose
 mod alarm;
 mod calls;
+// one that is not called is not tried
+#[deny(dead_code)]
+#[path = "../../rust/src/ffi.rs"]
+#[rustfmt::skip]
+mod ffi;
 mod guard;
 mod lend;
 mod misbehave;

@@ -156,6 +156,11 @@ impl<T: Slot> Lent<T> {
     pub fn ptr_mut(&mut self) -> *mut T {
         self.slots[GUARD..].as_mut_ptr().cast()
     }
+    /// As an array, which has no length of its own.
+    pub fn array<const N: usize>(&mut self) -> *mut [T; N] {
+        assert_eq!(self.len(), N);
+        self.ptr_mut().cast()
+    }
     /// The slots as bits, and whether the guards stand.
     pub fn end(self, harm: &mut bool) -> Vec<u64> {
         let n = self.slots.len();

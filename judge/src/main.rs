@@ -7,6 +7,11 @@
 mod cases;
 mod differences;
 mod expected;
+// one that is not called is not judged
+#[deny(dead_code)]
+#[path = "../../rust/src/ffi.rs"]
+#[rustfmt::skip]
+mod ffi;
 mod inputs;
 mod lent;
 mod numbers;

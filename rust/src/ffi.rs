@@ -1,71 +1,76 @@
-//! The exported functions, as include/prohunsev.h declares them.
+//! The exported functions of crates/capi/src. Written by tools/header --write, and not by hand.
 //!
 //! A slice is a pointer and a length. What each may do to the memory behind its pointers is proved: it reads and writes inside the
 //! slices lent, keeps no pointer, allocates nothing and has no state of its own.
-extern "C" {
-    // build.rs calls it, of the library that it is about to link, and the test below once it is linked
+unsafe extern "C" {
     #[allow(dead_code)]
     pub fn ph_version() -> u32;
-    pub fn ph_median_of(values: *const f64, n: usize, work: *mut f64, work_slots: usize, median: *mut f64) -> u32;
+    pub fn ph_median_of(
+        values: *const f64,
+        values_len: usize,
+        work: *mut f64,
+        work_len: usize,
+        median: *mut f64,
+    ) -> u32;
     pub fn ph_mad_of(
         values: *const f64,
-        n: usize,
+        values_len: usize,
         median: f64,
         work: *mut f64,
-        work_slots: usize,
+        work_len: usize,
         mad: *mut f64,
     ) -> u32;
     pub fn ph_spectral_flux(
         magnitudes: *const f32,
-        n: usize,
+        magnitudes_len: usize,
         rows: usize,
         bins: usize,
         flux: *mut f64,
-        flux_slots: usize,
+        flux_len: usize,
     ) -> u32;
     pub fn ph_adaptive_threshold(
         flux: *const f64,
-        n: usize,
+        flux_len: usize,
         threshold: *mut f64,
-        threshold_slots: usize,
+        threshold_len: usize,
         work: *mut f64,
-        work_slots: usize,
+        work_len: usize,
     ) -> u32;
     pub fn ph_pick_onsets(
         flux: *const f64,
-        n: usize,
+        flux_len: usize,
         threshold: *const f64,
-        threshold_n: usize,
+        threshold_len: usize,
         rate: u32,
         frames: *mut u32,
-        frames_slots: usize,
+        frames_len: usize,
         count: *mut usize,
     ) -> u32;
     pub fn ph_suppress_close_peaks(
         peaks: *const u32,
-        n: usize,
+        peaks_len: usize,
         curve: *const f64,
-        curve_n: usize,
+        curve_len: usize,
         gap: usize,
         frames: *mut u32,
-        frames_slots: usize,
+        frames_len: usize,
         count: *mut usize,
     ) -> u32;
-    pub fn ph_frame_times(frames: *const u32, n: usize, rate: u32, ms: *mut f64, ms_slots: usize) -> u32;
+    pub fn ph_frame_times(frames: *const u32, frames_len: usize, rate: u32, ms: *mut f64, ms_len: usize) -> u32;
     pub fn ph_lag_range(rate: u32, min_bpm: f64, max_bpm: f64, min_lag: *mut usize, max_lag: *mut usize) -> u32;
     pub fn ph_estimate(
         envelope: *const f64,
-        n: usize,
+        envelope_len: usize,
         onsets: usize,
         rate: u32,
         min_bpm: f64,
         max_bpm: f64,
         clarity_curve: *mut f64,
-        clarity_slots: usize,
+        clarity_curve_len: usize,
         weight_curve: *mut f64,
-        weight_slots: usize,
+        weight_curve_len: usize,
         work: *mut f64,
-        work_slots: usize,
+        work_len: usize,
         found: *mut u32,
         bpm: *mut f64,
         clarity: *mut f64,
@@ -75,17 +80,17 @@ extern "C" {
     ) -> u32;
     pub fn ph_stability_of(
         envelope: *const f64,
-        n: usize,
+        envelope_len: usize,
         rate: u32,
         min_bpm: f64,
         max_bpm: f64,
         whole_lag: usize,
         clarity_curve: *mut f64,
-        clarity_slots: usize,
+        clarity_curve_len: usize,
         weight_curve: *mut f64,
-        weight_slots: usize,
+        weight_curve_len: usize,
         work: *mut f64,
-        work_slots: usize,
+        work_len: usize,
         found: *mut u32,
         fraction: *mut f64,
         agreeing: *mut usize,
@@ -93,72 +98,85 @@ extern "C" {
     ) -> u32;
     pub fn ph_beat_grid(
         envelope: *const f64,
-        n: usize,
+        envelope_len: usize,
         period: usize,
         score: *mut f64,
-        score_slots: usize,
+        score_len: usize,
         back: *mut u32,
-        back_slots: usize,
+        back_len: usize,
         beats: *mut u32,
-        beats_slots: usize,
+        beats_len: usize,
         count: *mut usize,
     ) -> u32;
     pub fn ph_downbeats(
         envelope: *const f64,
-        n: usize,
+        envelope_len: usize,
         beats: *const u32,
-        beats_n: usize,
+        beats_len: usize,
         frames: *mut u32,
-        frames_slots: usize,
+        frames_len: usize,
         count: *mut usize,
     ) -> u32;
     pub fn ph_bar_beat_at(
         time: f64,
         downbeats: *const f64,
-        n: usize,
+        downbeats_len: usize,
         beats: *const f64,
-        beats_n: usize,
+        beats_len: usize,
         found: *mut u32,
         bar: *mut usize,
         beat: *mut usize,
     ) -> u32;
     pub fn ph_similarity(
         features: *const f64,
-        n: usize,
+        features_len: usize,
         rows: usize,
         similarity: *mut f64,
-        similarity_slots: usize,
+        similarity_len: usize,
     ) -> u32;
-    pub fn ph_novelty(similarity: *const f64, n: usize, rows: usize, novelty: *mut f64, novelty_slots: usize) -> u32;
+    pub fn ph_novelty(
+        similarity: *const f64,
+        similarity_len: usize,
+        rows: usize,
+        novelty: *mut f64,
+        novelty_len: usize,
+    ) -> u32;
     pub fn ph_boundaries(
         novelty: *const f64,
-        n: usize,
+        novelty_len: usize,
         length: u64,
         rate: u32,
         max_sections: usize,
         rows: *mut u32,
-        rows_slots: usize,
+        rows_len: usize,
         work: *mut f64,
-        work_slots: usize,
+        work_len: usize,
         sections: *mut usize,
         count: *mut usize,
         confidence: *mut f64,
     ) -> u32;
-    pub fn ph_boundary_times(rows: *const u32, n: usize, length: u64, rate: u32, ms: *mut f64, ms_slots: usize) -> u32;
+    pub fn ph_boundary_times(
+        rows: *const u32,
+        rows_len: usize,
+        length: u64,
+        rate: u32,
+        ms: *mut f64,
+        ms_len: usize,
+    ) -> u32;
     pub fn ph_patch_magnitudes(
         magnitudes: *mut f32,
-        n: usize,
+        magnitudes_len: usize,
         rows: usize,
         bins: usize,
         start: usize,
         new_rows: *const f32,
-        new_n: usize,
+        new_rows_len: usize,
         flux: *mut f64,
-        flux_slots: usize,
+        flux_len: usize,
         threshold: *mut f64,
-        threshold_slots: usize,
+        threshold_len: usize,
         work: *mut f64,
-        work_slots: usize,
+        work_len: usize,
         flux_first: *mut usize,
         flux_past: *mut usize,
         threshold_first: *mut usize,
@@ -166,15 +184,15 @@ extern "C" {
     ) -> u32;
     pub fn ph_patch_features(
         features: *mut f64,
-        n: usize,
+        features_len: usize,
         rows: usize,
         start: usize,
         new_rows: *const f64,
-        new_n: usize,
+        new_rows_len: usize,
         similarity: *mut f64,
-        similarity_slots: usize,
+        similarity_len: usize,
         novelty: *mut f64,
-        novelty_slots: usize,
+        novelty_len: usize,
         similarity_first: *mut usize,
         similarity_past: *mut usize,
         novelty_first: *mut usize,
@@ -191,32 +209,32 @@ extern "C" {
     ) -> u32;
     pub fn ph_analyse_envelope(
         envelope: *const f64,
-        n: usize,
+        envelope_len: usize,
         rate: u32,
         min_bpm: f64,
         max_bpm: f64,
         threshold: *mut f64,
-        threshold_slots: usize,
+        threshold_len: usize,
         onsets: *mut u32,
-        onsets_slots: usize,
+        onsets_len: usize,
         clarity_curve: *mut f64,
-        clarity_slots: usize,
+        clarity_curve_len: usize,
         weight_curve: *mut f64,
-        weight_slots: usize,
+        weight_curve_len: usize,
         window_clarity: *mut f64,
-        window_clarity_slots: usize,
+        window_clarity_len: usize,
         window_weight: *mut f64,
-        window_weight_slots: usize,
+        window_weight_len: usize,
         score: *mut f64,
-        score_slots: usize,
+        score_len: usize,
         back: *mut u32,
-        back_slots: usize,
+        back_len: usize,
         beats: *mut u32,
-        beats_slots: usize,
+        beats_len: usize,
         downbeats: *mut u32,
-        downbeats_slots: usize,
+        downbeats_len: usize,
         work: *mut f64,
-        work_slots: usize,
+        work_len: usize,
         onset_count: *mut usize,
         found: *mut u32,
         bpm: *mut f64,
@@ -233,36 +251,36 @@ extern "C" {
     ) -> u32;
     pub fn ph_analyse_magnitudes(
         magnitudes: *const f32,
-        n: usize,
+        magnitudes_len: usize,
         rows: usize,
         bins: usize,
         rate: u32,
         min_bpm: f64,
         max_bpm: f64,
         flux: *mut f64,
-        flux_slots: usize,
+        flux_len: usize,
         threshold: *mut f64,
-        threshold_slots: usize,
+        threshold_len: usize,
         onsets: *mut u32,
-        onsets_slots: usize,
+        onsets_len: usize,
         clarity_curve: *mut f64,
-        clarity_slots: usize,
+        clarity_curve_len: usize,
         weight_curve: *mut f64,
-        weight_slots: usize,
+        weight_curve_len: usize,
         window_clarity: *mut f64,
-        window_clarity_slots: usize,
+        window_clarity_len: usize,
         window_weight: *mut f64,
-        window_weight_slots: usize,
+        window_weight_len: usize,
         score: *mut f64,
-        score_slots: usize,
+        score_len: usize,
         back: *mut u32,
-        back_slots: usize,
+        back_len: usize,
         beats: *mut u32,
-        beats_slots: usize,
+        beats_len: usize,
         downbeats: *mut u32,
-        downbeats_slots: usize,
+        downbeats_len: usize,
         work: *mut f64,
-        work_slots: usize,
+        work_len: usize,
         onset_count: *mut usize,
         found: *mut u32,
         bpm: *mut f64,
@@ -277,16 +295,4 @@ extern "C" {
         beat_count: *mut usize,
         downbeat_count: *mut usize,
     ) -> u32;
-}
-
-#[cfg(test)]
-mod tests {
-    #[test]
-    fn the_library_is_of_this_crates_version() {
-        let part = |text: &str| text.parse::<u32>().expect("cargo gives whole numbers");
-        let (major, minor) = (part(env!("CARGO_PKG_VERSION_MAJOR")), part(env!("CARGO_PKG_VERSION_MINOR")));
-        let version = major * 1_000_000 + minor * 1_000 + part(env!("CARGO_PKG_VERSION_PATCH"));
-        // takes nothing, and returns a constant
-        assert_eq!(unsafe { super::ph_version() }, version);
-    }
 }

@@ -69,3 +69,15 @@ pub use track::{Analysis, Buffers};
 #[cfg(doctest)]
 #[doc = include_str!("../README.md")]
 struct Readme;
+
+#[cfg(test)]
+mod tests {
+    #[test]
+    fn the_library_is_of_this_crates_version() {
+        let part = |text: &str| text.parse::<u32>().expect("cargo gives whole numbers");
+        let (major, minor) = (part(env!("CARGO_PKG_VERSION_MAJOR")), part(env!("CARGO_PKG_VERSION_MINOR")));
+        let version = major * 1_000_000 + minor * 1_000 + part(env!("CARGO_PKG_VERSION_PATCH"));
+        // takes nothing, and returns a constant
+        assert_eq!(unsafe { super::ffi::ph_version() }, version);
+    }
+}

@@ -16,14 +16,14 @@ pub const MOST_PERIOD: usize = 45_000;
 /// The most feature rows.
 pub const MOST_FEATURE_ROWS: usize = 50_000;
 /// The most samples that a feature row stands for, 2^31; the least is 1.
-pub const MOST_FEATURE_LENGTH: u64 = 1 << 31;
+pub const MOST_FEATURE_LENGTH: u64 = 2_147_483_648;
 /// Values of a feature row.
 pub const FEATURE_WIDTH: usize = 16;
 /// Similarity slots of a feature row: a row with itself and with the sixteen after it.
 pub const SIMILARITY_WIDTH: usize = 17;
 /// The largest size of a magnitude, 2^126.
-pub const MOST_MAGNITUDE: f32 = f32::from_bits(0x7E80_0000);
+pub const MOST_MAGNITUDE: f32 = 85070591730234615865843651857942052864.0;
 /// The largest size of an envelope, curve, median or feature value, 2^150.
-pub const MOST_VALUE: f64 = f64::from_bits(0x4950_0000_0000_0000);
+pub const MOST_VALUE: f64 = 1427247692705959881058285969449495136382746624.0;
 /// What [`beat_grid`](crate::beat_grid) writes in `back` for a frame with no beat before it.
-pub const NO_LINK: u32 = u32::MAX;
+pub const NO_LINK: u32 = 4_294_967_295;

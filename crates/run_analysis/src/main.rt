@@ -5,7 +5,7 @@
 //
 // The cases stand in tables, one to a line, with bars between the columns: the label, then the numbers that the function
 // of that name takes, where (1) is column 1, and here and there what they are about.
-ghost use Prim.Native.Nat.{_≤_, _+_};
+ghost use Prim.Native.Nat.{_≤_};
 ghost use lib.ListN.{length};
 use options::TempoOpts;
 use stability::Stability;
@@ -19,8 +19,11 @@ const MAGNITUDES: usize = 2;
 
 const ROOM: usize = 3;
 
+const LENGTHS: usize = 4;
+
 fn main() {
     clicks();
+    lengths();
     magnitudes();
     rooms();
     bounds();
@@ -39,6 +42,9 @@ fn run(call: usize, line: &[u8]) {
     run_show::words(run_cases::part(line, b'|', 0));
     if call == ENVELOPE {
         return of_envelope(line);
+    }
+    if call == LENGTHS {
+        return of_lengths(line);
     }
     if call == MAGNITUDES {
         return of_slab(line);
@@ -107,14 +113,8 @@ fn answer(a: Analysis) {
     run_show::end();
 }
 
-// So many slots of a slice are lent: one fewer than its room where `at` is the slice that is short; two more than its room where short is 12.
-fn slots(room: usize, at: usize, short: usize) -> usize
-    requires { ⌜ room ≤ 48 ⌝ }
-    ensures { λ r. ⌜ r ≤ room + 2 ⌝ }
-{
-    if short == 12 {
-        return room + 2;
-    }
+// So many slots of a slice are lent: its room, or one fewer where `at` is the slice that is short.
+fn slots(room: usize, at: usize, short: usize) -> usize {
     if at == short {
         return numbers::less(room, 1);
     }
@@ -167,9 +167,8 @@ fn lists_are(onsets: &[u32; 50], back: &[u32; 50], beats: &[u32; 50], downbeats:
     list(b"downbeats", downbeats);
 }
 
-// Analyses an envelope with the slice `short` of the eleven, counted from 1, one slot short; 0: exactly the room; 12: two slots more in each.
-// Every slice is shown with two slots past its room.
-fn lent(envelope: &[f64], rate: u32, short: usize) {
+// Analyses an envelope. Every slice is lent and shown with two slots past its room.
+fn lent(envelope: &[f64], rate: u32) {
     let mut threshold = [9.0f64; 50];
     let mut onsets = [77u32; 50];
     let mut clarity = [9.0f64; 17];
@@ -185,30 +184,67 @@ fn lent(envelope: &[f64], rate: u32, short: usize) {
         envelope,
         rate,
         TempoOpts::new(),
-        &mut threshold[0..slots(48, 1, short)],
-        &mut onsets[0..slots(48, 2, short)],
-        &mut clarity[0..slots(15, 3, short)],
-        &mut weight[0..slots(15, 4, short)],
-        &mut window_clarity[0..slots(15, 5, short)],
-        &mut window_weight[0..slots(15, 6, short)],
-        &mut score[0..slots(48, 7, short)],
-        &mut back[0..slots(48, 8, short)],
-        &mut beats[0..slots(48, 9, short)],
-        &mut downbeats[0..slots(48, 10, short)],
-        &mut work[0..slots(21, 11, short)],
+        &mut threshold,
+        &mut onsets,
+        &mut clarity,
+        &mut weight,
+        &mut window_clarity,
+        &mut window_weight,
+        &mut score,
+        &mut back,
+        &mut beats,
+        &mut downbeats,
+        &mut work,
     ));
     curves_are(&threshold, &clarity, &weight, &score);
     worked_in(&window_clarity, &window_weight, &work);
     lists_are(&onsets, &back, &beats, &downbeats);
 }
 
-// The first (1) slots of the clicks, or of no numbers where (4) is 1, at rate (2), with slice (3) short.
+// The number of an analysis with the slice `short` of the eleven, counted from 1, one slot short; 0: exactly the room. An analysis asks for it first, by
+// the lengths of what is lent, and is refused by nothing else.
+fn refused(envelope: &[f64], rate: u32, short: usize) {
+    let frames = [
+        slots(48, 1, short),
+        slots(48, 2, short),
+        slots(48, 7, short),
+        slots(48, 8, short),
+        slots(48, 9, short),
+        slots(48, 10, short),
+    ];
+    let lags = [
+        slots(15, 3, short),
+        slots(15, 4, short),
+        slots(15, 5, short),
+        slots(15, 6, short),
+    ];
+    run_show::small(rooms::envelope_refusal(
+        envelope,
+        rate,
+        TempoOpts::new(),
+        &frames,
+        &lags,
+        slots(21, 11, short),
+    ));
+    run_show::end();
+}
+
+// The first (1) slots of the clicks, or of no numbers where (3) is 1, at rate (2).
 fn of_envelope(line: &[u8]) {
-    let e = envelope_of(run_cases::column(line, 4));
+    let e = envelope_of(run_cases::column(line, 3));
     lent(
         &e[0..run_cases::column_within(line, 1, 48)],
         run_cases::column_u32(line, 2),
-        run_cases::column(line, 3),
+    );
+}
+
+// The clicks, or no numbers where (3) is 1, at rate (1), with slice (2) short.
+fn of_lengths(line: &[u8]) {
+    let e = envelope_of(run_cases::column(line, 3));
+    refused(
+        &e,
+        run_cases::column_u32(line, 1),
+        run_cases::column(line, 2),
     );
 }
 
@@ -221,30 +257,38 @@ fn envelope_of(odd: usize) -> [f64; 48] {
     e
 }
 
-// Two slots more in each slice; exactly the room, then each of the eleven slices one short; and what is refused.
+// What is answered, with two slots more in each slice, and what is refused.
 fn clicks() {
     table(
         ENVELOPE,
-        b"clicks:|48|2048|12
-seventeen slots of them:|17|2048|12
-one of them:|4|2048|12
-short 0:|48|2048|0
-short 1:|48|2048|1
-short 2:|48|2048|2
-short 3:|48|2048|3
-short 4:|48|2048|4
-short 5:|48|2048|5
-short 6:|48|2048|6
-short 7:|48|2048|7
-short 8:|48|2048|8
-short 9:|48|2048|9
-short 10:|48|2048|10
-short 11:|48|2048|11
-a NaN:|48|2048|0|1
-3 before 4:|48|2048|11|1
-rate 0:|48|0|0
-rate 192,001:|48|192001|0
-1 before 3:|48|0|11\n",
+        b"clicks:|48|2048
+seventeen slots of them:|17|2048
+one of them:|4|2048
+a NaN:|48|2048|1
+rate 0:|48|0
+rate 192,001:|48|192001\n",
+    );
+}
+
+// Exactly the room, each of the eleven slices one short, and which number comes first.
+fn lengths() {
+    table(
+        LENGTHS,
+        b"short 0:|2048|0
+short 1:|2048|1
+short 2:|2048|2
+short 3:|2048|3
+short 4:|2048|4
+short 5:|2048|5
+short 6:|2048|6
+short 7:|2048|7
+short 8:|2048|8
+short 9:|2048|9
+short 10:|2048|10
+short 11:|2048|11
+a NaN:|2048|0|1
+3 before 4:|2048|11|1
+1 before 3:|0|11\n",
     );
 }
 
