@@ -9,7 +9,7 @@ use lib.Dec.{leb}
 use lib.ListN.{length, take, drop}
 use lib.Ieee.{Float}
 use Rattle.numbers.specs.Refusals.{unlessRefused}
-use Rattle.numbers.specs.Limits.{mostRows, mostPeriod, between, valueFine}
+use Rattle.numbers.specs.Limits.{mostRows, mostPeriod, between, valueFine, frameFine}
 use Rattle.numbers.specs.Lists.{every, filled, listed}
 use Rattle.numbers.proofs.Tests.{and-both, lowest-0, passed-does}
 use Rattle.threshold.specs.Threshold.{thresholdAt, sortingRoom}
@@ -53,9 +53,9 @@ module _
   pub downbeats-passed : (room : ℕ) → length env ≤ room → downbeatRefusal env (gridOf env period) commonMeter room ≡ 0
   unfolding downbeatRefusal bars.downbeatNumbersFine bars.downbeatRoomFine
   downbeats-passed room h =
-      lowest-0 (leb (length env) mostRows && (every bars.frameFine (gridOf env period) && between 1 bars.mostMeter commonMeter)) true (leb (length (gridOf env period)) room)
+      lowest-0 (leb (length env) mostRows && (every frameFine (gridOf env period) && between 1 bars.mostMeter commonMeter)) true (leb (length (gridOf env period)) room)
       (every valueFine env)
-      (and-both (leb (length env) mostRows) _ (le-leb _ _ few) (and-both (every bars.frameFine (gridOf env period)) (between 1 bars.mostMeter commonMeter) (beats-listable env period few) refl)) refl
+      (and-both (leb (length env) mostRows) _ (le-leb _ _ few) (and-both (every frameFine (gridOf env period)) (between 1 bars.mostMeter commonMeter) (beats-listable env period few) refl)) refl
       (le-leb (length (gridOf env period)) room (omega (arith, beats-fit env period)))
       fine
 
