@@ -6,6 +6,7 @@ use mathlib.Core.Path.{_≡_}
 use lib.Ieee.{Float}
 use Rattle.numbers.specs.Refusals.{unlessRefused}
 use Rattle.numbers.specs.Lists.{curve, filled}
+use Rattle.numbers.specs.declared.Slab.{Slab}
 use Rattle.flux.specs.Flux.{fluxAt}
 use Rattle.options.specs.declared.TempoOpts.{TempoOpts}
 use Rattle.rooms.specs.Rooms.{Results, Spare, envelopeNumber, magnitudesNumber}
@@ -19,10 +20,11 @@ EnvelopePromise env rate o was lent answer after left =
 
 -- The promise of `analyse_magnitudes`: the flux that demand 2 gives, and the analysis of that flux.
 pub record MagnitudesPromise
-    (magnitudes : List Float) (rows bins rate : ℕ) (o : TempoOpts) (flux : List Float) (was : Results) (lent : Spare)
+    (magnitudes : List Float) (slab : Slab) (rate : ℕ) (o : TempoOpts) (flux : List Float) (was : Results) (lent : Spare)
     (answer : Analysis) (flux′ : List Float) (after : Results) (left : Spare) : Type 0 where
   pub fluxes :
       flux′ ≡
-      unlessRefused (magnitudesNumber magnitudes rows bins rate o flux was lent) (filled (fluxAt magnitudes bins) flux 0 rows) flux
+      unlessRefused (magnitudesNumber magnitudes slab rate o flux was lent) (filled (fluxAt magnitudes slab) flux 0 (slab .rows)) flux
   pub analysed :
-      Analysed (magnitudesNumber magnitudes rows bins rate o flux was lent) (curve (fluxAt magnitudes bins) rows) rate o was lent answer after left
+      Analysed (magnitudesNumber magnitudes slab rate o flux was lent) (curve (fluxAt magnitudes slab) (slab .rows)) rate o
+      was lent answer after left

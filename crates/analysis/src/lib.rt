@@ -3,12 +3,14 @@
 // Document 01, Onsets, Tempo and candidates, Beats and bars, and its room. The Rust: onsets.rs `analyze_stft` and tempo.rs `estimate_from_parts`.
 // The parts are called in turn over slices that are lent; every refusal of an analysis is decided before any part is called.
 use flux::fill_flux;
+use numbers::Slab;
 use options::TempoOpts;
 use rooms::envelope_refusal;
 use rooms::magnitudes_refusal;
 use track::Analysis;
 use track::analyse;
 use track::without_analysis;
+ghost use Rattle.numbers.specs.Limits.{slabOf};
 ghost use Rattle.rooms.specs.Rooms.{results, spare};
 ghost use Rattle.analysis.specs.Analyses.{EnvelopePromise, MagnitudesPromise};
 
@@ -34,7 +36,18 @@ pub fn analyse_envelope(
     downbeats: &mut [u32],
     work: &mut [f64],
 ) -> Analysis
-    ensures { λ r. ⌜ EnvelopePromise (now (envelope .entry)) rate opts (results (now (threshold .entry)) (now (onsets .entry)) (now (clarity .entry)) (now (weight .entry)) (now (score .entry)) (now (back .entry)) (now (beats .entry)) (now (downbeats .entry))) (spare (now («window_clarity» .entry)) (now («window_weight» .entry)) (now (work .entry))) r (results (now (threshold .exit)) (now (onsets .exit)) (now (clarity .exit)) (now (weight .exit)) (now (score .exit)) (now (back .exit)) (now (beats .exit)) (now (downbeats .exit))) (spare (now («window_clarity» .exit)) (now («window_weight» .exit)) (now (work .exit))) ⌝ }
+    ensures { λ r. ⌜
+        EnvelopePromise (now (envelope .entry)) rate opts
+        (results
+        (now (threshold .entry)) (now (onsets .entry)) (now (clarity .entry)) (now (weight .entry))
+        (now (score .entry)) (now (back .entry)) (now (beats .entry)) (now (downbeats .entry)))
+        (spare (now («window_clarity» .entry)) (now («window_weight» .entry)) (now (work .entry)))
+        r
+        (results
+        (now (threshold .exit)) (now (onsets .exit)) (now (clarity .exit)) (now (weight .exit))
+        (now (score .exit)) (now (back .exit)) (now (beats .exit)) (now (downbeats .exit)))
+        (spare (now («window_clarity» .exit)) (now («window_weight» .exit)) (now (work .exit)))
+        ⌝ }
 {
     let frames = [
         threshold.len(),
@@ -94,7 +107,20 @@ pub fn analyse_magnitudes(
     downbeats: &mut [u32],
     work: &mut [f64],
 ) -> Analysis
-    ensures { λ r. ⌜ MagnitudesPromise (now (magnitudes .entry)) rows bins rate opts (now (flux .entry)) (results (now (threshold .entry)) (now (onsets .entry)) (now (clarity .entry)) (now (weight .entry)) (now (score .entry)) (now (back .entry)) (now (beats .entry)) (now (downbeats .entry))) (spare (now («window_clarity» .entry)) (now («window_weight» .entry)) (now (work .entry))) r (now (flux .exit)) (results (now (threshold .exit)) (now (onsets .exit)) (now (clarity .exit)) (now (weight .exit)) (now (score .exit)) (now (back .exit)) (now (beats .exit)) (now (downbeats .exit))) (spare (now («window_clarity» .exit)) (now («window_weight» .exit)) (now (work .exit))) ⌝ }
+    ensures { λ r. ⌜
+        MagnitudesPromise (now (magnitudes .entry)) (slabOf rows bins) rate opts
+        (now (flux .entry))
+        (results
+        (now (threshold .entry)) (now (onsets .entry)) (now (clarity .entry)) (now (weight .entry))
+        (now (score .entry)) (now (back .entry)) (now (beats .entry)) (now (downbeats .entry)))
+        (spare (now («window_clarity» .entry)) (now («window_weight» .entry)) (now (work .entry)))
+        r
+        (now (flux .exit))
+        (results
+        (now (threshold .exit)) (now (onsets .exit)) (now (clarity .exit)) (now (weight .exit))
+        (now (score .exit)) (now (back .exit)) (now (beats .exit)) (now (downbeats .exit)))
+        (spare (now («window_clarity» .exit)) (now («window_weight» .exit)) (now (work .exit)))
+        ⌝ }
 {
     let frames = [
         threshold.len(),
@@ -110,10 +136,10 @@ pub fn analyse_magnitudes(
         window_clarity.len(),
         window_weight.len(),
     ];
+    let slab = Slab { rows, bins };
     let number = magnitudes_refusal(
         magnitudes,
-        rows,
-        bins,
+        slab,
         rate,
         opts,
         flux.len(),
@@ -124,7 +150,7 @@ pub fn analyse_magnitudes(
     if number != 0 {
         return without_analysis(number);
     }
-    fill_flux(magnitudes, rows, bins, 0, rows, flux);
+    fill_flux(magnitudes, slab, 0, rows, flux);
     analyse(
         &flux[0..rows],
         rate,

@@ -8,6 +8,7 @@ use lib.ListN.{length, drop}
 use lib.Ieee.{Float}
 use Rattle.numbers.specs.Refusals.{unlessRefused}
 use Rattle.numbers.proofs.Outcomes.{open-unique}
+use Rattle.numbers.specs.declared.Slab.{Slab}
 use Rattle.options.specs.declared.TempoOpts.{TempoOpts}
 use Rattle.lags.specs.Lags.{minLag, maxLag}
 use Rattle.tempo.proofs.Promises as tempo
@@ -15,7 +16,7 @@ use Rattle.stability.specs.Answers.{stabilityRefusal, leftOpen}
 use Rattle.stability.proofs.Promises as stability
 use Rattle.sections.specs.Outcomes.{workedIn}
 use Rattle.patches.specs.Patches.{Patch}
-use Rattle.patch_refusal.specs.Tracks as tracks
+use Rattle.patch_magnitudes.specs.Tracks as tracks
 use Rattle.patch_magnitudes.specs.Magnitudes as magnitudes
 use Rattle.patch_features.specs.Features as features
 use Rattle.capi_answers.specs.Handed.{Handed}
@@ -95,14 +96,14 @@ boundaries-unique p q = (
   (p .rows-are ∙ sym (q .rows-are), open-unique (p .works) (q .works) .0, open-unique (p .works) (q .works) .1),
 )
 
-pub rows-unique : {rows bins : ℕ} {was : tracks.MagnitudeTrack} {patch : Patch} {work : List Float} {lent₀ : List ℕ}
+pub rows-unique : {slab : Slab} {was : tracks.MagnitudeTrack} {patch : Patch} {work : List Float} {lent₀ : List ℕ}
     {a b : ℕ} {x y : tracks.MagnitudeTrack} {u v : List Float} {s t : List ℕ}
-    → PhRowsPromise rows bins was patch work lent₀ a x u s → PhRowsPromise rows bins was patch work lent₀ b y v t
-    → let sorted = magnitudes.patchSortedIn (tracks.patchNumber rows bins was patch (length work)) rows patch in
+    → PhRowsPromise slab was patch work lent₀ a x u s → PhRowsPromise slab was patch work lent₀ b y v t
+    → let sorted = magnitudes.patchSortedIn (tracks.patchNumber slab was patch (length work)) (slab .rows) patch in
     ((a ≡ b) × (s ≡ t)) × ((x ≡ y) × (length u ≡ length v) × (drop sorted u ≡ drop sorted v))
 rows-unique p q = (
   handed-unique (p .handed) (q .handed),
-  (p .slices .track-is ∙ sym (q .slices .track-is), p .slices .work-length ∙ sym (q .slices .work-length), p .slices .work-keeps ∙ sym (q .slices .work-keeps)),
+  (p .slices .track-is ∙ sym (q .slices .track-is), p .slices .works .same-length ∙ sym (q .slices .works .same-length), p .slices .works .kept ∙ sym (q .slices .works .kept)),
 )
 
 pub features-unique : {rows : ℕ} {was : features.FeatureTrack} {patch : Patch} {lent₀ : List ℕ} {a b : ℕ} {x y : features.FeatureTrack} {s t : List ℕ}

@@ -6,6 +6,7 @@ use mathlib.Core.List.{List, [], _∷_}
 use lib.ListN.{length, getD}
 use lib.Ieee.{Float}
 use Rattle.numbers.specs.Refusals.{unlessRefused}
+use Rattle.numbers.specs.declared.Slab.{Slab}
 use Rattle.numbers.specs.Rounded.{nought}
 use Rattle.numbers.specs.declared.Listing.{Listing}
 use Rattle.median.specs.Answers.{medianSays, Answered}
@@ -24,7 +25,7 @@ use Rattle.sections.specs.Outcomes.{Found}
 use Rattle.sections.specs.declared.Sections.{Sections}
 use Rattle.patches.specs.Patches.{Patch, ranges}
 use Rattle.patch_magnitudes.specs.declared.Patched as rows-done
-use Rattle.patch_refusal.specs.Tracks as tracks
+use Rattle.patch_magnitudes.specs.Tracks as tracks
 use Rattle.patch_magnitudes.specs.Magnitudes as magnitudes
 use Rattle.patch_magnitudes.proofs.Outcomes as rows-outcomes
 use Rattle.patch_features.specs.declared.PatchedFeatures as features-done
@@ -128,18 +129,17 @@ boundaries-told {number} {novelty} {bounds} {own = own} p h =
 
 -- the four numbers that are lent, and what they then hold
 module _ {p q r s answer : ℕ} {lent : List ℕ} where
-  pub rows-told : {rows bins : ℕ} {was : tracks.MagnitudeTrack} {patch : Patch} {work : List Float} {own : rows-done.Patched} {now : tracks.MagnitudeTrack} {work′ : List Float}
-      → magnitudes.PatchMagnitudesPromise rows bins was patch work own now work′ → SlotsHanded (magnitudes.patchedSays own) (ranges p q r s) answer lent
-      → repairs.PhRowsPromise rows bins was patch work (ranges p q r s) answer now work′ lent
-  rows-told {rows} {bins} {was} {patch} {work} done h =
+  pub rows-told : {slab : Slab} {was : tracks.MagnitudeTrack} {patch : Patch} {work : List Float} {own : rows-done.Patched} {now : tracks.MagnitudeTrack} {work′ : List Float}
+      → magnitudes.PatchMagnitudesPromise slab was patch work own now work′ → SlotsHanded (magnitudes.patchedSays own) (ranges p q r s) answer lent
+      → repairs.PhRowsPromise slab was patch work (ranges p q r s) answer now work′ lent
+  rows-told {slab} {was} {patch} {work} done h =
       record {
-        handed = ranges-handed (tracks.patchNumber rows bins was patch (length work)) (patch .new) _ _ _ _ _ _ _ _ (done .answer-is) h;
+        handed = ranges-handed (tracks.patchNumber slab was patch (length work)) (patch .new) _ _ _ _ _ _ _ _ (done .answer-is) h;
         slices =
             record {
-              answer-is = rows-outcomes.answered-says _ rows bins patch;
+              answer-is = rows-outcomes.answered-says _ slab patch;
               track-is = done .track-is;
-              work-length = done .work-length;
-              work-keeps = done .work-keeps;
+              works = done .works;
             };
       }
 

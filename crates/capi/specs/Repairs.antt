@@ -3,8 +3,9 @@ use Prim.Native.Nat.{ℕ}
 use mathlib.Core.List.{List}
 use lib.ListN.{length}
 use lib.Ieee.{Float}
+use Rattle.numbers.specs.declared.Slab.{Slab}
 use Rattle.patches.specs.Patches.{Patch}
-use Rattle.patch_refusal.specs.Tracks as tracks
+use Rattle.patch_magnitudes.specs.Tracks as tracks
 use Rattle.patch_magnitudes.specs.Magnitudes as magnitudes
 use Rattle.patch_features.specs.Features as features
 use Rattle.capi_answers.specs.Handed.{Handed}
@@ -14,18 +15,18 @@ use Rattle.capi_answers.specs.Handed.{Handed}
 -- What `ph_patch_magnitudes` promises, of the number of `patch_magnitudes`: the four lent numbers are the slots named, and the slices are as that
 -- call leaves them.
 pub record RowsTold
-    (number rows bins : ℕ) (was : tracks.MagnitudeTrack) (patch : Patch) (work : List Float) (lent₀ : List ℕ)
+    (number : ℕ) (slab : Slab) (was : tracks.MagnitudeTrack) (patch : Patch) (work : List Float) (lent₀ : List ℕ)
     (answer : ℕ) (now : tracks.MagnitudeTrack) (work′ : List Float) (lent : List ℕ) : Type 0 where
-  pub handed : Handed number (magnitudes.rowsNamed rows bins patch) lent₀ answer lent
-  pub slices : magnitudes.PatchMagnitudesPromise rows bins was patch work (magnitudes.patchAnswered number rows bins patch) now work′
+  pub handed : Handed number (magnitudes.rowsNamed slab patch) lent₀ answer lent
+  pub slices : magnitudes.PatchMagnitudesPromise slab was patch work (magnitudes.patchAnswered number slab patch) now work′
 
-abbrev pub PhRowsPromise : (rows bins : ℕ) (was : tracks.MagnitudeTrack) (patch : Patch) (work : List Float) (lent₀ : List ℕ)
+abbrev pub PhRowsPromise : (slab : Slab) (was : tracks.MagnitudeTrack) (patch : Patch) (work : List Float) (lent₀ : List ℕ)
     (answer : ℕ) (now : tracks.MagnitudeTrack) (work′ : List Float) (lent : List ℕ) → Type 0
-PhRowsPromise rows bins was patch work = RowsTold (tracks.patchNumber rows bins was patch (length work)) rows bins was patch work
+PhRowsPromise slab was patch work = RowsTold (tracks.patchNumber slab was patch (length work)) slab was patch work
 
 -- the track that is lent
-abbrev pub rowsLent : (slab flux threshold : List Float) → tracks.MagnitudeTrack
-rowsLent slab flux threshold = tracks.magnitudeTrack slab flux threshold
+abbrev pub rowsLent : (magnitudes flux threshold : List Float) → tracks.MagnitudeTrack
+rowsLent magnitudes flux threshold = tracks.magnitudeTrack magnitudes flux threshold
 
 -- ---- features, in the same words
 

@@ -4,6 +4,7 @@ use mathlib.Core.Path.{_≡_}
 use mathlib.Core.List.{List}
 use lib.Ieee.{Float}
 use Rattle.numbers.specs.Lists.{curve, filled}
+use Rattle.numbers.specs.declared.Slab.{Slab}
 use Rattle.numbers.specs.Refusals.{unlessRefused}
 use Rattle.flux.specs.Flux.{fluxAt}
 use Rattle.options.specs.declared.TempoOpts.{TempoOpts}
@@ -27,12 +28,13 @@ PhEnvelopePromise env rate o was spare = TrackTold (envelopeNumber env rate o wa
 
 -- what `ph_analyse_magnitudes` promises: the flux, and the analysis of it
 pub record FluxTold
-    (number : ℕ) (magnitudes : List Float) (rows bins rate : ℕ) (o : TempoOpts) (flux : List Float) (was : Results) (spare : Spare) (lent₀ : TrackLent)
+    (number : ℕ) (magnitudes : List Float) (slab : Slab) (rate : ℕ) (o : TempoOpts) (flux : List Float) (was : Results) (spare : Spare) (lent₀ : TrackLent)
     (answer : ℕ) (flux′ : List Float) (after : Results) (left : Spare) (lent : TrackLent) : Type 0 where
-  pub fluxes : flux′ ≡ unlessRefused number (filled (fluxAt magnitudes bins) flux 0 rows) flux
-  pub track : TrackTold number (curve (fluxAt magnitudes bins) rows) rate o was spare lent₀ answer after left lent
+  pub fluxes : flux′ ≡ unlessRefused number (filled (fluxAt magnitudes slab) flux 0 (slab .rows)) flux
+  pub track : TrackTold number (curve (fluxAt magnitudes slab) (slab .rows)) rate o was spare lent₀ answer after left lent
 
-abbrev pub PhMagnitudesPromise : (magnitudes : List Float) (rows bins rate : ℕ) (o : TempoOpts) (flux : List Float) (was : Results) (spare : Spare) (lent₀ : TrackLent)
+abbrev pub PhMagnitudesPromise : (magnitudes : List Float) (slab : Slab) (rate : ℕ) (o : TempoOpts)
+    (flux : List Float) (was : Results) (spare : Spare) (lent₀ : TrackLent)
     (answer : ℕ) (flux′ : List Float) (after : Results) (left : Spare) (lent : TrackLent) → Type 0
-PhMagnitudesPromise magnitudes rows bins rate o flux was spare =
-    FluxTold (magnitudesNumber magnitudes rows bins rate o flux was spare) magnitudes rows bins rate o flux was spare
+PhMagnitudesPromise magnitudes slab rate o flux was spare =
+    FluxTold (magnitudesNumber magnitudes slab rate o flux was spare) magnitudes slab rate o flux was spare

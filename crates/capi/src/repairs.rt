@@ -1,6 +1,7 @@
 // `patch_magnitudes` and `patch_features`, for C.
 use capi_answers::repairs::put_features;
 use capi_answers::repairs::put_rows;
+ghost use Rattle.numbers.specs.Limits.{slabOf};
 ghost use Rattle.patches.specs.Patches.{patchOf, ranges};
 ghost use Rattle.capi.specs.Repairs.{rowsLent, PhRowsPromise, featuresLent, PhFeaturesPromise};
 
@@ -21,7 +22,7 @@ pub extern "C" fn ph_patch_magnitudes(
     threshold_past: &mut usize,
 ) -> u32
     ensures { λ r. ⌜
-        PhRowsPromise rows bins
+        PhRowsPromise (slabOf rows bins)
         (rowsLent (now (magnitudes .entry)) (now (flux .entry)) (now (threshold .entry))) (patchOf start (now («new_rows» .entry))) (now (work .entry))
         (ranges (now («flux_first» .entry)) (now («flux_past» .entry)) (now («threshold_first» .entry)) (now («threshold_past» .entry)))
         r (rowsLent (now (magnitudes .exit)) (now (flux .exit)) (now (threshold .exit))) (now (work .exit))

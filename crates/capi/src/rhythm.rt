@@ -1,9 +1,9 @@
 // The calls of crates flux, threshold and onsets, for C.
 use capi_answers::counts::counted;
 ghost use lib.ListN.{length};
-ghost use Rattle.numbers.specs.Lists.{filled};
+ghost use Rattle.numbers.specs.Limits.{slabOf};
 ghost use Rattle.numbers.specs.Outcomes.{Written};
-ghost use Rattle.flux.specs.Flux.{fluxAt, fluxRefusal};
+ghost use Rattle.flux.specs.Flux.{FluxPromise};
 ghost use Rattle.threshold.specs.Threshold.{ThresholdPromise};
 ghost use Rattle.onsets.specs.Peaks.{suppressed, suppressionRefusal};
 ghost use Rattle.onsets.specs.Onsets.{onsetsOf, onsetsRefusal, FrameTimesPromise};
@@ -17,7 +17,7 @@ pub extern "C" fn ph_spectral_flux(
     bins: usize,
     flux: &mut [f64],
 ) -> u32
-    ensures { λ r. ⌜ Written (fluxRefusal (now (magnitudes .entry)) rows bins (length (now (flux .entry)))) (filled (fluxAt (now (magnitudes .entry)) bins) (now (flux .entry)) 0 rows) (now (flux .entry)) r (now (flux .exit)) ⌝ }
+    ensures { λ r. ⌜ FluxPromise (now (magnitudes .entry)) (slabOf rows bins) (now (flux .entry)) r (now (flux .exit)) ⌝ }
 {
     flux::spectral_flux(magnitudes, rows, bins, flux)
 }

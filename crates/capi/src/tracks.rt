@@ -2,6 +2,7 @@
 use capi_answers::tracks::put_analysis;
 use capi_answers::tracks::put_room;
 use options::TempoOpts;
+ghost use Rattle.numbers.specs.Limits.{slabOf};
 ghost use Rattle.options.specs.Options.{optionsOf};
 ghost use Rattle.rooms.specs.Rooms.{results, spare, roomOf};
 ghost use Rattle.capi_answers.specs.Handed.{Handed};
@@ -132,7 +133,7 @@ pub extern "C" fn ph_analyse_magnitudes(
     beat_count: &mut usize,
     downbeat_count: &mut usize,
 ) -> u32
-    ensures { λ r. ⌜ PhMagnitudesPromise (now (magnitudes .entry)) rows bins rate (optionsOf «min_bpm» «max_bpm») (now (flux .entry)) (results (now (threshold .entry)) (now (onsets .entry)) (now («clarity_curve» .entry)) (now («weight_curve» .entry)) (now (score .entry)) (now (back .entry)) (now (beats .entry)) (now (downbeats .entry))) (spare (now («window_clarity» .entry)) (now («window_weight» .entry)) (now (work .entry))) (trackLent (now («onset_count» .entry)) (now (found .entry)) (now (bpm .entry)) (now (clarity .entry)) (now (lags .entry)) (now (saliences .entry)) (now (count .entry)) (now (steady .entry)) (now (fraction .entry)) (now (agreeing .entry)) (now (windows .entry)) (now («beat_count» .entry)) (now («downbeat_count» .entry))) r (now (flux .exit)) (results (now (threshold .exit)) (now (onsets .exit)) (now («clarity_curve» .exit)) (now («weight_curve» .exit)) (now (score .exit)) (now (back .exit)) (now (beats .exit)) (now (downbeats .exit))) (spare (now («window_clarity» .exit)) (now («window_weight» .exit)) (now (work .exit))) (trackLent (now («onset_count» .exit)) (now (found .exit)) (now (bpm .exit)) (now (clarity .exit)) (now (lags .exit)) (now (saliences .exit)) (now (count .exit)) (now (steady .exit)) (now (fraction .exit)) (now (agreeing .exit)) (now (windows .exit)) (now («beat_count» .exit)) (now («downbeat_count» .exit))) ⌝ }
+    ensures { λ r. ⌜ PhMagnitudesPromise (now (magnitudes .entry)) (slabOf rows bins) rate (optionsOf «min_bpm» «max_bpm») (now (flux .entry)) (results (now (threshold .entry)) (now (onsets .entry)) (now («clarity_curve» .entry)) (now («weight_curve» .entry)) (now (score .entry)) (now (back .entry)) (now (beats .entry)) (now (downbeats .entry))) (spare (now («window_clarity» .entry)) (now («window_weight» .entry)) (now (work .entry))) (trackLent (now («onset_count» .entry)) (now (found .entry)) (now (bpm .entry)) (now (clarity .entry)) (now (lags .entry)) (now (saliences .entry)) (now (count .entry)) (now (steady .entry)) (now (fraction .entry)) (now (agreeing .entry)) (now (windows .entry)) (now («beat_count» .entry)) (now («downbeat_count» .entry))) r (now (flux .exit)) (results (now (threshold .exit)) (now (onsets .exit)) (now («clarity_curve» .exit)) (now («weight_curve» .exit)) (now (score .exit)) (now (back .exit)) (now (beats .exit)) (now (downbeats .exit))) (spare (now («window_clarity» .exit)) (now («window_weight» .exit)) (now (work .exit))) (trackLent (now («onset_count» .exit)) (now (found .exit)) (now (bpm .exit)) (now (clarity .exit)) (now (lags .exit)) (now (saliences .exit)) (now (count .exit)) (now (steady .exit)) (now (fraction .exit)) (now (agreeing .exit)) (now (windows .exit)) (now («beat_count» .exit)) (now («downbeat_count» .exit))) ⌝ }
 {
     let answer = analysis::analyse_magnitudes(
         magnitudes,

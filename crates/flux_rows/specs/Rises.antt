@@ -6,6 +6,11 @@ use lib.ListN.{getD, drop}
 use lib.Ieee.{Float, nan}
 use Rattle.numbers.specs.Rounded.{_⊖_, positivePart}
 use Rattle.numbers.specs.Lists.{tab, row}
+use Rattle.numbers.specs.declared.Slab.{Slab}
+
+-- row t of a slab, the bins that its rise is summed over
+abbrev pub slabRow : List Float → Slab → (t : ℕ) → List Float
+slabRow magnitudes slab t = row magnitudes (slab .bins) t
 
 -- the positive part of each bin of a row minus the same bin of the row before it
 unfoldable pub rises : (before now : List Float) → List Float
@@ -24,8 +29,8 @@ abbrev pub partBins : ℕ
 partBins = 32
 
 -- the positive parts of a part of row t, and of all bins from bin i on
-abbrev pub risePart : List Float → (bins t i : ℕ) → List Float
-risePart magnitudes bins t i = tab (riseAt (row magnitudes bins (t - 1)) (row magnitudes bins t)) i partBins
+abbrev pub risePart : List Float → Slab → (t i : ℕ) → List Float
+risePart magnitudes slab t i = tab (riseAt (slabRow magnitudes slab (t - 1)) (slabRow magnitudes slab t)) i partBins
 
-abbrev pub riseRest : List Float → (bins t i : ℕ) → List Float
-riseRest magnitudes bins t i = rises (drop i (row magnitudes bins (t - 1))) (drop i (row magnitudes bins t))
+abbrev pub riseRest : List Float → Slab → (t i : ℕ) → List Float
+riseRest magnitudes slab t i = rises (drop i (slabRow magnitudes slab (t - 1))) (drop i (slabRow magnitudes slab t))

@@ -2,15 +2,16 @@
 //
 // Document 01, Onsets: what crate flux sums. The positive parts of thirty-two bins come first, where no bin waits for another, then the sums. Inner
 // calls: no caller of the library needs them.
+use numbers::Slab;
 ghost use mathlib.Core.Path.{_≡_};
 ghost use mathlib.Core.Bool.{true};
 ghost use Prim.Native.Nat.{_+_, _-_, _*_, _≤_, _<_};
 ghost use lib.ListN.{length, getD, drop};
 ghost use lib.Ieee.{nan};
 ghost use Rattle.numbers.specs.Rounded.{positivePart, sumFrom};
-ghost use Rattle.numbers.specs.Limits.{magnitudeFine};
-ghost use Rattle.numbers.specs.Lists.{tab, row, every};
-ghost use Rattle.flux_rows.specs.Rises.{rises, riseAt, partBins, risePart, riseRest};
+ghost use Rattle.numbers.specs.Limits.{magnitudeFine, slabSlots};
+ghost use Rattle.numbers.specs.Lists.{tab, every};
+ghost use Rattle.flux_rows.specs.Rises.{slabRow, rises, riseAt, partBins, risePart, riseRest};
 
 // Inner: as many bins of a row as are taken at a time.
 pub const PART: usize = 32;
@@ -30,12 +31,11 @@ pub fn part_room() -> [f64; PART]
     [0.0; PART]
 }
 
-// Inner: the sums of four rows, so many rows apart, that run on over a part of them, from bin `from` on.
+// Inner: adds bins from .. from+31 of rows t, t+apart, t+2·apart, t+3·apart to their four running sums; a to d are scratch.
 pub fn rise_part(
     f: Four,
-    slab: &[f32],
-    rows: usize,
-    bins: usize,
+    magnitudes: &[f32],
+    slab: Slab,
     t: usize,
     apart: usize,
     from: usize,
@@ -44,51 +44,60 @@ pub fn rise_part(
     c: &mut [f64],
     d: &mut [f64],
 ) -> Four
-    requires { ⌜ length (now slab) ≡ rows * bins ⌝ }
-    requires { ⌜ every magnitudeFine (now slab) ≡ true ⌝ }
-    requires { ⌜ (1 ≤ t) × (t + 3 * apart < rows) × (from + partBins ≤ bins) ⌝ }
+    requires { ⌜ length (now magnitudes) ≡ slabSlots slab ⌝ }
+    requires { ⌜ every magnitudeFine (now magnitudes) ≡ true ⌝ }
+    requires { ⌜ (1 ≤ t) × (t + 3 * apart < slab .rows) × (from + partBins ≤ slab .bins) ⌝ }
     requires { ⌜ (length (now a) ≡ partBins) × (length (now b) ≡ partBins) × (length (now c) ≡ partBins) × (length (now d) ≡ partBins) ⌝ }
-    ensures { λ z. ⌜ (z .a ≡ sumFrom (f .a) (risePart (now (slab .entry)) bins t from)) × (z .b ≡ sumFrom (f .b) (risePart (now (slab .entry)) bins (t + apart) from)) × (z .c ≡ sumFrom (f .c) (risePart (now (slab .entry)) bins (t + 2 * apart) from)) × (z .d ≡ sumFrom (f .d) (risePart (now (slab .entry)) bins (t + 3 * apart) from)) ⌝ }
+    ensures { λ z. ⌜
+        (z .a ≡ sumFrom (f .a) (risePart (now (magnitudes .entry)) slab t from))
+        × (z .b ≡ sumFrom (f .b) (risePart (now (magnitudes .entry)) slab (t + apart) from))
+        × (z .c ≡ sumFrom (f .c) (risePart (now (magnitudes .entry)) slab (t + 2 * apart) from))
+        × (z .d ≡ sumFrom (f .d) (risePart (now (magnitudes .entry)) slab (t + 3 * apart) from))
+        ⌝ }
 {
-    lift_at(slab, rows, bins, t, from, a);
-    lift_at(slab, rows, bins, t + apart, from, b);
-    lift_at(slab, rows, bins, t + 2 * apart, from, c);
-    lift_at(slab, rows, bins, t + 3 * apart, from, d);
+    lift_at(magnitudes, slab, t, from, a);
+    lift_at(magnitudes, slab, t + apart, from, b);
+    lift_at(magnitudes, slab, t + 2 * apart, from, c);
+    lift_at(magnitudes, slab, t + 3 * apart, from, d);
     add_parts(f, a, b, c, d)
 }
 
 // Inner: the sums of four rows, so many rows apart, that run on from bin `from` to the end.
 pub fn rise_rest(
     f: Four,
-    slab: &[f32],
-    rows: usize,
-    bins: usize,
+    magnitudes: &[f32],
+    slab: Slab,
     t: usize,
     apart: usize,
     from: usize,
 ) -> Four
-    requires { ⌜ length (now slab) ≡ rows * bins ⌝ }
-    requires { ⌜ every magnitudeFine (now slab) ≡ true ⌝ }
-    requires { ⌜ (1 ≤ t) × (t + 3 * apart < rows) × (from ≤ bins) ⌝ }
-    ensures { λ z. ⌜ (z .a ≡ sumFrom (f .a) (riseRest (now (slab .entry)) bins t from)) × (z .b ≡ sumFrom (f .b) (riseRest (now (slab .entry)) bins (t + apart) from)) × (z .c ≡ sumFrom (f .c) (riseRest (now (slab .entry)) bins (t + 2 * apart) from)) × (z .d ≡ sumFrom (f .d) (riseRest (now (slab .entry)) bins (t + 3 * apart) from)) ⌝ }
+    requires { ⌜ length (now magnitudes) ≡ slabSlots slab ⌝ }
+    requires { ⌜ every magnitudeFine (now magnitudes) ≡ true ⌝ }
+    requires { ⌜ (1 ≤ t) × (t + 3 * apart < slab .rows) × (from ≤ slab .bins) ⌝ }
+    ensures { λ z. ⌜
+        (z .a ≡ sumFrom (f .a) (riseRest (now (magnitudes .entry)) slab t from))
+        × (z .b ≡ sumFrom (f .b) (riseRest (now (magnitudes .entry)) slab (t + apart) from))
+        × (z .c ≡ sumFrom (f .c) (riseRest (now (magnitudes .entry)) slab (t + 2 * apart) from))
+        × (z .d ≡ sumFrom (f .d) (riseRest (now (magnitudes .entry)) slab (t + 3 * apart) from))
+        ⌝ }
 {
     Four {
-        a: rise_at(slab, rows, bins, t, from, f.a),
-        b: rise_at(slab, rows, bins, t + apart, from, f.b),
-        c: rise_at(slab, rows, bins, t + 2 * apart, from, f.c),
-        d: rise_at(slab, rows, bins, t + 3 * apart, from, f.d),
+        a: rise_at(magnitudes, slab, t, from, f.a),
+        b: rise_at(magnitudes, slab, t + apart, from, f.b),
+        c: rise_at(magnitudes, slab, t + 2 * apart, from, f.c),
+        d: rise_at(magnitudes, slab, t + 3 * apart, from, f.d),
     }
 }
 
 // Inner: the sum of row t over the row before it, run on from bin `from`.
-pub fn rise_at(slab: &[f32], rows: usize, bins: usize, t: usize, from: usize, sum: f64) -> f64
-    requires { ⌜ length (now slab) ≡ rows * bins ⌝ }
-    requires { ⌜ every magnitudeFine (now slab) ≡ true ⌝ }
-    requires { ⌜ (1 ≤ t) × (t < rows) × (from ≤ bins) ⌝ }
-    ensures { λ r. ⌜ r ≡ sumFrom sum (riseRest (now (slab .entry)) bins t from) ⌝ }
+pub fn rise_at(magnitudes: &[f32], slab: Slab, t: usize, from: usize, sum: f64) -> f64
+    requires { ⌜ length (now magnitudes) ≡ slabSlots slab ⌝ }
+    requires { ⌜ every magnitudeFine (now magnitudes) ≡ true ⌝ }
+    requires { ⌜ (1 ≤ t) × (t < slab .rows) × (from ≤ slab .bins) ⌝ }
+    ensures { λ r. ⌜ r ≡ sumFrom sum (riseRest (now (magnitudes .entry)) slab t from) ⌝ }
 {
-    let prev = row_at(slab, rows, bins, t - 1);
-    let cur = row_at(slab, rows, bins, t);
+    let prev = row_at(magnitudes, slab, t - 1);
+    let cur = row_at(magnitudes, slab, t);
     rise(prev, cur, from, sum)
 }
 
@@ -109,14 +118,17 @@ fn rise(prev: &[f32], cur: &[f32], from: usize, sum: f64) -> f64
 }
 
 // The positive parts of row t over the row before it, from bin `from` on.
-fn lift_at(slab: &[f32], rows: usize, bins: usize, t: usize, from: usize, part: &mut [f64])
-    requires { ⌜ length (now slab) ≡ rows * bins ⌝ }
-    requires { ⌜ every magnitudeFine (now slab) ≡ true ⌝ }
-    requires { ⌜ (1 ≤ t) × (t < rows) × (from + length (now part) ≤ bins) ⌝ }
-    ensures { λ _. ⌜ now (part .exit) ≡ tab (riseAt (row (now (slab .entry)) bins (t - 1)) (row (now (slab .entry)) bins t)) from (length (now (part .entry))) ⌝ }
+fn lift_at(magnitudes: &[f32], slab: Slab, t: usize, from: usize, part: &mut [f64])
+    requires { ⌜ length (now magnitudes) ≡ slabSlots slab ⌝ }
+    requires { ⌜ every magnitudeFine (now magnitudes) ≡ true ⌝ }
+    requires { ⌜ (1 ≤ t) × (t < slab .rows) × (from + length (now part) ≤ slab .bins) ⌝ }
+    ensures { λ _. ⌜
+        now (part .exit) ≡
+        tab (riseAt (slabRow (now (magnitudes .entry)) slab (t - 1)) (slabRow (now (magnitudes .entry)) slab t)) from (length (now (part .entry)))
+        ⌝ }
 {
-    let prev = row_at(slab, rows, bins, t - 1);
-    let cur = row_at(slab, rows, bins, t);
+    let prev = row_at(magnitudes, slab, t - 1);
+    let cur = row_at(magnitudes, slab, t);
     lift(prev, cur, from, part);
 }
 
@@ -137,7 +149,12 @@ fn lift(prev: &[f32], cur: &[f32], from: usize, part: &mut [f64])
 // Four sums that run on, each over its own slots.
 fn add_parts(f: Four, a: &[f64], b: &[f64], c: &[f64], d: &[f64]) -> Four
     requires { ⌜ (length (now b) ≡ length (now a)) × (length (now c) ≡ length (now a)) × (length (now d) ≡ length (now a)) ⌝ }
-    ensures { λ z. ⌜ (z .a ≡ sumFrom (f .a) (now (a .entry))) × (z .b ≡ sumFrom (f .b) (now (b .entry))) × (z .c ≡ sumFrom (f .c) (now (c .entry))) × (z .d ≡ sumFrom (f .d) (now (d .entry))) ⌝ }
+    ensures { λ z. ⌜
+        (z .a ≡ sumFrom (f .a) (now (a .entry)))
+        × (z .b ≡ sumFrom (f .b) (now (b .entry)))
+        × (z .c ≡ sumFrom (f .c) (now (c .entry)))
+        × (z .d ≡ sumFrom (f .d) (now (d .entry)))
+        ⌝ }
 {
     let mut sums = f;
     let mut k = 0;
@@ -154,12 +171,12 @@ fn add_parts(f: Four, a: &[f64], b: &[f64], c: &[f64], d: &[f64]) -> Four
 }
 
 // Row t, by the frame reader.
-fn row_at(slab: &[f32], rows: usize, bins: usize, t: usize) -> &[f32]
-    requires { ⌜ length (now slab) ≡ rows * bins ⌝ }
-    requires { ⌜ t < rows ⌝ }
-    ensures { λ r. ⌜ now r ≡ row (now (slab .entry)) bins t ⌝ }
+fn row_at(magnitudes: &[f32], slab: Slab, t: usize) -> &[f32]
+    requires { ⌜ length (now magnitudes) ≡ slabSlots slab ⌝ }
+    requires { ⌜ t < slab .rows ⌝ }
+    ensures { λ r. ⌜ now r ≡ slabRow (now (magnitudes .entry)) slab t ⌝ }
 {
-    frames::row_of(slab, bins, t)
+    frames::row_of(magnitudes, slab.bins, t)
 }
 
 fn positive_part(x: f64) -> f64

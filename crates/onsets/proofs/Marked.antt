@@ -5,6 +5,7 @@ use mathlib.Core.Path.{_≡_, refl}
 use Prim.Native.Nat.{ℕ}
 use lib.Dec.{eqb}
 use lib.Ieee.{Float, add, sub, mul, div, neg, lt, le, ofInt, ofBits, toBits}
+use Rattle.numbers.specs.Limits.{slabOf}
 use Rattle.numbers.specs.Lists.{curve, row, around}
 use Rattle.numbers.specs.Rounded.{nought, real, pick, sumFrom, positivePart}
 use Rattle.floats.specs.TotalOrder.{key, turned}
@@ -37,7 +38,7 @@ gap-48000 = refl
 -- "Shape (4, 1) with 0, 0, 5, 0": the onset is frame 2
 pub example-onsets :
     let s = map real (0 ∷ 0 ∷ 5 ∷ 0 ∷ []) in
-    let flux = curve (fluxAt s 1) 4 in
+    let flux = curve (fluxAt s (slabOf 4 1)) 4 in
     onsetsOf flux (curve (thresholdAt flux) 4) 48000 ≡ 2 ∷ []
 unfolding onsetsOf peaksOf those isPeak suppressed bests gapOf ceilOf thresholdAt thresholdOf around medianOf madOf sort insert distance absolute key turned fluxAt rises row sumFrom positivePart ofInt ofBits toBits add sub mul div neg lt le
 example-onsets = refl

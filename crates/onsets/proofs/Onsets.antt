@@ -12,9 +12,11 @@ use lib.ListN.{length, getD, length-map, List·getD-map}
 use lib.Seq.{ext-getD}
 use Rattle.numbers.proofs.Everys.{every-at}
 use Rattle.numbers.proofs.Tabs.{length-tab, getD-curve, filled-whole}
+use Rattle.numbers.proofs.Slabs.{slab-fits}
 use Rattle.numbers.proofs.Tests.{and-left, and-right, and-both, lowest-zero, lowest-0}
 use Rattle.numbers.specs.Limits.{mostRows, mostFrame, rateFine, valueFine, frameFine}
 use Rattle.numbers.specs.Lists.{every, curve, filled, listed, ascending}
+use Rattle.numbers.specs.declared.Slab.{Slab}
 use Rattle.flux.proofs.Fluxes.{FluxFine, flux-curve-within, flux-curve-fine}
 use Rattle.flux.specs.Flux.{fluxAt}
 use Rattle.threshold.proofs.Thresholds.{threshold-curve-fine}
@@ -116,30 +118,30 @@ times-told frames rate room e =
 -- ---- what one call writes the next one takes
 
 -- the flux of magnitudes that `spectral_flux` took
-module _ (s : List Float) (rows bins had : ℕ) (f : FluxFine s rows bins had) where
-  pub threshold-takes : (room work : ℕ) → rows ≤ room → windowRoom rows ≤ work → thresholdRefusal (curve (fluxAt s bins) rows) room work ≡ 0
+module _ (s : List Float) (slab : Slab) (had : ℕ) (f : FluxFine s slab had) where
+  pub threshold-takes : (room work : ℕ) → slab .rows ≤ room → windowRoom (slab .rows) ≤ work → thresholdRefusal (curve (fluxAt s slab) (slab .rows)) room work ≡ 0
   unfolding thresholdRefusal
   threshold-takes room work r w =
-      let l : length (curve (fluxAt s bins) rows) ≡ rows = length-tab (fluxAt s bins) 0 rows in
-      let n : length (curve (fluxAt s bins) rows) ≤ mostRows = omega (arith, f .rows-fit) in
-      let r′ : length (curve (fluxAt s bins) rows) ≤ room = omega arith in
-      let w′ : windowRoom (length (curve (fluxAt s bins) rows)) ≤ work = rw l w in
-      lowest-0 _ _ _ _ (le-leb _ _ n) refl (and-both _ _ (le-leb _ _ r′) (le-leb _ _ w′)) (flux-curve-fine s rows bins (f .fine) (f .bins-fit))
+      let l : length (curve (fluxAt s slab) (slab .rows)) ≡ slab .rows = length-tab (fluxAt s slab) 0 (slab .rows) in
+      let n : length (curve (fluxAt s slab) (slab .rows)) ≤ mostRows = omega (arith, slab-fits slab (f .shape) .rows-fit) in
+      let r′ : length (curve (fluxAt s slab) (slab .rows)) ≤ room = omega arith in
+      let w′ : windowRoom (length (curve (fluxAt s slab) (slab .rows))) ≤ work = rw l w in
+      lowest-0 _ _ _ _ (le-leb _ _ n) refl (and-both _ _ (le-leb _ _ r′) (le-leb _ _ w′)) (flux-curve-fine s slab (f .fine) (slab-fits slab (f .shape) .bins-fit))
 
   -- and its threshold
-  pub onsets-take : (rate room : ℕ) → rateFine rate ≡ true → rows ≤ room
-      → onsetsRefusal (curve (fluxAt s bins) rows) (curve (thresholdAt (curve (fluxAt s bins) rows)) rows) rate room ≡ 0
+  pub onsets-take : (rate room : ℕ) → rateFine rate ≡ true → slab .rows ≤ room
+      → onsetsRefusal (curve (fluxAt s slab) (slab .rows)) (curve (thresholdAt (curve (fluxAt s slab) (slab .rows))) (slab .rows)) rate room ≡ 0
   unfolding onsetsRefusal
   onsets-take rate room ok r =
-      let c = curve (fluxAt s bins) rows in
-      let l : length (curve (fluxAt s bins) rows) ≡ rows = length-tab (fluxAt s bins) 0 rows in
-      let m : length (curve (thresholdAt c) rows) ≡ length (curve (fluxAt s bins) rows) = length-tab (thresholdAt c) 0 rows ∙ sym l in
-      let n : length (curve (fluxAt s bins) rows) ≤ mostRows = omega (arith, f .rows-fit) in
-      let r′ : length (curve (fluxAt s bins) rows) ≤ room = omega arith in
-      let t : every valueFine (curve (thresholdAt c) rows) ≡ true =
-      ap (λ (k : ℕ). every valueFine (curve (thresholdAt c) k)) (sym l) ∙ threshold-curve-fine c (flux-curve-within s rows bins (f .fine) (f .bins-fit)) in
+      let c = curve (fluxAt s slab) (slab .rows) in
+      let l : length (curve (fluxAt s slab) (slab .rows)) ≡ slab .rows = length-tab (fluxAt s slab) 0 (slab .rows) in
+      let m : length (curve (thresholdAt c) (slab .rows)) ≡ length (curve (fluxAt s slab) (slab .rows)) = length-tab (thresholdAt c) 0 (slab .rows) ∙ sym l in
+      let n : length (curve (fluxAt s slab) (slab .rows)) ≤ mostRows = omega (arith, slab-fits slab (f .shape) .rows-fit) in
+      let r′ : length (curve (fluxAt s slab) (slab .rows)) ≤ room = omega arith in
+      let t : every valueFine (curve (thresholdAt c) (slab .rows)) ≡ true =
+      ap (λ (k : ℕ). every valueFine (curve (thresholdAt c) k)) (sym l) ∙ threshold-curve-fine c (flux-curve-within s slab (f .fine) (slab-fits slab (f .shape) .bins-fit)) in
       lowest-0 _ _ _ _ (and-both _ _ (le-leb _ _ n) ok) (eq-eqb _ _ m) (le-leb _ _ r′)
-      (and-both _ _ (flux-curve-fine s rows bins (f .fine) (f .bins-fit)) t)
+      (and-both _ _ (flux-curve-fine s slab (f .fine) (slab-fits slab (f .shape) .bins-fit)) t)
 
 -- onsets that `pick_onsets` listed
 pub times-take : (flux threshold : List Float) (rate room : ℕ) → length flux ≤ mostRows → rateFine rate ≡ true

@@ -6,6 +6,7 @@ use lib.Ieee.{Float}
 use lib.ListN.{length, take, drop}
 use Rattle.numbers.proofs.Tests.{refused-keeps}
 use Rattle.numbers.specs.Lists.{filled}
+use Rattle.numbers.specs.declared.Slab.{Slab}
 use Rattle.flux.specs.Flux.{fluxAt}
 use Rattle.threshold.specs.Threshold.{thresholdAt, windowRoom}
 use Rattle.patches.proofs.Wholes.{empty-keeps, full-does}
@@ -13,7 +14,7 @@ use Rattle.patches.proofs.Answers.{same-number, same-slots, some-slots, refused
 use Rattle.patches.specs.Patches.{Patch, edited, unlessEmpty, ranges, rangesNamed, returned}
 use Rattle.patch_magnitudes.specs.declared.Patched.{Patched}
 use Rattle.patch_magnitudes.specs.declared.Patched.the-variants.{Refused, Wrote}
-use Rattle.patch_refusal.specs.Tracks.{MagnitudeTrack, magnitudeTrack, patchNumber}
+use Rattle.patch_magnitudes.specs.Tracks.{MagnitudeTrack, magnitudeTrack, patchNumber}
 use Rattle.patch_magnitudes.specs.Magnitudes.{
   fluxPast,
   thresholdFirst,
@@ -41,60 +42,57 @@ wrote-says : (a b c d : ℕ) (new : List Float) → patchedSays (unlessEmpty new
 wrote-says a b c d [] = refl
 wrote-says a b c d (x ∷ xs) = refl
 
-pub answered-says : (n rows bins : ℕ) (patch : Patch) → patchedSays (patchAnswered n rows bins patch) ≡ returned n (rowsNamed rows bins patch)
+pub answered-says : (n : ℕ) (slab : Slab) (patch : Patch) → patchedSays (patchAnswered n slab patch) ≡ returned n (rowsNamed slab patch)
 unfolding patchAnswered
-answered-says zero rows bins patch = wrote-says _ _ _ _ (patch .new)
-answered-says (suc k) rows bins patch = refl
+answered-says zero slab patch = wrote-says _ _ _ _ (patch .new)
+answered-says (suc k) slab patch = refl
 
-pub is-answered : {rows bins : ℕ} {was : MagnitudeTrack} {patch : Patch} {work : List Float} {answer : Patched} {now : MagnitudeTrack} {work′ : List Float}
-    → PatchMagnitudesPromise rows bins was patch work answer now work′ → answer ≡ patchAnswered (patchNumber rows bins was patch (length work)) rows bins patch
-is-answered {rows} {bins} {patch = patch} done = says-one _ _ (done .answer-is ∙ sym (answered-says _ rows bins patch))
+pub is-answered : {slab : Slab} {was : MagnitudeTrack} {patch : Patch} {work : List Float} {answer : Patched} {now : MagnitudeTrack} {work′ : List Float}
+    → PatchMagnitudesPromise slab was patch work answer now work′ → answer ≡ patchAnswered (patchNumber slab was patch (length work)) slab patch
+is-answered {slab} {patch = patch} done = says-one _ _ (done .answer-is ∙ sym (answered-says _ slab patch))
 
-module _ (rows bins : ℕ) (was : MagnitudeTrack) (patch : Patch) (work : List Float) where
+module _ (slab : Slab) (was : MagnitudeTrack) (patch : Patch) (work : List Float) where
   abbrev number : ℕ
-  number = patchNumber rows bins was patch (length work)
+  number = patchNumber slab was patch (length work)
 
-  pub refused : (k : ℕ) → k ≡ number → (k ≡ 0 → ⊥) → PatchMagnitudesPromise rows bins was patch work (Refused k) was work
+  pub refused : (k : ℕ) → k ≡ number → (k ≡ 0 → ⊥) → PatchMagnitudesPromise slab was patch work (Refused k) was work
   unfolding after
   refused k e h =
       record {
-        answer-is = refused-returns k (rowsNamed rows bins patch) h ∙ ap (λ (n : ℕ). returned n (rowsNamed rows bins patch)) e;
+        answer-is = refused-returns k (rowsNamed slab patch) h ∙ ap (λ (n : ℕ). returned n (rowsNamed slab patch)) e;
         track-is = sym (refused-keeps number _ was (λ z. h (e ∙ z)));
-        work-length = refl;
-        work-keeps = refl;
+        works = record { same-length = refl; kept = refl };
       }
 
   module _ (none : number ≡ 0) where
-    pub empty : length (patch .new) ≡ 0 → PatchMagnitudesPromise rows bins was patch work (Wrote 0 0 0 0) was work
+    pub empty : length (patch .new) ≡ 0 → PatchMagnitudesPromise slab was patch work (Wrote 0 0 0 0) was work
     unfolding after
     empty e =
         record {
           answer-is = rw (none, empty-keeps _ (ranges 0 0 0 0) (patch .new) e);
           track-is = rw none (sym (empty-keeps _ was (patch .new) e));
-          work-length = refl;
-          work-keeps = refl;
+          works = record { same-length = refl; kept = refl };
         }
 
     -- the slots and curves are given as the code finds them
-    pub wrote : (length (patch .new) ≡ 0 → ⊥) → (fp tf tp : ℕ) → fp ≡ fluxPast rows bins patch → tf ≡ thresholdFirst patch → tp ≡ thresholdPast rows bins patch
-        → (m f t work′ : List Float) → m ≡ edited bins (was .magnitudes) patch → f ≡ filled (fluxAt m bins) (was .flux) (patch .start) fp
-        → t ≡ filled (thresholdAt (take rows f)) (was .threshold) tf tp → length work′ ≡ length work → drop (windowRoom rows) work′ ≡ drop (windowRoom rows) work
-        → PatchMagnitudesPromise rows bins was patch work (Wrote (patch .start) fp tf tp) (magnitudeTrack m f t) work′
+    pub wrote : (length (patch .new) ≡ 0 → ⊥) → (fp tf tp : ℕ) → fp ≡ fluxPast slab patch → tf ≡ thresholdFirst patch → tp ≡ thresholdPast slab patch
+        → (m f t work′ : List Float) → m ≡ edited (slab .bins) (was .magnitudes) patch → f ≡ filled (fluxAt m slab) (was .flux) (patch .start) fp
+        → t ≡ filled (thresholdAt (take (slab .rows) f)) (was .threshold) tf tp → length work′ ≡ length work → drop (windowRoom (slab .rows)) work′ ≡ drop (windowRoom (slab .rows)) work
+        → PatchMagnitudesPromise slab was patch work (Wrote (patch .start) fp tf tp) (magnitudeTrack m f t) work′
     unfolding after mended mendedFlux mendedThreshold patchSortedIn
     wrote some fp tf tp a b c m f t work′ em ef et l k =
         record {
           answer-is = rw (none, a, b, c, full-does _ (ranges 0 0 0 0) (patch .new) some);
           track-is = rw (none, et, ef, em, a, b, c) (sym (full-does _ was (patch .new) some));
-          work-length = l;
-          work-keeps = rw (none, full-does (windowRoom rows) 0 (patch .new) some) k;
+          works = record { same-length = l; kept = rw (none, full-does (windowRoom (slab .rows)) 0 (patch .new) some) k };
         }
 
   -- any two outcomes coincide, but for the slots that are sorted in
-  pub unique : {a b : Patched} {x y : MagnitudeTrack} {v w : List Float} → PatchMagnitudesPromise rows bins was patch work a x v → PatchMagnitudesPromise rows bins was patch work b y w
-      → (a ≡ b) × (x ≡ y) × (length v ≡ length w) × (drop (patchSortedIn number rows patch) v ≡ drop (patchSortedIn number rows patch) w)
+  pub unique : {a b : Patched} {x y : MagnitudeTrack} {v w : List Float} → PatchMagnitudesPromise slab was patch work a x v → PatchMagnitudesPromise slab was patch work b y w
+      → (a ≡ b) × (x ≡ y) × (length v ≡ length w) × (drop (patchSortedIn number (slab .rows) patch) v ≡ drop (patchSortedIn number (slab .rows) patch) w)
   unique p q = (
     says-one _ _ (p .answer-is ∙ sym (q .answer-is)),
     p .track-is ∙ sym (q .track-is),
-    p .work-length ∙ sym (q .work-length),
-    p .work-keeps ∙ sym (q .work-keeps),
+    p .works .same-length ∙ sym (q .works .same-length),
+    p .works .kept ∙ sym (q .works .kept),
   )

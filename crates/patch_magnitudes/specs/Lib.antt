@@ -1,2 +1,3 @@
+pub mod Tracks
 pub mod Magnitudes
 pub mod Runs

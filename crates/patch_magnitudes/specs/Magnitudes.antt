@@ -4,14 +4,16 @@
 use Prim.Native.Nat.{ℕ, zero, suc, _+_, _-_, min}
 use mathlib.Core.Path.{_≡_}
 use mathlib.Core.List.{List, []}
-use lib.ListN.{length, take, drop}
+use lib.ListN.{length, take}
 use lib.Ieee.{Float}
 use Rattle.numbers.specs.Lists.{filled}
 use Rattle.numbers.specs.Refusals.{unlessRefused}
+use Rattle.numbers.specs.Outcomes.{Open}
+use Rattle.numbers.specs.declared.Slab.{Slab}
 use Rattle.flux.specs.Flux.{fluxAt}
 use Rattle.threshold.specs.Threshold.{reach, thresholdAt, windowRoom}
 use Rattle.patches.specs.Patches.{Patch, pastRow, edited, unlessEmpty, ranges, rangesNamed, returned}
-use Rattle.patch_refusal.specs.Tracks.{MagnitudeTrack, magnitudeTrack, patchNumber}
+use Rattle.patch_magnitudes.specs.Tracks.{MagnitudeTrack, magnitudeTrack, patchNumber}
 use Rattle.patch_magnitudes.specs.declared.Patched.{Patched}
 use Rattle.patch_magnitudes.specs.declared.Patched.the-variants.{Refused, Wrote}
 
@@ -20,31 +22,31 @@ use Rattle.patch_magnitudes.specs.declared.Patched.the-variants.{Refused
 abbrev pub fluxFirst : Patch → ℕ
 fluxFirst patch = patch .start
 
-abbrev pub fluxPast : (rows bins : ℕ) → Patch → ℕ
-fluxPast rows bins patch = min (pastRow bins patch + 1) rows
+abbrev pub fluxPast : Slab → Patch → ℕ
+fluxPast slab patch = min (pastRow (slab .bins) patch + 1) (slab .rows)
 
 abbrev pub thresholdFirst : Patch → ℕ
 thresholdFirst patch = patch .start - reach
 
-abbrev pub thresholdPast : (rows bins : ℕ) → Patch → ℕ
-thresholdPast rows bins patch = min (pastRow bins patch + reach + 1) rows
+abbrev pub thresholdPast : Slab → Patch → ℕ
+thresholdPast slab patch = min (pastRow (slab .bins) patch + reach + 1) (slab .rows)
 
 -- ---- what they hold
 
 -- the flux curve with its slots written from the edited rows
-unfoldable pub mendedFlux : (rows bins : ℕ) → MagnitudeTrack → Patch → List Float
-mendedFlux rows bins was patch =
-    filled (fluxAt (edited bins (was .magnitudes) patch) bins) (was .flux) (fluxFirst patch) (fluxPast rows bins patch)
+unfoldable pub mendedFlux : Slab → MagnitudeTrack → Patch → List Float
+mendedFlux slab was patch =
+    filled (fluxAt (edited (slab .bins) (was .magnitudes) patch) slab) (was .flux) (fluxFirst patch) (fluxPast slab patch)
 
 -- the threshold curve with its slots written "from the lent flux as it then stands", of which the first N slots are the curve
-unfoldable pub mendedThreshold : (rows bins : ℕ) → MagnitudeTrack → Patch → List Float
-mendedThreshold rows bins was patch =
-    filled (thresholdAt (take rows (mendedFlux rows bins was patch))) (was .threshold) (thresholdFirst patch) (thresholdPast rows bins patch)
+unfoldable pub mendedThreshold : Slab → MagnitudeTrack → Patch → List Float
+mendedThreshold slab was patch =
+    filled (thresholdAt (take (slab .rows) (mendedFlux slab was patch))) (was .threshold) (thresholdFirst patch) (thresholdPast slab patch)
 
 -- what a patch that has rows makes of the track
-unfoldable pub mended : (rows bins : ℕ) → MagnitudeTrack → Patch → MagnitudeTrack
-mended rows bins was patch =
-    magnitudeTrack (edited bins (was .magnitudes) patch) (mendedFlux rows bins was patch) (mendedThreshold rows bins was patch)
+unfoldable pub mended : Slab → MagnitudeTrack → Patch → MagnitudeTrack
+mended slab was patch =
+    magnitudeTrack (edited (slab .bins) (was .magnitudes) patch) (mendedFlux slab was patch) (mendedThreshold slab was patch)
 
 -- ---- the call
 
@@ -55,32 +57,31 @@ patchedSays (Refused k) = (k, [])
 patchedSays (Wrote fluxFrom fluxTo thresholdFrom thresholdTo) = (0, ranges fluxFrom fluxTo thresholdFrom thresholdTo)
 
 -- the slots that a patch names
-abbrev pub rowsNamed : (rows bins : ℕ) → Patch → List ℕ
-rowsNamed rows bins patch =
-    rangesNamed (patch .new) (ranges (fluxFirst patch) (fluxPast rows bins patch) (thresholdFirst patch) (thresholdPast rows bins patch))
+abbrev pub rowsNamed : Slab → Patch → List ℕ
+rowsNamed slab patch =
+    rangesNamed (patch .new) (ranges (fluxFirst patch) (fluxPast slab patch) (thresholdFirst patch) (thresholdPast slab patch))
 
 -- Inner: the one answer with this number that says so (`is-answered`, proofs/Outcomes)
-unfoldable pub patchAnswered : (number rows bins : ℕ) → Patch → Patched
-patchAnswered zero rows bins patch =
-    unlessEmpty (patch .new) (Wrote (fluxFirst patch) (fluxPast rows bins patch) (thresholdFirst patch) (thresholdPast rows bins patch))
+unfoldable pub patchAnswered : (number : ℕ) → Slab → Patch → Patched
+patchAnswered zero slab patch =
+    unlessEmpty (patch .new) (Wrote (fluxFirst patch) (fluxPast slab patch) (thresholdFirst patch) (thresholdPast slab patch))
     (Wrote 0 0 0 0)
-patchAnswered (suc k) rows bins patch = Refused (suc k)
+patchAnswered (suc k) slab patch = Refused (suc k)
 
 -- the track afterwards: a refusal and an empty patch change nothing
-unfoldable pub after : (rows bins : ℕ) → MagnitudeTrack → Patch → (room : ℕ) → MagnitudeTrack
-after rows bins was patch room =
-    unlessRefused (patchNumber rows bins was patch room) (unlessEmpty (patch .new) (mended rows bins was patch) was) was
+unfoldable pub after : Slab → MagnitudeTrack → Patch → (room : ℕ) → MagnitudeTrack
+after slab was patch room =
+    unlessRefused (patchNumber slab was patch room) (unlessEmpty (patch .new) (mended slab was patch) was) was
 
 -- how many slots of the work slice, from its start on, may differ afterwards
 unfoldable pub patchSortedIn : (number rows : ℕ) → Patch → ℕ
 patchSortedIn number rows patch = unlessRefused number (unlessEmpty (patch .new) (windowRoom rows) 0) 0
 
--- What `patch_magnitudes` promises: its answer, and the track afterwards, each slot of it. Of the work slice, which is left open: it
--- keeps its length and its slots past the sorting room, and all of them where nothing is written.
-pub record PatchMagnitudesPromise (rows bins : ℕ) (was : MagnitudeTrack) (patch : Patch) (work : List Float) (answer : Patched) (now : MagnitudeTrack) (work′ : List Float) : Type 0 where
-  pub answer-is : patchedSays answer ≡ returned (patchNumber rows bins was patch (length work)) (rowsNamed rows bins patch)
-  pub track-is : now ≡ after rows bins was patch (length work)
-  pub work-length : length work′ ≡ length work
-  pub work-keeps :
-      drop (patchSortedIn (patchNumber rows bins was patch (length work)) rows patch) work′
-      ≡ drop (patchSortedIn (patchNumber rows bins was patch (length work)) rows patch) work
+-- What `patch_magnitudes` promises: its answer, and the track afterwards, each slot of it. Of the work slice the sorting room is left open,
+-- and none of it where nothing is written.
+pub record PatchMagnitudesPromise
+    (slab : Slab) (was : MagnitudeTrack) (patch : Patch) (work : List Float)
+    (answer : Patched) (now : MagnitudeTrack) (work′ : List Float) : Type 0 where
+  pub answer-is : patchedSays answer ≡ returned (patchNumber slab was patch (length work)) (rowsNamed slab patch)
+  pub track-is : now ≡ after slab was patch (length work)
+  pub works : Open (patchSortedIn (patchNumber slab was patch (length work)) (slab .rows) patch) work work′

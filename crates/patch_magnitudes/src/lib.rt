@@ -1,8 +1,13 @@
 // A repair of a track: some magnitude rows are replaced, and the flux and threshold curves are mended where that can change them.
 //
 // Document 01, Patching (added). The curves are then, bit for bit, those of a full run on the edited rows: proofs/Repairs.antt.
+mod mending; // mending.rt: what a patch writes
+mod refusal; // refusal.rt: which patches are refused
+
+use numbers::Slab;
+ghost use Rattle.numbers.specs.Limits.{slabOf};
 ghost use Rattle.patches.specs.Patches.{patchOf};
-ghost use Rattle.patch_refusal.specs.Tracks.{magnitudeTrack};
+ghost use Rattle.patch_magnitudes.specs.Tracks.{magnitudeTrack};
 ghost use Rattle.patch_magnitudes.specs.Magnitudes.{PatchMagnitudesPromise};
 
 // What a patch did: the number of its refusal, or the slots that it wrote of each curve, first and past-last.
@@ -32,15 +37,15 @@ pub fn patch_magnitudes(
     work: &mut [f64],
 ) -> Patched
     ensures { λ r. ⌜
-        PatchMagnitudesPromise rows bins
+        PatchMagnitudesPromise (slabOf rows bins)
         (magnitudeTrack (now (magnitudes .entry)) (now (flux .entry)) (now (threshold .entry))) (patchOf start (now (new .entry))) (now (work .entry))
         r (magnitudeTrack (now (magnitudes .exit)) (now (flux .exit)) (now (threshold .exit))) (now (work .exit))
         ⌝ }
 {
-    let number = patch_refusal::refusal(
+    let slab = Slab { rows, bins };
+    let number = refusal::refusal(
         magnitudes,
-        rows,
-        bins,
+        slab,
         start,
         new,
         flux,
@@ -59,7 +64,7 @@ pub fn patch_magnitudes(
         };
     }
     let count = new.len() / bins;
-    let flux_past = mending::mend_flux(magnitudes, rows, bins, start, count, new, flux);
+    let flux_past = mending::mend_flux(magnitudes, slab, start, count, new, flux);
     let slots = mending::mend_threshold(flux, rows, start, count, threshold, work);
     Patched::Wrote {
         flux_first: start,

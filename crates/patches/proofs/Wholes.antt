@@ -11,9 +11,41 @@ use lib.Dec.{leb, eqb}
 use lib.ListN.{length}
 use lib.Ieee.{Float}
 use Rattle.numbers.proofs.Tests.{and-left, and-right, and-both, and-held, lt-or-le}
-use Rattle.patches.specs.Patches.{endOf, wholeRows, unlessEmpty}
+use Rattle.patches.specs.Patches.{newRows, wholeRows, unlessEmpty}
 
--- what the test says
+-- what the test of the new rows says
+pub record NewRows (rows width start added : ℕ) : Type 0 where
+  pub new-whole : added ≡ added / width * width
+  pub inside : start + added / width ≤ rows
+
+pub new-told : (rows width start added : ℕ) → newRows rows width start added ≡ true → NewRows rows width start added
+unfolding newRows
+new-told rows width start added e =
+    record {
+      new-whole = omega (arith, div-add-mod' added width, eqb-true (added % width) 0 (and-left (eqb (added % width) 0) _ e));
+      inside = leb-true _ _ (and-right (eqb (added % width) 0) _ e);
+    }
+
+-- k rows that end inside pass it
+pub new-asked : (rows width start k : ℕ) → 1 ≤ width → start + k ≤ rows → newRows rows width start (k * width) ≡ true
+unfolding newRows
+new-asked rows width start k w h =
+    let d : k * width / width ≡ k = mul-div-cancel k w in
+    and-both (eqb (k * width % width) 0) _ (eq-eqb _ _ (mul-mod-left k width)) (le-leb (start + k * width / width) rows (omega arith))
+
+-- the last of its tests, as code makes it
+pub fits-left : (rows width start added : ℕ) → start ≤ rows → added % width ≡ 0 → leb (added / width) (rows - start) ≡ newRows rows width start added
+unfolding newRows
+fits-left rows width start added h z = go (added / width) ∙ and-held (eqb (added % width) 0) _ (eq-eqb _ _ z)
+  where
+    go : (k : ℕ) → leb k (rows - start) ≡ leb (start + k) rows
+    go k =
+        ⊎-elim
+        (λ (u : rows - start < k). lt-leb k (rows - start) u ∙ sym (lt-leb (start + k) rows (omega arith)))
+        (λ (u : k ≤ rows - start). le-leb k (rows - start) u ∙ sym (le-leb (start + k) rows (omega arith)))
+        (lt-or-le (rows - start) k)
+
+-- the same of the lent values too
 pub record Whole (slots rows width start added : ℕ) : Type 0 where
   pub whole : slots ≡ rows * width
   pub new-whole : added ≡ added / width * width
@@ -22,34 +54,12 @@ pub record Whole (slots rows width start added : ℕ) : Type 0 where
 pub whole-told : (slots rows width start added : ℕ) → wholeRows slots rows width start added ≡ true → Whole slots rows width start added
 unfolding wholeRows
 whole-told slots rows width start added e =
-    let t = and-right (eqb slots (rows * width)) _ e in
-    record {
-      whole = eqb-true _ _ (and-left (eqb slots (rows * width)) _ e);
-      new-whole = omega (arith, div-add-mod' added width, eqb-true (added % width) 0 (and-left (eqb (added % width) 0) _ t));
-      inside = leb-true _ _ (and-right (eqb (added % width) 0) _ t);
-    }
+    let t = new-told rows width start added (and-right (eqb slots (rows * width)) _ e) in
+    record { whole = eqb-true _ _ (and-left (eqb slots (rows * width)) _ e); new-whole = t .new-whole; inside = t .inside }
 
--- k rows that end inside pass it
 pub whole-asked : (slots rows width start k : ℕ) → 1 ≤ width → slots ≡ rows * width → start + k ≤ rows → wholeRows slots rows width start (k * width) ≡ true
 unfolding wholeRows
-whole-asked slots rows width start k w e h =
-    let d : k * width / width ≡ k = mul-div-cancel k w in
-    and-both (eqb slots (rows * width)) _ (eq-eqb _ _ e)
-    (and-both (eqb (k * width % width) 0) _ (eq-eqb _ _ (mul-mod-left k width)) (le-leb (start + k * width / width) rows (omega arith)))
-
--- the last of the three tests, as code makes it
-pub fits-left : (slots rows width start added : ℕ) → start ≤ rows → slots ≡ rows * width → added % width ≡ 0
-    → leb (added / width) (rows - start) ≡ wholeRows slots rows width start added
-unfolding wholeRows
-fits-left slots rows width start added h e z =
-    go (added / width) ∙ and-held (eqb (added % width) 0) _ (eq-eqb _ _ z) ∙ and-held (eqb slots (rows * width)) _ (eq-eqb _ _ e)
-  where
-    go : (k : ℕ) → leb k (rows - start) ≡ leb (start + k) rows
-    go k =
-        ⊎-elim
-        (λ (u : rows - start < k). lt-leb k (rows - start) u ∙ sym (lt-leb (start + k) rows (omega arith)))
-        (λ (u : k ≤ rows - start). le-leb k (rows - start) u ∙ sym (le-leb (start + k) rows (omega arith)))
-        (lt-or-le (rows - start) k)
+whole-asked slots rows width start k w e h = and-both (eqb slots (rows * width)) _ (eq-eqb _ _ e) (new-asked rows width start k w h)
 
 -- ---- an empty patch, and one with rows
 

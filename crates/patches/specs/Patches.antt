@@ -24,11 +24,13 @@ endOf start slots width = start + slots / width
 abbrev pub pastRow : (width : ℕ) → Patch → ℕ
 pastRow width patch = endOf (patch .start) (length (patch .new)) width
 
--- number 2 else: "a lent input's length isn't rows times width, or a patch isn't whole rows or runs past the end", of `slots` lent
--- values and a patch of `added` values
+-- number 2 else: "a patch isn't whole rows or runs past the end", of a patch of `added` values
+unfoldable pub newRows : (rows width start added : ℕ) → Bool
+newRows rows width start added = eqb (added % width) 0 && leb (endOf start added width) rows
+
+-- the same of `slots` lent values too: "a lent input's length isn't rows times width"
 unfoldable pub wholeRows : (slots rows width start added : ℕ) → Bool
-wholeRows slots rows width start added =
-    eqb slots (rows * width) && (eqb (added % width) 0 && leb (endOf start added width) rows)
+wholeRows slots rows width start added = eqb slots (rows * width) && newRows rows width start added
 
 -- "Copy in the rows"
 unfoldable pub edited : (width : ℕ) → List Float → Patch → List Float

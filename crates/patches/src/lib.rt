@@ -5,7 +5,18 @@ ghost use mathlib.Core.Path.{_≡_};
 ghost use Prim.Native.Nat.{_+_, _*_, _^_, _≤_, _<_};
 ghost use lib.ListN.{length};
 ghost use Rattle.numbers.specs.Lists.{over};
-ghost use Rattle.patches.specs.Patches.{wholeRows};
+ghost use Rattle.patches.specs.Patches.{newRows, wholeRows};
+
+// Inner: whether `added` values are whole rows, and those rows, put in from row `start` on, end inside the `rows` lent ones.
+pub fn new_rows(rows: usize, width: usize, start: usize, added: usize) -> bool
+    requires { ⌜ (1 ≤ width) × (start ≤ rows) ⌝ }
+    ensures { λ r. ⌜ r ≡ newRows rows width start added ⌝ }
+{
+    if added % width != 0 {
+        return false;
+    }
+    added / width <= rows - start
+}
 
 // Inner: whether `slots` lent values are `rows` rows, and the `added` ones are whole rows that end inside them.
 pub fn whole_rows(slots: usize, rows: usize, width: usize, start: usize, added: usize) -> bool
@@ -15,10 +26,7 @@ pub fn whole_rows(slots: usize, rows: usize, width: usize, start: usize, added: 
     if slots != rows * width {
         return false;
     }
-    if added % width != 0 {
-        return false;
-    }
-    added / width <= rows - start
+    new_rows(rows, width, start, added)
 }
 
 // Inner: writes the new magnitudes over the old ones from slot `at` on.

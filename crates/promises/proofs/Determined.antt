@@ -9,6 +9,7 @@ use denote.Ref.{RefT, now}
 use lib.Ieee.{Float, ofInt, ofBits}
 use lib.ListN.{length, drop}
 use Rattle.numbers.specs.Lists.{curve, listed}
+use Rattle.numbers.specs.declared.Slab.{Slab}
 use Rattle.numbers.specs.Refusals.{unlessRefused}
 use Rattle.numbers.specs.Rounded.{real}
 use Rattle.numbers.specs.declared.Listing.{Listing}
@@ -46,7 +47,7 @@ use Rattle.sections.specs.Outcomes.{workedIn, Found, RowTimesPromise}
 use Rattle.sections.specs.declared.Sections.{Sections}
 use Rattle.sections.proofs.Outcomes.{found-unique}
 use Rattle.patches.specs.Patches.{Patch}
-use Rattle.patch_refusal.specs.Tracks as tracks
+use Rattle.patch_magnitudes.specs.Tracks as tracks
 use Rattle.patch_magnitudes.specs.Magnitudes as magnitudes
 use Rattle.patch_magnitudes.specs.declared.Patched.{Patched}
 use Rattle.patch_magnitudes.proofs.Outcomes as magnitude-outcomes
@@ -199,11 +200,11 @@ pub boundaries : (number : ℕ) (curve : List Float) (bounds rows : List ℕ) (w
 boundaries number curve bounds rows work p q = (found-unique number curve bounds rows work p q, open-unique (p .works) (q .works) .0)
 
 -- `patch_magnitudes`: both ranges, the rows and both curves; and the work slice past the slots that are sorted in
-pub patch-magnitudes : (rows bins : ℕ) (was : tracks.MagnitudeTrack) (patch : Patch) (work : List Float) {a b : Patched} {x y : tracks.MagnitudeTrack} {v w : List Float}
-    → magnitudes.PatchMagnitudesPromise rows bins was patch work a x v → magnitudes.PatchMagnitudesPromise rows bins was patch work b y w
-    → let sorted = magnitudes.patchSortedIn (tracks.patchNumber rows bins was patch (length work)) rows patch in
+pub patch-magnitudes : (slab : Slab) (was : tracks.MagnitudeTrack) (patch : Patch) (work : List Float) {a b : Patched} {x y : tracks.MagnitudeTrack} {v w : List Float}
+    → magnitudes.PatchMagnitudesPromise slab was patch work a x v → magnitudes.PatchMagnitudesPromise slab was patch work b y w
+    → let sorted = magnitudes.patchSortedIn (tracks.patchNumber slab was patch (length work)) (slab .rows) patch in
     (a ≡ b) × (x ≡ y) × (length v ≡ length w) × (drop sorted v ≡ drop sorted w)
-patch-magnitudes rows bins was patch work p q = magnitude-outcomes.unique rows bins was patch work p q
+patch-magnitudes slab was patch work p q = magnitude-outcomes.unique slab was patch work p q
 
 -- `patch_features`: both ranges, the rows and both curves
 pub patch-features : (rows : ℕ) (was : features.FeatureTrack) (patch : Patch) {a b : PatchedFeatures} {x y : features.FeatureTrack}
@@ -227,11 +228,11 @@ analysis p q =
     )
 
 -- `analyse_magnitudes`: the flux too
-pub analysis-of-magnitudes : {m : List Float} {rows bins rate : ℕ} {o : TempoOpts} {flux : List Float} {was : Results} {lent : Spare}
+pub analysis-of-magnitudes : {m : List Float} {slab : Slab} {rate : ℕ} {o : TempoOpts} {flux : List Float} {was : Results} {lent : Spare}
     {a b : Analysis} {f g : List Float} {x y : Results} {s t : Spare}
-    → MagnitudesPromise m rows bins rate o flux was lent a f x s → MagnitudesPromise m rows bins rate o flux was lent b g y t
-    → let number = magnitudesNumber m rows bins rate o flux was lent in
-    let env = curve (fluxAt m bins) rows in
+    → MagnitudesPromise m slab rate o flux was lent a f x s → MagnitudesPromise m slab rate o flux was lent b g y t
+    → let number = magnitudesNumber m slab rate o flux was lent in
+    let env = curve (fluxAt m slab) (slab .rows) in
     (a ≡ b) × (f ≡ g) × (x ≡ y)
     × ((length (s .windowClarity) ≡ length (t .windowClarity)) × (drop (openLags number env rate o) (s .windowClarity) ≡ drop (openLags number env rate o) (t .windowClarity)))
     × ((length (s .windowWeight) ≡ length (t .windowWeight)) × (drop (openLags number env rate o) (s .windowWeight) ≡ drop (openLags number env rate o) (t .windowWeight)))

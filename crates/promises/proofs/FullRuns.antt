@@ -11,10 +11,12 @@ use Prim.Native.Nat.{ℕ, zero, suc, _≤_}
 use lib.Ieee.{Float}
 use lib.ListN.{length, take}
 use native.Mathlib.Omega.{arith}
+use borrow.Author.Tests.{eq-eqb}
 use Rattle.numbers.specs.Rounded.{pick}
 use Rattle.numbers.specs.Limits.{magnitudeFine}
 use Rattle.numbers.specs.Lists.{curve, filled, listed, every}
 use Rattle.numbers.specs.Refusals.{unlessRefused}
+use Rattle.numbers.specs.declared.Slab.{Slab}
 use Rattle.numbers.proofs.Tabs.{length-tab, length-filled, filled-first, listed-first}
 use Rattle.numbers.proofs.Tests.{passed-does}
 use Rattle.flux.specs.Flux.{fluxAt}
@@ -30,7 +32,7 @@ use Rattle.beats.specs.Grids.{grid, scoresOf, linksOf, gridOf}
 use Rattle.beats.proofs.Chains.{length-scores, length-links}
 use Rattle.rooms.specs.Rooms.{Results, Spare, frameSlots, lagSlots, lagsOf, analysisNumbersFine, roomOf, envelopeNumber, magnitudesNumber}
 use Rattle.rooms.specs.declared.Room.{Room}
-use Rattle.rooms.proofs.Numbers.{rows-fine, room-inside, magnitudes-0}
+use Rattle.rooms.proofs.Numbers.{room-inside, magnitudes-0}
 use Rattle.rooms.specs.Enough.{Enough}
 use Rattle.rooms.proofs.Rooms.{enough-suffices, ready-of, told, flux-taken}
 use Rattle.onsets.specs.Onsets.{onsetsIn}
@@ -38,7 +40,7 @@ use Rattle.track.specs.declared.Analysis.{Analysis}
 use Rattle.track.specs.Analyses.{periodIn, beatsIn, downbeatsIn, analysisOf, withoutAnalysis, writtenIn}
 use Rattle.analysis.specs.Analyses.{EnvelopePromise, MagnitudesPromise}
 use Rattle.analysis.proofs.Promises.{coincide, flux-is-the-envelope}
-use Rattle.patch_refusal.specs.Tracks.{MagnitudeTrack, magnitudeTrack}
+use Rattle.patch_magnitudes.specs.Tracks.{MagnitudeTrack, magnitudeTrack}
 use Rattle.patch_magnitudes.specs.Runs.{fluxCurve, thresholdCurve, Fresh, Sound, analysed, Ran, stays}
 use Rattle.patch_magnitudes.proofs.Repairs.{analysed-is-fresh, analysed-is-sound, calls-end-fresh, calls-keep-sound}
 use Rattle.promises.specs.Repaired.{
@@ -68,114 +70,108 @@ answered-number (suc n) env rate o a e = ap (λ (x : Analysis). x .number) e
 -- ---- what a full run leaves
 
 module _
-    (m : List Float) (rows bins rate : ℕ) (o : TempoOpts) (flux : List Float) (was : Results) (lent : Spare)
+    (m : List Float) (slab : Slab) (rate : ℕ) (o : TempoOpts) (flux : List Float) (was : Results) (lent : Spare)
     {a : Analysis} {f : List Float} {y : Results} {s : Spare} where
   -- its answer holds the number that what it was lent is given
-  pub full-run-number : MagnitudesPromise m rows bins rate o flux was lent a f y s → a .number ≡ magnitudesNumber m rows bins rate o flux was lent
-  full-run-number p = answered-number _ (curve (fluxAt m bins) rows) rate o a (p .analysed .answered)
+  pub full-run-number : MagnitudesPromise m slab rate o flux was lent a f y s → a .number ≡ magnitudesNumber m slab rate o flux was lent
+  full-run-number p = answered-number _ (curve (fluxAt m slab) (slab .rows)) rate o a (p .analysed .answered)
 
-  module _ (accepted : magnitudesNumber m rows bins rate o flux was lent ≡ 0) where
+  module _ (accepted : magnitudesNumber m slab rate o flux was lent ≡ 0) where
     -- where it isn't refused, its rows, with the flux and the threshold that it leaves, are one analysis from nothing:
-    pub full-run-is-analysed : MagnitudesPromise m rows bins rate o flux was lent a f y s
-        → magnitudeTrack m f (y .threshold) ≡ analysed rows bins (magnitudeTrack m flux (was .threshold))
+    pub full-run-is-analysed : MagnitudesPromise m slab rate o flux was lent a f y s
+        → magnitudeTrack m f (y .threshold) ≡ analysed slab (magnitudeTrack m flux (was .threshold))
     unfolding analysed fluxCurve writtenIn
     full-run-is-analysed p =
-        let env = curve (fluxAt m bins) rows in
-        let e : f ≡ filled (fluxAt m bins) flux 0 rows = p .fluxes ∙ passed-does _ _ _ accepted in
-        let t : y .threshold ≡ filled (thresholdAt env) (was .threshold) 0 rows =
+        let env = curve (fluxAt m slab) (slab .rows) in
+        let e : f ≡ filled (fluxAt m slab) flux 0 (slab .rows) = p .fluxes ∙ passed-does _ _ _ accepted in
+        let t : y .threshold ≡ filled (thresholdAt env) (was .threshold) 0 (slab .rows) =
         ap (λ (r : Results). r .threshold) (p .analysed .written ∙ passed-does _ (writtenIn env rate o was) _ accepted)
-        ∙ ap (filled (thresholdAt env) (was .threshold) 0) (length-tab (fluxAt m bins) 0 rows) in
-        ap (λ (x : List Float). magnitudeTrack m x (y .threshold)) e ∙ ap (magnitudeTrack m (filled (fluxAt m bins) flux 0 rows)) t
+        ∙ ap (filled (thresholdAt env) (was .threshold) 0) (length-tab (fluxAt m slab) 0 (slab .rows)) in
+        ap (λ (x : List Float). magnitudeTrack m x (y .threshold)) e ∙ ap (magnitudeTrack m (filled (fluxAt m slab) flux 0 (slab .rows))) t
 
     -- the curves are those that demand 2 gives the rows,
-    pub full-run-is-fresh : MagnitudesPromise m rows bins rate o flux was lent a f y s → Fresh rows bins (magnitudeTrack m f (y .threshold))
-    full-run-is-fresh p = rw (full-run-is-analysed p) (analysed-is-fresh rows bins (magnitudeTrack m flux (was .threshold)))
+    pub full-run-is-fresh : MagnitudesPromise m slab rate o flux was lent a f y s → Fresh slab (magnitudeTrack m f (y .threshold))
+    full-run-is-fresh p = rw (full-run-is-analysed p) (analysed-is-fresh slab (magnitudeTrack m flux (was .threshold)))
 
     -- and the track is one that the analysis accepts
-    pub full-run-is-sound : MagnitudesPromise m rows bins rate o flux was lent a f y s → Sound rows bins (magnitudeTrack m f (y .threshold))
+    pub full-run-is-sound : MagnitudesPromise m slab rate o flux was lent a f y s → Sound slab (magnitudeTrack m f (y .threshold))
     full-run-is-sound p =
-        let t = told m rows bins rate o flux was lent accepted in
+        let t = told m slab rate o flux was lent accepted in
         rw (full-run-is-analysed p)
-        (analysed-is-sound rows bins (magnitudeTrack m flux (was .threshold))
+        (analysed-is-sound slab (magnitudeTrack m flux (was .threshold))
         (record {
-          rows-fit = rows-fine rows rate o (t .numbers);
-          some-bins = t .some-bins;
-          bins-fit = t .bins-fit;
-          whole = t .whole;
-          fine = t .loud;
-          flux-room = t .fluxes;
+          shape = t .flux-takes .shape;
+          whole = t .flux-takes .whole;
+          fine = t .flux-takes .fine;
+          flux-room = t .flux-takes .has-room;
           threshold-room = t .room .threshold;
         }))
 
 -- ---- how a track begins, and what is done with it
 
 -- a call that writes the threshold of the first N slots of the flux of some rows leaves theirs, and was lent room for it
-module _ (rows bins : ℕ) (m flux : List Float) (is : take rows flux ≡ fluxCurve rows bins m) where
-  flux-long : length (take rows flux) ≡ rows
+module _ (slab : Slab) (m flux : List Float) (is : take (slab .rows) flux ≡ fluxCurve slab m) where
+  flux-long : length (take (slab .rows) flux) ≡ slab .rows
   unfolding fluxCurve
-  flux-long = ap length is ∙ length-tab (fluxAt m bins) 0 rows
+  flux-long = ap length is ∙ length-tab (fluxAt m slab) 0 (slab .rows)
 
-  filled-is-threshold : (lent : List Float) {threshold : List Float} → length (take rows flux) ≤ length lent
-      → threshold ≡ filled (thresholdAt (take rows flux)) lent 0 (length (take rows flux))
-      → (take rows threshold ≡ thresholdCurve rows bins m) × (rows ≤ length threshold)
+  filled-is-threshold : (lent : List Float) {threshold : List Float} → length (take (slab .rows) flux) ≤ length lent
+      → threshold ≡ filled (thresholdAt (take (slab .rows) flux)) lent 0 (length (take (slab .rows) flux))
+      → (take (slab .rows) threshold ≡ thresholdCurve slab m) × (slab .rows ≤ length threshold)
   unfolding thresholdCurve
   filled-is-threshold lent {threshold} room e =
-      let rule = thresholdAt (fluxCurve rows bins m) in
-      let r : rows ≤ length lent = rw flux-long at room in
-      let f : threshold ≡ filled rule lent 0 rows =
-      e ∙ ap (filled (thresholdAt (take rows flux)) lent 0) flux-long ∙ ap (λ (x : List Float). filled (thresholdAt x) lent 0 rows) is in
-      let l : length threshold ≡ length lent = ap length f ∙ length-filled rule lent 0 rows (omega arith) r in
-      (ap (take rows) f ∙ filled-first rule lent rows, omega arith)
+      let rule = thresholdAt (fluxCurve slab m) in
+      let r : slab .rows ≤ length lent = rw flux-long at room in
+      let f : threshold ≡ filled rule lent 0 (slab .rows) =
+      e ∙ ap (filled (thresholdAt (take (slab .rows) flux)) lent 0) flux-long ∙ ap (λ (x : List Float). filled (thresholdAt x) lent 0 (slab .rows)) is in
+      let l : length threshold ≡ length lent = ap length f ∙ length-filled rule lent 0 (slab .rows) (omega arith) r in
+      (ap (take (slab .rows)) f ∙ filled-first rule lent (slab .rows), omega arith)
 
-  thresholded-is : {threshold : List Float} → Thresholded (take rows flux) threshold
-      → (take rows threshold ≡ thresholdCurve rows bins m) × (rows ≤ length threshold)
+  thresholded-is : {threshold : List Float} → Thresholded (take (slab .rows) flux) threshold
+      → (take (slab .rows) threshold ≡ thresholdCurve slab m) × (slab .rows ≤ length threshold)
   unfolding writtenIn
   thresholded-is (alone {lent} {threshold} {work} t) =
       let z = sym (t .curve .number-is) in
-      filled-is-threshold lent (threshold-told (take rows flux) (length lent) (length work) z .has-room) (t .curve .slots-are ∙ passed-does _ _ _ z)
+      filled-is-threshold lent (threshold-told (take (slab .rows) flux) (length lent) (length work) z .has-room) (t .curve .slots-are ∙ passed-does _ _ _ z)
   thresholded-is (analysing {rate} {opts} {lent} {results} {spare} p passed) =
-      let env = take rows flux in
+      let env = take (slab .rows) flux in
       let z = sym (answered-number (envelopeNumber env rate opts lent spare) env rate opts _ (p .answered)) ∙ passed in
       filled-is-threshold (lent .threshold) (ready-of env rate opts lent spare z .thresholds)
       (ap (λ (r : Results). r .threshold) (p .written ∙ passed-does _ (writtenIn env rate opts lent) lent z))
 
 -- a track that has begun has the curves of its rows, and is one that the analysis accepts
-pub begun-is-fresh : (rows bins : ℕ) {first : MagnitudeTrack} → Begun rows bins first → Fresh rows bins first
+pub begun-is-fresh : (slab : Slab) {first : MagnitudeTrack} → Begun slab first → Fresh slab first
 unfolding fluxCurve
-begun-is-fresh rows bins (at-once p passed) = full-run-is-fresh _ rows bins _ _ _ _ _ (sym (full-run-number _ rows bins _ _ _ _ _ p) ∙ passed) p
-begun-is-fresh rows bins (in-turn {magnitudes = m} {flux₀} {flux} w t) =
-    let e = ap (take rows) (w .slots-are ∙ passed-does _ _ _ (sym (w .number-is))) ∙ filled-first (fluxAt m bins) flux₀ rows in
-    record { flux = e; threshold = thresholded-is rows bins m flux e t .0 }
+begun-is-fresh slab (at-once p passed) = full-run-is-fresh _ slab _ _ _ _ _ (sym (full-run-number _ slab _ _ _ _ _ p) ∙ passed) p
+begun-is-fresh slab (in-turn {magnitudes = m} {flux₀} {flux} w t) =
+    let e = ap (take (slab .rows)) (w .slots-are ∙ passed-does _ _ _ (sym (w .number-is))) ∙ filled-first (fluxAt m slab) flux₀ (slab .rows) in
+    record { flux = e; threshold = thresholded-is slab m flux e t .0 }
 
-pub begun-is-sound : (rows bins : ℕ) {first : MagnitudeTrack} → Begun rows bins first → Sound rows bins first
+pub begun-is-sound : (slab : Slab) {first : MagnitudeTrack} → Begun slab first → Sound slab first
 unfolding fluxCurve
-begun-is-sound rows bins (at-once p passed) = full-run-is-sound _ rows bins _ _ _ _ _ (sym (full-run-number _ rows bins _ _ _ _ _ p) ∙ passed) p
-begun-is-sound rows bins (in-turn {magnitudes = m} {flux₀} {flux} w t) =
+begun-is-sound slab (at-once p passed) = full-run-is-sound _ slab _ _ _ _ _ (sym (full-run-number _ slab _ _ _ _ _ p) ∙ passed) p
+begun-is-sound slab (in-turn {magnitudes = m} {flux₀} {flux} w t) =
     let z = sym (w .number-is) in
-    let fine = flux-told m rows bins (length flux₀) z in
+    let fine = flux-told m slab (length flux₀) z in
     let e = w .slots-are ∙ passed-does _ _ _ z in
     record {
-      rows-fit = fine .rows-fit;
-      some-bins = fine .some-bins;
-      bins-fit = fine .bins-fit;
+      shape = fine .shape;
       whole = fine .whole;
       fine = fine .fine;
-      flux-room = rw (ap length e ∙ length-filled (fluxAt m bins) flux₀ 0 rows (omega arith) (fine .has-room)) (fine .has-room);
-      threshold-room = thresholded-is rows bins m flux (ap (take rows) e ∙ filled-first (fluxAt m bins) flux₀ rows) t .1;
+      flux-room = rw (ap length e ∙ length-filled (fluxAt m slab) flux₀ 0 (slab .rows) (omega arith) (fine .has-room)) (fine .has-room);
+      threshold-room = thresholded-is slab m flux (ap (take (slab .rows)) e ∙ filled-first (fluxAt m slab) flux₀ (slab .rows)) t .1;
     }
 
 -- each step keeps both
-relent-keeps : (rows bins : ℕ) {was now : MagnitudeTrack} → Relent rows was now → Fresh rows bins was → Sound rows bins was
-    → Fresh rows bins now × Sound rows bins now
-relent-keeps rows bins r f s = (
+relent-keeps : (slab : Slab) {was now : MagnitudeTrack} → Relent slab was now → Fresh slab was → Sound slab was
+    → Fresh slab now × Sound slab now
+relent-keeps slab r f s = (
   record {
-    flux = r .same-flux ∙ f .flux ∙ ap (fluxCurve rows bins) (sym (r .same-rows));
-    threshold = r .same-threshold ∙ f .threshold ∙ ap (thresholdCurve rows bins) (sym (r .same-rows));
+    flux = r .same-flux ∙ f .flux ∙ ap (fluxCurve slab) (sym (r .same-rows));
+    threshold = r .same-threshold ∙ f .threshold ∙ ap (thresholdCurve slab) (sym (r .same-rows));
   },
   record {
-    rows-fit = s .rows-fit;
-    some-bins = s .some-bins;
-    bins-fit = s .bins-fit;
+    shape = s .shape;
     whole = ap length (r .same-rows) ∙ s .whole;
     fine = ap (every magnitudeFine) (r .same-rows) ∙ s .fine;
     flux-room = r .flux-room;
@@ -183,19 +179,17 @@ relent-keeps rows bins r f s = (
   },
 )
 
-pub used-keeps : (rows bins : ℕ) {was now : MagnitudeTrack} → Used rows bins was now → Fresh rows bins was → Sound rows bins was
-    → Fresh rows bins now × Sound rows bins now
-used-keeps rows bins ends f s = (f, s)
-used-keeps rows bins (runs ran more) f s = used-keeps rows bins more (calls-end-fresh rows bins f ran) (calls-keep-sound rows bins s ran)
-used-keeps rows bins (relends r more) f s = let k = relent-keeps rows bins r f s in used-keeps rows bins more (k .0) (k .1)
-used-keeps rows bins (analyses {was} t more) f s =
-    let k = thresholded-is rows bins (was .magnitudes) (was .flux) (f .flux) t in
-    used-keeps rows bins more
+pub used-keeps : (slab : Slab) {was now : MagnitudeTrack} → Used slab was now → Fresh slab was → Sound slab was
+    → Fresh slab now × Sound slab now
+used-keeps slab ends f s = (f, s)
+used-keeps slab (runs ran more) f s = used-keeps slab more (calls-end-fresh slab f ran) (calls-keep-sound slab s ran)
+used-keeps slab (relends r more) f s = let k = relent-keeps slab r f s in used-keeps slab more (k .0) (k .1)
+used-keeps slab (analyses {was} t more) f s =
+    let k = thresholded-is slab (was .magnitudes) (was .flux) (f .flux) t in
+    used-keeps slab more
     (record { flux = f .flux; threshold = k .0 })
     (record {
-      rows-fit = s .rows-fit;
-      some-bins = s .some-bins;
-      bins-fit = s .bins-fit;
+      shape = s .shape;
       whole = s .whole;
       fine = s .fine;
       flux-room = s .flux-room;
@@ -206,31 +200,31 @@ used-keeps rows bins (analyses {was} t more) f s =
 
 -- a sound track, patches on it, a rate and bounds that are fine, and slices with room
 module _
-    (rows bins : ℕ) {was last : MagnitudeTrack} (sound : Sound rows bins was) (ran : Ran rows bins was last)
+    (slab : Slab) {was last : MagnitudeTrack} (sound : Sound slab was) (ran : Ran slab was last)
     (rate : ℕ) (o : TempoOpts) (flux : List Float) (results : Results) (lent : Spare)
-    (fine : analysisNumbersFine rows rate o ≡ true) (flux-room : rows ≤ length flux) (room : Enough (roomOf rows rate o) results lent) where
+    (fine : analysisNumbersFine (slab .rows) rate o ≡ true) (flux-room : slab .rows ≤ length flux) (room : Enough (roomOf (slab .rows) rate o) results lent) where
   -- a full run on the last rows isn't refused
-  pub full-run-is-accepted : magnitudesNumber (last .magnitudes) rows bins rate o flux results lent ≡ 0
+  pub full-run-is-accepted : magnitudesNumber (last .magnitudes) slab rate o flux results lent ≡ 0
   full-run-is-accepted =
-      let s = calls-keep-sound rows bins sound ran in
+      let s = calls-keep-sound slab sound ran in
       sym
-      (magnitudes-0 (last .magnitudes) rows bins rate o (length flux) (frameSlots results) (lagSlots results lent) (length (lent .work))
-      (roomOf rows rate o) refl (ap (λ (r : Room). r .number) (room-inside rows rate o fine)) (s .some-bins) (s .bins-fit) (s .whole) flux-room true
-      (sym (enough-suffices (roomOf rows rate o) results lent room)) refl (s .fine))
+      (magnitudes-0 (last .magnitudes) slab rate o (length flux) (frameSlots results) (lagSlots results lent) (length (lent .work)) (s .shape)
+      (roomOf (slab .rows) rate o) refl (ap (λ (r : Room). r .number) (room-inside (slab .rows) rate o fine)) (eq-eqb _ _ (s .whole)) flux-room true
+      (sym (enough-suffices (roomOf (slab .rows) rate o) results lent room)) refl (s .fine))
 
   -- and where the curves were those of the rows, it answers and leaves what an analysis of the patched flux does
-  pub same-as-full-run : Fresh rows bins was → {a b : Analysis} {f : List Float} {x y : Results} {s t : Spare}
-      → EnvelopePromise (take rows (last .flux)) rate o results lent a x s
-      → MagnitudesPromise (last .magnitudes) rows bins rate o flux results lent b f y t
-      → SameRun rows last a x b f y
+  pub same-as-full-run : Fresh slab was → {a b : Analysis} {f : List Float} {x y : Results} {s t : Spare}
+      → EnvelopePromise (take (slab .rows) (last .flux)) rate o results lent a x s
+      → MagnitudesPromise (last .magnitudes) slab rate o flux results lent b f y t
+      → SameRun slab last a x b f y
   unfolding fluxCurve
   same-as-full-run fresh p q =
       let z = full-run-is-accepted in
-      let now = calls-end-fresh rows bins fresh ran in
-      let full = full-run-is-fresh (last .magnitudes) rows bins rate o flux results lent z q in
-      let one = coincide (rw (now .flux) at p) (flux-is-the-envelope (last .magnitudes) rows bins rate o flux results lent z q) in
+      let now = calls-end-fresh slab fresh ran in
+      let full = full-run-is-fresh (last .magnitudes) slab rate o flux results lent z q in
+      let one = coincide (rw (now .flux) at p) (flux-is-the-envelope (last .magnitudes) slab rate o flux results lent z q) in
       record {
-        accepted = full-run-number (last .magnitudes) rows bins rate o flux results lent q ∙ z;
+        accepted = full-run-number (last .magnitudes) slab rate o flux results lent q ∙ z;
         same-flux = now .flux ∙ sym (full .flux);
         same-threshold = now .threshold ∙ sym (full .threshold);
         same-answer = one .0;
@@ -268,28 +262,28 @@ scored env period = go (beatless env period)
 
 -- a sound track with the curves of its rows, a rate and bounds that are fine, and two sets of slices with room
 module _
-    (rows bins : ℕ) {last : MagnitudeTrack} (fresh : Fresh rows bins last) (sound : Sound rows bins last)
-    (rate : ℕ) (o : TempoOpts) (fine : analysisNumbersFine rows rate o ≡ true)
-    (results₀ : Results) (lent : Spare) (room : Enough (roomOf rows rate o) results₀ lent)
-    (flux : List Float) (flux-room : rows ≤ length flux)
-    (fullResults₀ : Results) (fullLent : Spare) (full-room : Enough (roomOf rows rate o) fullResults₀ fullLent) where
+    (slab : Slab) {last : MagnitudeTrack} (fresh : Fresh slab last) (sound : Sound slab last)
+    (rate : ℕ) (o : TempoOpts) (fine : analysisNumbersFine (slab .rows) rate o ≡ true)
+    (results₀ : Results) (lent : Spare) (room : Enough (roomOf (slab .rows) rate o) results₀ lent)
+    (flux : List Float) (flux-room : slab .rows ≤ length flux)
+    (fullResults₀ : Results) (fullLent : Spare) (full-room : Enough (roomOf (slab .rows) rate o) fullResults₀ fullLent) where
   -- an analysis of the flux into the one writes what a full run into the other does
   pub same-elsewhere : {a b : Analysis} {f : List Float} {x y : Results} {s t : Spare}
-      → EnvelopePromise (take rows (last .flux)) rate o results₀ lent a x s
-      → MagnitudesPromise (last .magnitudes) rows bins rate o flux fullResults₀ fullLent b f y t
-      → SameElsewhere rows rate o last a x b f y
+      → EnvelopePromise (take (slab .rows) (last .flux)) rate o results₀ lent a x s
+      → MagnitudesPromise (last .magnitudes) slab rate o flux fullResults₀ fullLent b f y t
+      → SameElsewhere slab rate o last a x b f y
   unfolding fluxCurve analysisOf writtenIn beatsIn
   same-elsewhere {a} {b} {f} {x} {y} {s} {t} p q =
       let m = last .magnitudes in
-      let env = take rows (last .flux) in
-      let l : length env ≡ rows = flux-long rows bins m (last .flux) (fresh .flux) in
-      let here = full-run-is-accepted rows bins sound stays rate o flux results₀ lent fine flux-room room in
-      let there = full-run-is-accepted rows bins sound stays rate o flux fullResults₀ fullLent fine flux-room full-room in
-      let p0 : envelopeNumber env rate o results₀ lent ≡ 0 = rw (fresh .flux) (flux-taken m rows bins rate o flux results₀ lent here) in
-      let q0 : envelopeNumber env rate o fullResults₀ fullLent ≡ 0 = rw (fresh .flux) (flux-taken m rows bins rate o flux fullResults₀ fullLent there) in
+      let env = take (slab .rows) (last .flux) in
+      let l : length env ≡ slab .rows = flux-long slab m (last .flux) (fresh .flux) in
+      let here = full-run-is-accepted slab sound stays rate o flux results₀ lent fine flux-room room in
+      let there = full-run-is-accepted slab sound stays rate o flux fullResults₀ fullLent fine flux-room full-room in
+      let p0 : envelopeNumber env rate o results₀ lent ≡ 0 = rw (fresh .flux) (flux-taken m slab rate o flux results₀ lent here) in
+      let q0 : envelopeNumber env rate o fullResults₀ fullLent ≡ 0 = rw (fresh .flux) (flux-taken m slab rate o flux fullResults₀ fullLent there) in
       let full : EnvelopePromise env rate o fullResults₀ fullLent b y t =
-      rw (fresh .flux) (flux-is-the-envelope m rows bins rate o flux fullResults₀ fullLent there q) in
-      let curves = full-run-is-fresh m rows bins rate o flux fullResults₀ fullLent there q in
+      rw (fresh .flux) (flux-is-the-envelope m slab rate o flux fullResults₀ fullLent there q) in
+      let curves = full-run-is-fresh m slab rate o flux fullResults₀ fullLent there q in
       let ea : a ≡ analysisOf env rate o = p .answered ∙ passed-does _ (analysisOf env rate o) _ p0 in
       let eb : b ≡ analysisOf env rate o = full .answered ∙ passed-does _ (analysisOf env rate o) _ q0 in
       let ex : x ≡ writtenIn env rate o results₀ = p .written ∙ passed-does _ (writtenIn env rate o results₀) _ p0 in
@@ -298,7 +292,7 @@ module _
       let onsets : a .onsets ≡ length (onsetsIn env rate) = ap (λ (r : Analysis). r .onsets) ea in
       let beats : a .beats ≡ length (beatsIn env rate o) = ap (λ (r : Analysis). r .beats) ea in
       record {
-        accepted = full-run-number m rows bins rate o flux fullResults₀ fullLent q ∙ there;
+        accepted = full-run-number m slab rate o flux fullResults₀ fullLent q ∙ there;
         same-flux = fresh .flux ∙ sym (curves .flux);
         same-threshold = fresh .threshold ∙ sym (curves .threshold);
         same-answer = ea ∙ sym eb;

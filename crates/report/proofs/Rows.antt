@@ -9,6 +9,7 @@ use lib.ListN.{length, getD, set, take, drop, length-drop, length-append, drop-o
 use lib.Seq.{getD-drop, drop-at, take-at, take-all, take-append-le, drop-append-le}
 use Rattle.numbers.proofs.Overs.{row-end}
 use Rattle.numbers.proofs.Tabs.{filled-more, filled-whole, getD-filled-high, tab-ext, curve-of}
+use Rattle.numbers.specs.Limits.{slabOf}
 use Rattle.numbers.specs.Lists.{tab, filled, row, every}
 use Rattle.numbers.specs.Rounded.{sumOf}
 use Rattle.flux.proofs.Fluxes.{flux-from, flux-same, flux-first}
@@ -97,12 +98,18 @@ module _ {A : Type 0} (s v : List A) (b : ℕ) where
       let z : 0 * b ≡ 0 = omega arith in
       ap (λ (k : ℕ). take b (drop k (s ++ v))) z ∙ take-at s v b e
 
+-- a slot is the same however many rows its slab has
+pub any-rows : (s : List Float) (m n b t : ℕ) → fluxAt s (slabOf m b) t ≡ fluxAt s (slabOf n b) t
+unfolding fluxAt
+any-rows s m n b zero = refl
+any-rows s m n b (suc t) = refl
+
 -- the flux of the row behind, from it and the row before it alone
 pub kept-flux : (slab kept v : List Float) (b t : ℕ) → length slab ≡ t * b → length kept ≡ b → length v ≡ b
-    → (0 < t → kept ≡ row slab b (t - 1)) → fluxAt (kept ++ v) b (min t 1) ≡ fluxAt (slab ++ v) b t
+    → (0 < t → kept ≡ row slab b (t - 1)) → fluxAt (kept ++ v) (slabOf 2 b) (min t 1) ≡ fluxAt (slab ++ v) (slabOf (t + 1) b) t
 kept-flux slab kept v b zero e k l last =
     let z : min 0 1 ≡ 0 = omega arith in
-    ap (fluxAt (kept ++ v) b) z ∙ flux-first (kept ++ v) b ∙ sym (flux-first (slab ++ v) b)
+    ap (fluxAt (kept ++ v) (slabOf 2 b)) z ∙ flux-first (kept ++ v) (slabOf 2 b) ∙ sym (flux-first (slab ++ v) (slabOf 1 b))
 kept-flux slab kept v b (suc t) e k l last =
     let z : min (suc t) 1 ≡ 1 = omega arith in
     let u : suc t - 1 ≡ t = omega arith in
@@ -110,18 +117,20 @@ kept-flux slab kept v b (suc t) e k l last =
     let first : row (kept ++ v) b 0 ≡ row (slab ++ v) b t
     = row-first kept v b k ∙ last (omega arith) ∙ ap (row slab b) u ∙ sym (row-front slab v b t (omega (arith, row-end t (suc t) b (omega arith)))) in
     let second : row (kept ++ v) b 1 ≡ row (slab ++ v) b (suc t) = row-behind kept v b 1 one l ∙ sym (row-behind slab v b (suc t) e l) in
-    ap (fluxAt (kept ++ v) b) z
-    ∙ flux-from (kept ++ v) b 0 1 (omega arith)
+    ap (fluxAt (kept ++ v) (slabOf 2 b)) z
+    ∙ flux-from (kept ++ v) (slabOf 2 b) 0 1 (omega arith)
     ∙ ap (λ (r : List Float). sumOf (rises r (row (kept ++ v) b 1))) first
     ∙ ap (λ (r : List Float). sumOf (rises (row (slab ++ v) b t) r)) second
-    ∙ sym (flux-from (slab ++ v) b t (suc t) (omega arith))
+    ∙ sym (flux-from (slab ++ v) (slabOf (suc t + 1) b) t (suc t) (omega arith))
 
 -- the slots before it stay
-pub flux-before : (slab v : List Float) (b t : ℕ) → length slab ≡ t * b → (u : ℕ) → u < t → fluxAt (slab ++ v) b u ≡ fluxAt slab b u
+pub flux-before : (slab v : List Float) (b t : ℕ) → length slab ≡ t * b → (u : ℕ) → u < t
+    → fluxAt (slab ++ v) (slabOf (t + 1) b) u ≡ fluxAt slab (slabOf t b) u
 flux-before slab v b t e u h =
-    flux-same slab (slab ++ v) b u
+    flux-same slab (slab ++ v) (slabOf (t + 1) b) u
     (row-front slab v b (u - 1) (omega (arith, row-end (u - 1) t b (omega arith))))
     (row-front slab v b u (omega (arith, row-end u t b h)))
+    ∙ any-rows slab (t + 1) t b u
 
 pub every-more : {A : Type 0} (p : A → Bool) (s t : List A) (fine : Bool) → fine ≡ every p s → (fine && every p t) ≡ every p (s ++ t)
 every-more p s t fine e = ap (λ (b : Bool). b && every p t) e ∙ sym (every-both p s t)

@@ -11,7 +11,7 @@ use lib.Seq.{drop-at}
 use Rattle.numbers.proofs.Everys.{every-append, every-drop}
 use Rattle.numbers.proofs.Tabs.{filled-none, filled-more, filled-ext}
 use Rattle.numbers.proofs.Tests.{and-left, and-right, pick-true}
-use Rattle.numbers.specs.Limits.{magnitudeFine}
+use Rattle.numbers.specs.Limits.{magnitudeFine, slabOf}
 use Rattle.numbers.specs.Lists.{filled, row, every}
 use Rattle.numbers.specs.Rounded.{pick}
 use Rattle.flux.specs.Flux.{fluxAt}
@@ -61,9 +61,9 @@ streamed-more {body} {bytes} {bins} {t} {fine} {fine′} {kept} {kept′} {was} 
       room-is = ap length (r .flux-is) ∙ pick-length fine′ _ flux (length was) (length-set flux t _ ∙ s .room-is) (s .room-is);
       flux-is = λ p. r .flux-is ∙ pick-true fine′ _ flux p
           ∙ ap (set flux t) (kept-flux slab d v bins t ls ld lv (s .last-is))
-          ∙ ap (λ (x : List Float). set x t (fluxAt (slab ++ v) bins t)) (s .flux-is (before p) ∙ filled-ext _ _ was 0 t (λ i a b. sym (flux-before slab v bins t ls i b)))
-          ∙ filled-more (fluxAt (slab ++ v) bins) was 0 t (omega arith) nan (omega (arith, s .room-is))
-          ∙ ap (λ (x : List Float). filled (fluxAt x bins) was 0 (t + 1)) (sym whole);
+          ∙ ap (λ (x : List Float). set x t (fluxAt (slab ++ v) (slabOf (t + 1) bins) t)) (s .flux-is (before p) ∙ filled-ext _ _ was 0 t (λ i a b. sym (flux-before slab v bins t ls i b)))
+          ∙ filled-more (fluxAt (slab ++ v) (slabOf (t + 1) bins)) was 0 t (omega arith) nan (omega (arith, s .room-is))
+          ∙ ap (λ (x : List Float). filled (fluxAt x (slabOf (t + 1) bins)) was 0 (t + 1)) (sym whole);
     }
   where
     more-rows : (t bins : ℕ) → (t + 1) * bins * 4 ≡ t * bins * 4 + bins * 4
@@ -90,7 +90,7 @@ rows-streamed {bins} {t} {fine} {fine′} {kept} {kept′} {was} {flux} {flux′
 -- demand 2's curve of the whole slab, and later slots are unchanged.
 pub record StreamedFlux (body : List ℕ) (bins rows : ℕ) (fine : Bool) (was flux : List Float) : Type 0 where
   pub fine-is : fine ≡ every magnitudeFine (valuesOf body)
-  pub flux-is : fine ≡ true → flux ≡ filled (fluxAt (valuesOf body) bins) was 0 rows
+  pub flux-is : fine ≡ true → flux ≡ filled (fluxAt (valuesOf body) (slabOf rows bins)) was 0 rows
 
 pub streamed-is-flux : {bins : ℕ} {fine : Bool} {kept kept′ was flux : List Float} {rows : List (List ℕ)} → length kept ≡ 2 * bins
     → every magnitudeFine kept ≡ true → length rows ≤ length was → Taken bins 0 true kept was rows fine kept′ flux
@@ -100,5 +100,5 @@ streamed-is-flux {bins} {fine} {kept} {kept′} {was} {flux} {rows} e f h rs =
     let s = rows-streamed [] rs (omega arith) (streamed-none bins kept was e f) in
     record {
       fine-is = s .fine-is;
-      flux-is = λ p. s .flux-is p ∙ ap (filled (fluxAt (valuesOf (joined rows)) bins) was 0) z;
+      flux-is = λ p. s .flux-is p ∙ ap (λ (n : ℕ). filled (fluxAt (valuesOf (joined rows)) (slabOf n bins)) was 0 n) z;
     }

@@ -8,7 +8,7 @@ use lib.Dec.{leb, eqb}
 use lib.Ieee.{Float}
 use lib.ListN.{length, take, drop}
 use Rattle.numbers.specs.Rounded.{pick}
-use Rattle.numbers.specs.Limits.{mostBins, between, magnitudeFine}
+use Rattle.numbers.specs.Limits.{mostBins, between, magnitudeFine, slabOf}
 use Rattle.numbers.specs.Lists.{curve, every}
 use Rattle.numbers.specs.Refusals.{lowest, malformed}
 use Rattle.report_npy.specs.declared.Preamble.{Preamble}
@@ -65,7 +65,7 @@ reportNumber input = preambleNumber (preambleOf (take preambleLength input)) (dr
 unfoldable pub headerFlux : Header → (body : List ℕ) → List Float
 unfolding valuesOf
 headerFlux header.Malformed body = []
-headerFlux (header.Shape rows bins) body = curve (fluxAt (valuesOf body) bins) rows
+headerFlux (header.Shape rows bins) body = curve (fluxAt (valuesOf body) (slabOf rows bins)) rows
 
 unfoldable pub preambleFlux : Preamble → (rest : List ℕ) → List Float
 unfolding headerFlux

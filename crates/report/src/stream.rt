@@ -1,6 +1,7 @@
 // Rows that come one after the other, with two of them kept: the flux that they leave is that of the whole slab.
 //
 // Document 01, The reporting program.
+use numbers::Slab;
 ghost use mathlib.Core.Path.{_≡_};
 ghost use mathlib.Core.Bool.{true};
 ghost use mathlib.Core.List.{_++_};
@@ -52,6 +53,7 @@ pub fn take_row(
     if !numbers::magnitudes_fine(&kept[bins..]) {
         return false;
     }
-    flux[t] = flux::flux_slot(kept, 2, bins, numbers::least(t, 1));
+    let pair = Slab { rows: 2, bins };
+    flux[t] = flux::flux_slot(kept, pair, numbers::least(t, 1));
     true
 }

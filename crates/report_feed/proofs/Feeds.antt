@@ -13,7 +13,7 @@ use lib.Seq.{take-at, take-suc, take-suc-set, length-take-le}
 use borrow.Author.Tests.{ltb-true, ltb-false, eqb-true, eqb-false, eq-eqb, ne-eqb, lt-ltb, le-ltb}
 use Rattle.numbers.proofs.Everys.{every-take, every-drop, every-append}
 use Rattle.numbers.proofs.Tests.{true-not-false, and-left, and-right, pick-true, pick-false, lowest-zero, lowest-2}
-use Rattle.numbers.specs.Limits.{magnitudeFine}
+use Rattle.numbers.specs.Limits.{magnitudeFine, slabOf}
 use Rattle.numbers.specs.Lists.{every, filled}
 use Rattle.numbers.specs.Refusals.{lowest}
 use Rattle.numbers.specs.Rounded.{pick}
@@ -319,7 +319,7 @@ module _ {rows bins t have : ℕ} {fine : Bool} {held : List ℕ} {kept flux : L
       = ap (λ (x : List Float). state (come.Rows rows bins (t + 1) 0 still) (set held have byte) x flux′) (k′ ∙ ap (λ (x : List Float). x ++ drop (2 * bins) kept) (now .kept-is))
       ∙ ap (λ (x : List Float). state (come.Rows rows bins (t + 1) 0 still) (set held have byte) (pair″ ++ drop (2 * bins) kept) x) (now .flux-is)
       ∙ ap
-      (λ (y : Bool). state (come.Rows rows bins (t + 1) 0 y) (set held have byte) (pair″ ++ drop (2 * bins) kept) (pick y (set flux t (fluxAt pair″ bins (min t 1))) flux))
+      (λ (y : Bool). state (come.Rows rows bins (t + 1) 0 y) (set held have byte) (pair″ ++ drop (2 * bins) kept) (pick y (set flux t (fluxAt pair″ (slabOf 2 bins) (min t 1))) flux))
       (now .fine-is) in
       let lb : length bytes ≡ bins * 4 = ap length b ∙ length-take-le (bins * 4) (set held have byte) (omega (arith, length-set held have byte, have-fits)) in
       let room : t < length flux = omega (arith, r .flux-room, rows-fit rows bins (w .shape-is)) in
@@ -485,6 +485,6 @@ closes-rows {rows} {bins} {t} {have} {number} {fine} n =
                 bins-fit = bins-fit rows bins (w .shape-is);
                 length-is = whole;
                 fine-is = sym (p .streamed .fine-is) ∙ passed;
-                flux-is = p .streamed .flux-is passed ∙ ap (filled (fluxAt (valuesOf (p .body)) bins) was 0) all;
+                flux-is = p .streamed .flux-is passed ∙ ap (λ (n : ℕ). filled (fluxAt (valuesOf (p .body)) (slabOf n bins)) was 0 n) all;
               };
         }

@@ -11,7 +11,7 @@ use lib.Seq.{take-append-seam, drop-append-seam, take-at, drop-at, take-all}
 use borrow.Author.Tests.{le-leb, lt-leb, leb-true, ne-eqb}
 use Rattle.numbers.proofs.Tests.{and-left, and-right, pick-true, pick-false, lowest-1, lowest-2}
 use Rattle.numbers.proofs.Tabs.{length-tab, filled-whole}
-use Rattle.numbers.specs.Limits.{magnitudeFine, valueFine}
+use Rattle.numbers.specs.Limits.{magnitudeFine, valueFine, slabOf}
 use Rattle.numbers.specs.Lists.{every, curve}
 use Rattle.numbers.specs.Rounded.{pick}
 use Rattle.report_npy.specs.declared.Preamble.{Preamble}
@@ -112,7 +112,7 @@ pub record Accepted (input : List ℕ) (rows : ℕ) (flux : List Float) : Type 0
   pub fine-is : every valueFine (take rows flux) ≡ true
 
 flux-of : (first text body : List ℕ) (rows bins : ℕ) → length first ≡ preambleLength → preambleOf first ≡ preamble.Length (length text) → headerOf text ≡ header.Shape rows bins
-    → reportFlux (first ++ (text ++ body)) ≡ curve (fluxAt (valuesOf body) bins) rows
+    → reportFlux (first ++ (text ++ body)) ≡ curve (fluxAt (valuesOf body) (slabOf rows bins)) rows
 unfolding reportFlux
 flux-of first text body rows bins l p h =
     let rest = text ++ body in
@@ -127,10 +127,10 @@ pub accepted : {input : List ℕ} {was flux : List Float} {answer : Reading} →
 accepted {input} {was} {flux} {answer} r z =
     let f = r .found z in
     let rows = answer .rows in
-    let rule = fluxAt (valuesOf (f .body)) (f .bins) in
+    let rule = fluxAt (valuesOf (f .body)) (slabOf rows (f .bins)) in
     let e : take rows flux ≡ curve rule rows = ap (take rows) (f .flux-is ∙ filled-whole rule was rows) ∙ take-at (curve rule rows) (drop rows was) rows (length-tab rule 0 rows) in
     record {
       rows-fit = f .rows-fit;
       flux-is = e ∙ sym (flux-of (f .first) (f .text) (f .body) rows (f .bins) (f .first-is) (f .stated-is) (f .header-is)) ∙ ap reportFlux (sym (f .input-is));
-      fine-is = rw e (flux-curve-fine (valuesOf (f .body)) rows (f .bins) (f .fine-is) (f .bins-fit));
+      fine-is = rw e (flux-curve-fine (valuesOf (f .body)) (slabOf rows (f .bins)) (f .fine-is) (f .bins-fit));
     }

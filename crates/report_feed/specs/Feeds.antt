@@ -8,7 +8,7 @@ use mathlib.Core.List.{List, [], _∷_, _++_}
 use lib.Dec.{ltb, eqb}
 use lib.Ieee.{Float}
 use lib.ListN.{length, take, drop, set}
-use Rattle.numbers.specs.Limits.{mostBins, magnitudeFine}
+use Rattle.numbers.specs.Limits.{mostBins, magnitudeFine, slabOf}
 use Rattle.numbers.specs.Lists.{every, filled}
 use Rattle.numbers.specs.Refusals.{lowest, malformed}
 use Rattle.numbers.specs.Rounded.{pick}
@@ -40,7 +40,8 @@ rowTaken rows bins t fine held kept flux =
     let new = valuesOf (take (bins * 4) held) in
     let pair = drop bins (take (2 * bins) kept) ++ new in
     let still = fine && every magnitudeFine new in
-    state (come.Rows rows bins (t + 1) 0 still) held (pair ++ drop (2 * bins) kept) (pick still (set flux t (fluxAt pair bins (min t 1))) flux)
+    state (come.Rows rows bins (t + 1) 0 still) held (pair ++ drop (2 * bins) kept)
+    (pick still (set flux t (fluxAt pair (slabOf 2 bins) (min t 1))) flux)
 
 -- One byte more: it is held, and with the last byte of a part that part says what comes next. A byte behind the last row is one too many. An input that
 -- is refused stays so.
@@ -154,7 +155,8 @@ pub record Begins (feed : Feed) : Type 0 where
       → every magnitudeFine kept ≡ true → Fed [] feed held kept was was
 
 -- These bytes are taken, one after the other. Whatever input had come so far, it has come with them behind it.
-pub record Step (bytes : List ℕ) (feed : Feed) (held : List ℕ) (kept flux : List Float) (feed′ : Feed) (held′ : List ℕ) (kept′ flux′ : List Float) : Type 0 where
+pub record Step (bytes : List ℕ) (feed : Feed) (held : List ℕ) (kept flux : List Float)
+    (feed′ : Feed) (held′ : List ℕ) (kept′ flux′ : List Float) : Type 0 where
   pub state-is : state feed′ held′ kept′ flux′ ≡ bytesTaken bytes (state feed held kept flux)
   pub ready : FeedReady feed′ held′ kept′ flux′
   pub fed : (input : List ℕ) (was : List Float) → Fed input feed held kept was flux → Fed (input ++ bytes) feed′ held′ kept′ was flux′
@@ -174,7 +176,7 @@ pub record InputFound (input : List ℕ) (rows : ℕ) (was flux : List Float) : 
   pub bins-fit : bins ≤ mostBins
   pub length-is : length body ≡ rows * bins * 4
   pub fine-is : every magnitudeFine (valuesOf body) ≡ true
-  pub flux-is : flux ≡ filled (fluxAt (valuesOf body) bins) was 0 rows
+  pub flux-is : flux ≡ filled (fluxAt (valuesOf body) (slabOf rows bins)) was 0 rows
 
 -- the number of a whole input, and where nothing refuses it, its rows and their flux
 pub record Told (input : List ℕ) (answer : Reading) (was flux : List Float) : Type 0 where

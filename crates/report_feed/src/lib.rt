@@ -37,7 +37,10 @@ fn take_data(
     flux: &mut [f64],
 ) -> Feed
     requires { ⌜ FeedReady (Feed.Rows rows bins t have fine) (now held) (now kept) (now flux) ⌝ }
-    ensures { λ r. ⌜ Step (byte ∷ []) (Feed.Rows rows bins t have fine) (now (held .entry)) (now (kept .entry)) (now (flux .entry)) r (now (held .exit)) (now (kept .exit)) (now (flux .exit)) ⌝ }
+    ensures { λ r. ⌜
+        Step (byte ∷ []) (Feed.Rows rows bins t have fine) (now (held .entry)) (now (kept .entry)) (now (flux .entry))
+        r (now (held .exit)) (now (kept .exit)) (now (flux .exit))
+        ⌝ }
 {
     if t == rows {
         return Feed::Refused {
@@ -71,7 +74,10 @@ fn take_data(
 // Takes one byte.
 fn take_byte(byte: u8, feed: Feed, held: &mut [u8], kept: &mut [f32], flux: &mut [f64]) -> Feed
     requires { ⌜ FeedReady feed (now held) (now kept) (now flux) ⌝ }
-    ensures { λ r. ⌜ Step (byte ∷ []) feed (now (held .entry)) (now (kept .entry)) (now (flux .entry)) r (now (held .exit)) (now (kept .exit)) (now (flux .exit)) ⌝ }
+    ensures { λ r. ⌜
+        Step (byte ∷ []) feed (now (held .entry)) (now (kept .entry)) (now (flux .entry))
+        r (now (held .exit)) (now (kept .exit)) (now (flux .exit))
+        ⌝ }
 {
     match feed {
         Feed::First { have } => take_first(byte, have, held),
@@ -96,7 +102,10 @@ pub fn take_bytes(
     flux: &mut [f64],
 ) -> Feed
     requires { ⌜ FeedReady feed (now held) (now kept) (now flux) ⌝ }
-    ensures { λ r. ⌜ Step (now (bytes .entry)) feed (now (held .entry)) (now (kept .entry)) (now (flux .entry)) r (now (held .exit)) (now (kept .exit)) (now (flux .exit)) ⌝ }
+    ensures { λ r. ⌜
+        Step (now (bytes .entry)) feed (now (held .entry)) (now (kept .entry)) (now (flux .entry))
+        r (now (held .exit)) (now (kept .exit)) (now (flux .exit))
+        ⌝ }
 {
     let mut come = feed;
     let mut i: usize = 0;

@@ -38,7 +38,10 @@ fn pass_on(
     flux: &mut [f64],
 ) -> Feed
     requires { ⌜ (got ≤ length (now bytes)) × FeedReady feed (now held) (now kept) (now flux) ⌝ }
-    ensures { λ r. ⌜ Step (take got (now (bytes .entry))) feed (now (held .entry)) (now (kept .entry)) (now (flux .entry)) r (now (held .exit)) (now (kept .exit)) (now (flux .exit)) ⌝ }
+    ensures { λ r. ⌜
+        Step (take got (now (bytes .entry))) feed (now (held .entry)) (now (kept .entry)) (now (flux .entry))
+        r (now (held .exit)) (now (kept .exit)) (now (flux .exit))
+        ⌝ }
 {
     report_feed::take_bytes(&bytes[0..got], feed, held, kept, flux)
 }
@@ -46,7 +49,10 @@ fn pass_on(
 // Reads to the end of the input, or until nothing that comes can change what it is told. A proved loop has to end, and nothing says that the input does:
 // the loop counts down from a number that no run uses up.
 fn read_all(bytes: &mut [u8], held: &mut [u8], kept: &mut [f32], flux: &mut [f64]) -> Reading
-    requires { ⌜ (heldRoom ≤ length (now held)) × (2 * mostBins ≤ length (now kept)) × (mostReported ≤ length (now flux)) × (every magnitudeFine (now kept) ≡ true) ⌝ }
+    requires { ⌜
+        (heldRoom ≤ length (now held)) × (2 * mostBins ≤ length (now kept)) × (mostReported ≤ length (now flux))
+        × (every magnitudeFine (now kept) ≡ true)
+        ⌝ }
     ensures { λ r. ⌜ InputRead (now (flux .entry)) r (now (flux .exit)) ⌝ }
 {
     let mut feed = report_feed::begun();

@@ -3,15 +3,18 @@ use mathlib.Core.Path.{_≡_, refl, sym, ap, _∙_}
 use mathlib.Core.Bool.{Bool, true, false, _&&_}
 use mathlib.Core.List.{List}
 use mathlib.Core.Logic.{⊎-elim}
-use Prim.Native.Nat.{ℕ, _*_, _≤_, _<_, max}
+use Prim.Native.Nat.{ℕ, _≤_, _<_, max}
 use native.Mathlib.Omega.{arith}
-use borrow.Author.Tests.{leb-true, le-leb, lt-leb, eqb-true, eq-eqb, ne-eqb}
-use lib.Dec.{leb, eqb}
+use borrow.Author.Tests.{leb-true, le-leb, lt-leb, eqb-true}
+use lib.Dec.{leb}
 use lib.ListN.{length}
 use lib.Ieee.{Float}
-use Rattle.numbers.specs.Limits.{mostRows, mostBins, between, magnitudeFine, valueFine}
+use Rattle.numbers.specs.Limits.{mostRows, magnitudeFine, valueFine, slabFine, slabWhole}
 use Rattle.numbers.specs.Lists.{every}
+use Rattle.numbers.specs.declared.Slab.{Slab}
+use Rattle.numbers.proofs.Slabs.{slab-fits}
 use Rattle.numbers.proofs.Tests.{which, and-left, and-right, and-both, and-held, and-failed, pick-true, pick-false, lowest-zero, lowest-0, lowest-1, lowest-2, lowest-3, lowest-4}
+use Rattle.flux.proofs.Fluxes.{FluxFine}
 use Rattle.threshold.specs.Threshold.{windowRoom}
 use Rattle.options.specs.declared.TempoOpts.{TempoOpts}
 use Rattle.lags.specs.Lags.{boundsFine}
@@ -118,85 +121,81 @@ module _ (env : List Float) (rate : ℕ) (o : TempoOpts) (frames lags : List ℕ
     unfolding envelopeRefusal
     envelope-0 e v = sym (lowest-0 fine true roomy valued (named (length env) rate o room is z) refl (room-is ∙ e) v)
 
-module _
-    (magnitudes : List Float) (rows bins rate : ℕ) (o : TempoOpts) (flux : ℕ) (frames lags : List ℕ) (work : ℕ)
-    (room : Room) (is : room ≡ roomOf rows rate o) where
+module _ (magnitudes : List Float) (slab : Slab) (rate : ℕ) (o : TempoOpts) (flux : ℕ) (frames lags : List ℕ) (work : ℕ) where
   abbrev bounds : Bool
-  bounds = analysisNumbersFine rows rate o && between 1 mostBins bins
+  bounds = slabFine slab && boundsFine rate o
 
   abbrev whole : Bool
-  whole = eqb (length magnitudes) (rows * bins)
+  whole = slabWhole slab (length magnitudes)
 
   abbrev wide : Bool
-  wide = leb rows flux && suffices (roomOf rows rate o) frames lags work
+  wide = leb (slab .rows) flux && suffices (roomOf (slab .rows) rate o) frames lags work
 
   abbrev loud : Bool
   loud = every magnitudeFine magnitudes
 
   -- outside the bounds
-  refused-1 : bounds ≡ false → 1 ≡ magnitudesRefusal magnitudes rows bins rate o flux frames lags work
+  refused-1 : bounds ≡ false → 1 ≡ magnitudesRefusal magnitudes slab rate o flux frames lags work
   unfolding magnitudesRefusal
   refused-1 e = sym (lowest-1 bounds whole wide loud e)
 
-  pub magnitudes-1 : (room .number ≡ 0 → ⊥) → 1 ≡ magnitudesRefusal magnitudes rows bins rate o flux frames lags work
-  magnitudes-1 h = let e = unnamed rows rate o room is h in refused-1 (sym (and-failed (analysisNumbersFine rows rate o) (between 1 mostBins bins) e) ∙ e)
+  pub shapeless : slabFine slab ≡ false → 1 ≡ magnitudesRefusal magnitudes slab rate o flux frames lags work
+  shapeless e = refused-1 (sym (and-failed (slabFine slab) (boundsFine rate o) e) ∙ e)
 
-  module _ (z : room .number ≡ 0) where
-    held : (b : Bool) → between 1 mostBins bins ≡ b → bounds ≡ b
-    held b e = sym (and-held (analysisNumbersFine rows rate o) (between 1 mostBins bins) (named rows rate o room is z)) ∙ e
+  module _ (shape : slabFine slab ≡ true) (room : Room) (is : room ≡ roomOf (slab .rows) rate o) where
+    pub magnitudes-1 : (room .number ≡ 0 → ⊥) → 1 ≡ magnitudesRefusal magnitudes slab rate o flux frames lags work
+    magnitudes-1 h =
+        refused-1 (
+          sym (and-held (slabFine slab) (boundsFine rate o) shape)
+          ∙ sym (by-bounds (slab .rows) rate o (slab-fits slab shape .rows-fit))
+          ∙ unnamed (slab .rows) rate o room is h
+        )
 
-    pub few-bins : bins < 1 → 1 ≡ magnitudesRefusal magnitudes rows bins rate o flux frames lags work
-    few-bins h = let e = lt-leb 1 bins h in refused-1 (held false (sym (and-failed (leb 1 bins) (leb bins mostBins) e) ∙ e))
-
-    pub many-bins : 1 ≤ bins → mostBins < bins → 1 ≡ magnitudesRefusal magnitudes rows bins rate o flux frames lags work
-    many-bins l h = refused-1 (held false (sym (and-held (leb 1 bins) (leb bins mostBins) (le-leb 1 bins l)) ∙ lt-leb bins mostBins h))
-
-    module _ (l : 1 ≤ bins) (m : bins ≤ mostBins) where
+    module _ (z : room .number ≡ 0) where
       inside : bounds ≡ true
-      inside = held true (and-both (leb 1 bins) (leb bins mostBins) (le-leb 1 bins l) (le-leb bins mostBins m))
+      inside = and-both (slabFine slab) (boundsFine rate o) shape (bounds-fine (slab .rows) rate o (named (slab .rows) rate o room is z))
 
-      pub magnitudes-2 : (length magnitudes ≡ rows * bins → ⊥) → 2 ≡ magnitudesRefusal magnitudes rows bins rate o flux frames lags work
+      pub magnitudes-2 : whole ≡ false → 2 ≡ magnitudesRefusal magnitudes slab rate o flux frames lags work
       unfolding magnitudesRefusal
-      magnitudes-2 h = sym (lowest-2 bounds whole wide loud inside (ne-eqb (length magnitudes) (rows * bins) h))
+      magnitudes-2 h = sym (lowest-2 bounds whole wide loud inside h)
 
-      module _ (w : length magnitudes ≡ rows * bins) where
-        refused-3 : wide ≡ false → 3 ≡ magnitudesRefusal magnitudes rows bins rate o flux frames lags work
+      module _ (w : whole ≡ true) where
+        refused-3 : wide ≡ false → 3 ≡ magnitudesRefusal magnitudes slab rate o flux frames lags work
         unfolding magnitudesRefusal
-        refused-3 e = sym (lowest-3 bounds whole wide loud inside (eq-eqb (length magnitudes) (rows * bins) w) e)
+        refused-3 e = sym (lowest-3 bounds whole wide loud inside w e)
 
-        pub flux-short : flux < rows → 3 ≡ magnitudesRefusal magnitudes rows bins rate o flux frames lags work
-        flux-short h = let e = lt-leb rows flux h in refused-3 (sym (and-failed (leb rows flux) (suffices (roomOf rows rate o) frames lags work) e) ∙ e)
+        pub flux-short : flux < slab .rows → 3 ≡ magnitudesRefusal magnitudes slab rate o flux frames lags work
+        flux-short h =
+            let e = lt-leb (slab .rows) flux h in
+            refused-3 (sym (and-failed (leb (slab .rows) flux) (suffices (roomOf (slab .rows) rate o) frames lags work) e) ∙ e)
 
-        module _ (f : rows ≤ flux) (b : Bool) (asked : b ≡ suffices room frames lags work) where
+        module _ (f : slab .rows ≤ flux) (b : Bool) (asked : b ≡ suffices room frames lags work) where
           wide-is : wide ≡ b
           wide-is =
-              sym (asked ∙ ap (λ (r : Room). suffices r frames lags work) is ∙ and-held (leb rows flux) (suffices (roomOf rows rate o) frames lags work) (le-leb rows flux f))
+              sym (
+                asked ∙ ap (λ (r : Room). suffices r frames lags work) is
+                ∙ and-held (leb (slab .rows) flux) (suffices (roomOf (slab .rows) rate o) frames lags work) (le-leb (slab .rows) flux f)
+              )
 
-          pub magnitudes-3 : b ≡ false → 3 ≡ magnitudesRefusal magnitudes rows bins rate o flux frames lags work
+          pub magnitudes-3 : b ≡ false → 3 ≡ magnitudesRefusal magnitudes slab rate o flux frames lags work
           magnitudes-3 e = refused-3 (wide-is ∙ e)
 
-          pub magnitudes-4 : b ≡ true → loud ≡ false → 4 ≡ magnitudesRefusal magnitudes rows bins rate o flux frames lags work
+          pub magnitudes-4 : b ≡ true → loud ≡ false → 4 ≡ magnitudesRefusal magnitudes slab rate o flux frames lags work
           unfolding magnitudesRefusal
-          magnitudes-4 e v = sym (lowest-4 bounds whole wide loud inside (eq-eqb (length magnitudes) (rows * bins) w) (wide-is ∙ e) v)
+          magnitudes-4 e v = sym (lowest-4 bounds whole wide loud inside w (wide-is ∙ e) v)
 
-          pub magnitudes-0 : b ≡ true → loud ≡ true → 0 ≡ magnitudesRefusal magnitudes rows bins rate o flux frames lags work
+          pub magnitudes-0 : b ≡ true → loud ≡ true → 0 ≡ magnitudesRefusal magnitudes slab rate o flux frames lags work
           unfolding magnitudesRefusal
-          magnitudes-0 e v = sym (lowest-0 bounds whole wide loud inside (eq-eqb (length magnitudes) (rows * bins) w) (wide-is ∙ e) v)
+          magnitudes-0 e v = sym (lowest-0 bounds whole wide loud inside w (wide-is ∙ e) v)
 
--- what number 0 says of the flux
-pub record FluxAsks (magnitudes : List Float) (rows bins flux : ℕ) : Type 0 where
-  pub whole : length magnitudes ≡ rows * bins
-  pub loud : every magnitudeFine magnitudes ≡ true
-  pub room : rows ≤ flux
-
-pub flux-asks : (magnitudes : List Float) (rows bins rate : ℕ) (o : TempoOpts) (flux : ℕ) (frames lags : List ℕ) (work : ℕ)
-    → magnitudesRefusal magnitudes rows bins rate o flux frames lags work ≡ 0 → FluxAsks magnitudes rows bins flux
-unfolding magnitudesRefusal
-flux-asks magnitudes rows bins rate o flux frames lags work e =
-    let suffice = suffices (roomOf rows rate o) frames lags work in
-    let p = lowest-zero (analysisNumbersFine rows rate o && between 1 mostBins bins) (eqb (length magnitudes) (rows * bins)) (leb rows flux && suffice) (every magnitudeFine magnitudes) e in
-    record {
-      whole = eqb-true _ _ (p .lengths);
-      loud = p .values;
-      room = leb-true rows flux (and-left (leb rows flux) suffice (p .room));
-    }
+  -- number 0 tells that `spectral_flux` takes them too
+  pub flux-asks : magnitudesRefusal magnitudes slab rate o flux frames lags work ≡ 0 → FluxFine magnitudes slab flux
+  unfolding magnitudesRefusal
+  flux-asks e =
+      let p = lowest-zero bounds whole wide loud e in
+      record {
+        shape = and-left (slabFine slab) (boundsFine rate o) (p .bounds);
+        whole = eqb-true _ _ (p .lengths);
+        has-room = leb-true (slab .rows) flux (and-left (leb (slab .rows) flux) (suffices (roomOf (slab .rows) rate o) frames lags work) (p .room));
+        fine = p .values;
+      }

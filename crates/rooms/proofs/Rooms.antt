@@ -4,20 +4,23 @@ use mathlib.Core.Path.{_≡_, refl, sym, ap, _∙_, subst}
 use mathlib.Core.Bool.{Bool, true, false, _&&_}
 use mathlib.Core.Logic.{_⊎_, inl, inr, ⊎-elim}
 use mathlib.Core.List.{List}
-use Prim.Native.Nat.{ℕ, _*_, _≤_, _<_}
+use Prim.Native.Nat.{ℕ, _≤_, _<_}
 use native.Mathlib.Omega.{arith}
-use borrow.Author.Tests.{leb-true, le-leb, lt-leb, eqb-true, eq-eqb}
-use lib.Dec.{leb, eqb}
+use borrow.Author.Tests.{leb-true, le-leb, lt-leb, eq-eqb}
+use lib.Dec.{leb}
 use lib.ListN.{length}
 use lib.Ieee.{Float}
 use Rattle.numbers.specs.Refusals.{lowest}
-use Rattle.numbers.specs.Limits.{mostBins, between, magnitudeFine, valueFine}
+use Rattle.numbers.specs.Limits.{magnitudeFine, valueFine, slabFine, slabSlots, slabWhole}
 use Rattle.numbers.specs.Lists.{every, curve}
-use Rattle.numbers.proofs.Tests.{which, true-not-false, and-left, and-right, and-both, and-failed, lowest-zero, lowest-0, lowest-3}
+use Rattle.numbers.specs.declared.Slab.{Slab}
+use Rattle.numbers.proofs.Slabs.{slab-fits}
+use Rattle.numbers.proofs.Tests.{which, true-not-false, and-left, and-right, and-both, and-failed, and-false, lowest-zero, lowest-0, lowest-3}
 use Rattle.numbers.proofs.Tabs.{length-tab}
 use Rattle.flux.specs.Flux.{fluxAt}
-use Rattle.flux.proofs.Fluxes.{flux-curve-fine}
+use Rattle.flux.proofs.Fluxes.{FluxFine, flux-curve-fine}
 use Rattle.options.specs.declared.TempoOpts.{TempoOpts}
+use Rattle.lags.specs.Lags.{boundsFine}
 use Rattle.rooms.specs.declared.Room.{Room}
 use Rattle.rooms.specs.Rooms.{
   Results,
@@ -48,7 +51,7 @@ use Rattle.rooms.specs.Enough.{
   short-work,
 }
 use Rattle.rooms.specs.Inner.{Ready}
-use Rattle.rooms.proofs.Numbers.{inBounds, outside, rows-fine, bounds-fine, room-inside, room-outside}
+use Rattle.rooms.proofs.Numbers.{inBounds, outside, by-bounds, rows-fine, bounds-fine, room-inside, room-outside, flux-asks}
 
 -- ---- enough, and too little
 
@@ -195,76 +198,75 @@ module _ (env : List Float) (rate : ℕ) (o : TempoOpts) (r : Results) (s : Spar
 -- ---- magnitudes
 
 -- what number 0 says
-pub record Told (m : List Float) (rows bins rate : ℕ) (o : TempoOpts) (flux : ℕ) (r : Results) (s : Spare) : Type 0 where
-  pub numbers : analysisNumbersFine rows rate o ≡ true
-  pub some-bins : 1 ≤ bins
-  pub bins-fit : bins ≤ mostBins
-  pub whole : length m ≡ rows * bins
-  pub fluxes : rows ≤ flux
-  pub room : Enough (inBounds rows rate o) r s
-  pub loud : every magnitudeFine m ≡ true
+pub record Told (m : List Float) (slab : Slab) (rate : ℕ) (o : TempoOpts) (flux : ℕ) (r : Results) (s : Spare) : Type 0 where
+  pub flux-takes : FluxFine m slab flux
+  pub numbers : analysisNumbersFine (slab .rows) rate o ≡ true
+  pub room : Enough (inBounds (slab .rows) rate o) r s
 
-module _ (m : List Float) (rows bins rate : ℕ) (o : TempoOpts) (flux : List Float) (r : Results) (s : Spare) where
+module _ (m : List Float) (slab : Slab) (rate : ℕ) (o : TempoOpts) (flux : List Float) (r : Results) (s : Spare) where
+  abbrev bounds? : Bool
+  bounds? = slabFine slab && boundsFine rate o
+
   abbrev wide? : Bool
-  wide? = leb rows (length flux) && enough? (roomOf rows rate o) r s
+  wide? = leb (slab .rows) (length flux) && enough? (roomOf (slab .rows) rate o) r s
 
-  pub told : magnitudesNumber m rows bins rate o flux r s ≡ 0 → Told m rows bins rate o (length flux) r s
+  pub told : magnitudesNumber m slab rate o flux r s ≡ 0 → Told m slab rate o (length flux) r s
   unfolding magnitudesRefusal
   told e =
-      let p = lowest-zero (analysisNumbersFine rows rate o && between 1 mostBins bins) (eqb (length m) (rows * bins)) wide? (every magnitudeFine m) e in
-      let n = and-left (analysisNumbersFine rows rate o) (between 1 mostBins bins) (p .bounds) in
-      let b = and-right (analysisNumbersFine rows rate o) (between 1 mostBins bins) (p .bounds) in
-      let w = and-right (leb rows (length flux)) (enough? (roomOf rows rate o) r s) (p .room) in
+      let f = flux-asks m slab rate o (length flux) (frameSlots r) (lagSlots r s) (length (s .work)) e in
+      let p = lowest-zero bounds? (slabWhole slab (length m)) wide? (every magnitudeFine m) e in
+      let n : analysisNumbersFine (slab .rows) rate o ≡ true =
+      by-bounds (slab .rows) rate o (slab-fits slab (f .shape) .rows-fit) ∙ and-right (slabFine slab) (boundsFine rate o) (p .bounds) in
+      let w = and-right (leb (slab .rows) (length flux)) (enough? (roomOf (slab .rows) rate o) r s) (p .room) in
       record {
+        flux-takes = f;
         numbers = n;
-        some-bins = leb-true _ _ (and-left (leb 1 bins) (leb bins mostBins) b);
-        bins-fit = leb-true _ _ (and-right (leb 1 bins) (leb bins mostBins) b);
-        whole = eqb-true _ _ (p .lengths);
-        fluxes = leb-true _ _ (and-left (leb rows (length flux)) (enough? (roomOf rows rate o) r s) (p .room));
-        room = suffices-enough (inBounds rows rate o) r s (sym (ap (λ (x : Room). enough? x r s) (room-inside rows rate o n)) ∙ w);
-        loud = p .values;
+        room = suffices-enough (inBounds (slab .rows) rate o) r s (sym (ap (λ (x : Room). enough? x r s) (room-inside (slab .rows) rate o n)) ∙ w);
       }
 
   -- with each slice at least what `room_of` names, number 3 is never given
-  pub exact-room-of-magnitudes : rows ≤ length flux → Enough (roomOf rows rate o) r s → magnitudesNumber m rows bins rate o flux r s ≡ 3 → ⊥
+  pub exact-room-of-magnitudes : slab .rows ≤ length flux → Enough (roomOf (slab .rows) rate o) r s → magnitudesNumber m slab rate o flux r s ≡ 3 → ⊥
   unfolding magnitudesRefusal
   exact-room-of-magnitudes f e =
-      never-3 (analysisNumbersFine rows rate o && between 1 mostBins bins) (eqb (length m) (rows * bins)) wide? (every magnitudeFine m)
-      (and-both (leb rows (length flux)) (enough? (roomOf rows rate o) r s) (le-leb _ _ f) (enough-suffices (roomOf rows rate o) r s e))
+      never-3 bounds? (slabWhole slab (length m)) wide? (every magnitudeFine m)
+      (and-both (leb (slab .rows) (length flux)) (enough? (roomOf (slab .rows) rate o) r s) (le-leb _ _ f) (enough-suffices (roomOf (slab .rows) rate o) r s e))
 
   -- with one slot fewer anywhere it is, where neither number 1 nor number 2 applies
-  pub one-slot-fewer-of-magnitudes : analysisNumbersFine rows rate o ≡ true → 1 ≤ bins → bins ≤ mostBins → length m ≡ rows * bins
-      → (length flux < rows) ⊎ Short (roomOf rows rate o) r s → magnitudesNumber m rows bins rate o flux r s ≡ 3
+  pub one-slot-fewer-of-magnitudes : slabFine slab ≡ true → boundsFine rate o ≡ true → length m ≡ slabSlots slab
+      → (length flux < slab .rows) ⊎ Short (roomOf (slab .rows) rate o) r s → magnitudesNumber m slab rate o flux r s ≡ 3
   unfolding magnitudesRefusal
-  one-slot-fewer-of-magnitudes n l h w short =
-      lowest-3 (analysisNumbersFine rows rate o && between 1 mostBins bins) (eqb (length m) (rows * bins)) wide? (every magnitudeFine m)
-      (and-both (analysisNumbersFine rows rate o) (between 1 mostBins bins) n (and-both (leb 1 bins) (leb bins mostBins) (le-leb _ _ l) (le-leb _ _ h)))
+  one-slot-fewer-of-magnitudes shape b w short =
+      lowest-3 bounds? (slabWhole slab (length m)) wide? (every magnitudeFine m)
+      (and-both (slabFine slab) (boundsFine rate o) shape b)
       (eq-eqb _ _ w)
       (fails short)
     where
-      fails : (length flux < rows) ⊎ Short (roomOf rows rate o) r s → wide? ≡ false
-      fails (inl f) = let e = lt-leb rows (length flux) f in sym (and-failed (leb rows (length flux)) (enough? (roomOf rows rate o) r s) e) ∙ e
-      fails (inr f) = rw (short-fails (roomOf rows rate o) r s f) (and-false (leb rows (length flux)))
-        where
-          and-false : (b : Bool) → (b && false) ≡ false
-          and-false true = refl
-          and-false false = refl
+      fails : (length flux < slab .rows) ⊎ Short (roomOf (slab .rows) rate o) r s → wide? ≡ false
+      fails (inl f) =
+          let e = lt-leb (slab .rows) (length flux) f in
+          sym (and-failed (leb (slab .rows) (length flux)) (enough? (roomOf (slab .rows) rate o) r s) e) ∙ e
+      fails (inr f) = rw (short-fails (roomOf (slab .rows) rate o) r s f) (and-false (leb (slab .rows) (length flux)))
 
   -- the flux of magnitudes that are not refused is an envelope that isn't either
-  flux-long : length (curve (fluxAt m bins) rows) ≡ rows
-  flux-long = length-tab (fluxAt m bins) 0 rows
+  abbrev envelope : List Float
+  envelope = curve (fluxAt m slab) (slab .rows)
 
-  pub flux-ready : Told m rows bins rate o (length flux) r s → Ready (curve (fluxAt m bins) rows) rate o r s
-  flux-ready t =
-      room-ready (curve (fluxAt m bins) rows) rate o r s (rw flux-long (t .numbers)) (rw flux-long (t .room)) (flux-curve-fine m rows bins (t .loud) (t .bins-fit))
+  flux-long : length envelope ≡ slab .rows
+  flux-long = length-tab (fluxAt m slab) 0 (slab .rows)
 
-  pub flux-taken : magnitudesNumber m rows bins rate o flux r s ≡ 0 → envelopeNumber (curve (fluxAt m bins) rows) rate o r s ≡ 0
+  flux-loud : Told m slab rate o (length flux) r s → every valueFine envelope ≡ true
+  flux-loud t = flux-curve-fine m slab (t .flux-takes .fine) (slab-fits slab (t .flux-takes .shape) .bins-fit)
+
+  pub flux-ready : Told m slab rate o (length flux) r s → Ready envelope rate o r s
+  flux-ready t = room-ready envelope rate o r s (rw flux-long (t .numbers)) (rw flux-long (t .room)) (flux-loud t)
+
+  pub flux-taken : magnitudesNumber m slab rate o flux r s ≡ 0 → envelopeNumber envelope rate o r s ≡ 0
   unfolding envelopeRefusal
   flux-taken e =
       let t = told e in
-      let env = curve (fluxAt m bins) rows in
-      let n : analysisNumbersFine (length env) rate o ≡ true = rw flux-long (t .numbers) in
-      let q : enough? (roomOf (length env) rate o) r s ≡ true =
-      ap (λ (j : ℕ). enough? (roomOf j rate o) r s) flux-long ∙ ap (λ (x : Room). enough? x r s) (room-inside rows rate o (t .numbers)) ∙ enough-suffices (inBounds rows rate o) r s (t .room) in
-      lowest-0 (analysisNumbersFine (length env) rate o) true (enough? (roomOf (length env) rate o) r s) (every valueFine env) n refl q
-      (flux-curve-fine m rows bins (t .loud) (t .bins-fit))
+      let n : analysisNumbersFine (length envelope) rate o ≡ true = rw flux-long (t .numbers) in
+      let q : enough? (roomOf (length envelope) rate o) r s ≡ true =
+      ap (λ (j : ℕ). enough? (roomOf j rate o) r s) flux-long ∙ ap (λ (x : Room). enough? x r s) (room-inside (slab .rows) rate o (t .numbers))
+      ∙ enough-suffices (inBounds (slab .rows) rate o) r s (t .room) in
+      lowest-0 (analysisNumbersFine (length envelope) rate o) true (enough? (roomOf (length envelope) rate o) r s) (every valueFine envelope) n refl q
+      (flux-loud t)

@@ -1,16 +1,17 @@
 -- Document 01, "Room: N slots for flux, threshold, score, back links, onset and beat lists; one per listed frame for .. downbeats;
 -- L = max_lag - min_lag + 1 slots for each of the two lag curves .. and two more for stability; .. for sorting min(21, N) for
 -- thresholds, L for tempo and stability": the room of one whole analysis, and the number that it is refused with.
-use Prim.Native.Nat.{ℕ, _*_, max}
+use Prim.Native.Nat.{ℕ, max}
 use mathlib.Core.Bool.{Bool, true, _&&_}
 use mathlib.Core.List.{List, [], _∷_}
-use lib.Dec.{leb, eqb}
+use lib.Dec.{leb}
 use lib.ListN.{length}
 use lib.Ieee.{Float}
 use Rattle.numbers.specs.Rounded.{pick}
-use Rattle.numbers.specs.Limits.{mostRows, mostBins, between, magnitudeFine, valueFine}
+use Rattle.numbers.specs.Limits.{mostRows, magnitudeFine, valueFine, slabFine, slabWhole}
 use Rattle.numbers.specs.Refusals.{outOfBounds, lowest}
 use Rattle.numbers.specs.Lists.{every}
+use Rattle.numbers.specs.declared.Slab.{Slab}
 use Rattle.threshold.specs.Threshold.{windowRoom}
 use Rattle.options.specs.declared.TempoOpts.{TempoOpts}
 use Rattle.lags.specs.Lags.{minLag, maxLag, lagRoom, boundsFine}
@@ -95,18 +96,18 @@ unfolding analysisNumbersFine roomOf suffices
 envelopeRefusal env rate o frames lags work =
     lowest (analysisNumbersFine (length env) rate o) true (suffices (roomOf (length env) rate o) frames lags work) (every valueFine env)
 
--- the number of `analyse_magnitudes`: bins are looked at too, the length, and room for the flux
-unfoldable pub magnitudesRefusal : List Float → (rows bins rate : ℕ) → TempoOpts → (flux : ℕ) → (frames lags : List ℕ) → (work : ℕ) → ℕ
-unfolding analysisNumbersFine roomOf suffices
-magnitudesRefusal magnitudes rows bins rate o flux frames lags work =
-    lowest (analysisNumbersFine rows rate o && between 1 mostBins bins) (eqb (length magnitudes) (rows * bins))
-    (leb rows flux && suffices (roomOf rows rate o) frames lags work)
+-- the number of `analyse_magnitudes`: the whole shape is looked at, the length, and room for the flux
+unfoldable pub magnitudesRefusal : List Float → Slab → (rate : ℕ) → TempoOpts → (flux : ℕ) → (frames lags : List ℕ) → (work : ℕ) → ℕ
+unfolding boundsFine roomOf suffices
+magnitudesRefusal magnitudes slab rate o flux frames lags work =
+    lowest (slabFine slab && boundsFine rate o) (slabWhole slab (length magnitudes))
+    (leb (slab .rows) flux && suffices (roomOf (slab .rows) rate o) frames lags work)
     (every magnitudeFine magnitudes)
 
 -- the same, of what is lent
 abbrev pub envelopeNumber : List Float → (rate : ℕ) → TempoOpts → Results → Spare → ℕ
 envelopeNumber env rate o r s = envelopeRefusal env rate o (frameSlots r) (lagSlots r s) (length (s .work))
 
-abbrev pub magnitudesNumber : List Float → (rows bins rate : ℕ) → TempoOpts → (flux : List Float) → Results → Spare → ℕ
-magnitudesNumber magnitudes rows bins rate o flux r s =
-    magnitudesRefusal magnitudes rows bins rate o (length flux) (frameSlots r) (lagSlots r s) (length (s .work))
+abbrev pub magnitudesNumber : List Float → Slab → (rate : ℕ) → TempoOpts → (flux : List Float) → Results → Spare → ℕ
+magnitudesNumber magnitudes slab rate o flux r s =
+    magnitudesRefusal magnitudes slab rate o (length flux) (frameSlots r) (lagSlots r s) (length (s .work))

@@ -4,9 +4,9 @@
 use options::TempoOpts;
 use lags::bounds_fine;
 use lags::lag_range;
-use numbers::MOST_BINS;
 use numbers::MOST_ROWS;
 use numbers::OUT_OF_BOUNDS;
+use numbers::Slab;
 use numbers::TOO_LITTLE_ROOM;
 use numbers::WRONG_LENGTH;
 use numbers::WRONG_VALUE;
@@ -106,8 +106,7 @@ pub fn envelope_refusal(
 // Inner: the number of an analysis of magnitudes, by the lengths of what is lent.
 pub fn magnitudes_refusal(
     magnitudes: &[f32],
-    rows: usize,
-    bins: usize,
+    slab: Slab,
     rate: u32,
     opts: TempoOpts,
     flux: usize,
@@ -115,19 +114,17 @@ pub fn magnitudes_refusal(
     lags: &[usize],
     work: usize,
 ) -> u32
-    ensures { λ r. ⌜ r ≡ magnitudesRefusal (now (magnitudes .entry)) rows bins rate opts flux (now (frames .entry)) (now (lags .entry)) work ⌝ }
+    ensures { λ r. ⌜ r ≡ magnitudesRefusal (now (magnitudes .entry)) slab rate opts flux (now (frames .entry)) (now (lags .entry)) work ⌝ }
 {
+    if !numbers::slab_fine(slab) {
+        return OUT_OF_BOUNDS;
+    }
+    let rows = slab.rows;
     let room = room_of(rows, rate, opts);
     if room.number != 0 {
         return OUT_OF_BOUNDS;
     }
-    if bins < 1 {
-        return OUT_OF_BOUNDS;
-    }
-    if bins > MOST_BINS {
-        return OUT_OF_BOUNDS;
-    }
-    if magnitudes.len() != rows * bins {
+    if !numbers::slab_whole(slab, magnitudes.len()) {
         return WRONG_LENGTH;
     }
     if flux < rows {

@@ -21,12 +21,12 @@ without-analysis-requires : tie.Need-without-analysis-requires
 without-analysis-requires c κs = search needs
 
 returns : tie.Need-returns
-returns c = magnitudes-refused _ _ _ _ _ _ _ _ _ _ (c .before .before .magnitudes-refusal .ensures) (c .before .if1 .taken) (c .without-analysis .ensures)
+returns c = magnitudes-refused _ _ _ _ _ _ _ _ _ (c .before .before .magnitudes-refusal .ensures) (c .before .if1 .taken) (c .without-analysis .ensures)
 
 fill-flux-requires : tie.Need-fill-flux-requires
 fill-flux-requires c κs =
-    let t = flux-asks _ _ _ _ _ _ _ _ _ (sym (c .before .before .magnitudes-refusal .ensures) ∙ c .before .if1 .left) in
-    (t .whole, (t .loud, (omega arith, omega arith, t .room)))
+    let t = flux-asks _ _ _ _ _ _ _ _ (sym (c .before .before .magnitudes-refusal .ensures) ∙ c .before .if1 .left) in
+    (t .whole, (t .fine, (omega arith, omega arith, t .has-room)))
 
 sub-analyse : tie.Need-sub-analyse
 sub-analyse c = search needs
@@ -36,14 +36,14 @@ part-analyse-start c = search needs
 
 part-analyse-end : tie.Need-part-analyse-end
 part-analyse-end c =
-    let t = flux-asks _ _ _ _ _ _ _ _ _ (sym (c .before .before .before .before .before .before .magnitudes-refusal .ensures) ∙ c .before .before .before .before .before .if1 .left) in
-    omega (arith, t .room)
+    let t = flux-asks _ _ _ _ _ _ _ _ (sym (c .before .before .before .before .before .before .magnitudes-refusal .ensures) ∙ c .before .before .before .before .before .if1 .left) in
+    omega (arith, t .has-room)
 
 analyse-requires : tie.Need-analyse-requires
-analyse-requires c κs = lent-ready _ _ _ _ _ _ _ _ _ (c .before .before .before .before .before .before .before .before .before .before .before .before .before .before .before .before .before .before .magnitudes-refusal .ensures) (c .before .before .before .before .before .before .before .before .before .before .before .before .before .before .before .before .before .if1 .left) _ (c .before .before .before .before .before .before .before .before .before .before .before .before .before .before .before .fill-flux .ensures)
+analyse-requires c κs = lent-ready _ _ _ _ _ _ _ _ (c .before .before .before .before .before .before .before .before .before .before .before .before .before .before .before .before .before .before .magnitudes-refusal .ensures) (c .before .before .before .before .before .before .before .before .before .before .before .before .before .before .before .before .before .if1 .left) _ (c .before .before .before .before .before .before .before .before .before .before .before .before .before .before .before .fill-flux .ensures)
 
 same-length : tie.Need-same-length
-same-length c = c .before .before .before .before .before .before .before .before .before .before .before .before .before .before .before .before .before .before .before .before .before .before .before .before .before .before .before .before .before .before .before .before .before .before .before .before .before .before .fill-flux .kept .1 .1 .1 .1 .1 .0
+same-length c = c .before .before .before .before .before .before .before .before .before .before .before .before .before .before .before .before .before .before .before .before .before .before .before .before .before .before .before .before .before .before .before .before .before .before .before .before .before .before .fill-flux .kept .1 .1 .1 .1 .0
 
 same-length-2 : tie.Need-same-length-2
 same-length-2 c = c .before .before .before .before .before .before .before .before .before .before .before .before .before .before .before .before .before .before .before .before .before .before .analyse .kept .1 .1 .1 .0
@@ -83,7 +83,7 @@ returns-2 c =
     let a = c .before .before .before .before .before .before .before .before .before .before .before .before .before .before .before .before .before .before .before .before .before .before in
     let f = a .before .before .before .before .before .before .before .before .before .before .before .before .before .before .before .before in
     let i = f .before .before in
-    magnitudes-passed _ _ _ _ _ _ _ _ _ (i .before .magnitudes-refusal .ensures) (i .if1 .left) _ (f .fill-flux .ensures) _ _ _ (a .analyse .ensures)
+    magnitudes-passed _ _ _ _ _ _ _ _ (i .before .magnitudes-refusal .ensures) (i .if1 .left) _ (f .fill-flux .ensures) _ _ _ (a .analyse .ensures)
 
 pub analyse-magnitudes-spec : {M : Type 1} → statement M
 analyse-magnitudes-spec =

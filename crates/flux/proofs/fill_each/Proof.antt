@@ -13,11 +13,11 @@ use Rattle.flux.proofs.fill_each.Statement.{statement}
 use Rattle.flux.proofs.fill_each.Tie as tie
 
 abbrev Inv-loop : tie.InvT-loop
-Inv-loop slab rows bins from past out₀ t₀ out t =
-    (from ≤ t) × (t ≤ past) × (length out ≡ length out₀) × (out ≡ filled (fluxAt slab bins) out₀ from t)
+Inv-loop magnitudes slab from past out₀ t₀ out t =
+    (from ≤ t) × (t ≤ past) × (length out ≡ length out₀) × (out ≡ filled (fluxAt magnitudes slab) out₀ from t)
 
 abbrev μ-loop : tie.MeasureT-loop
-μ-loop slab rows bins from past out₀ t₀ out t = past - t
+μ-loop magnitudes slab from past out₀ t₀ out t = past - t
 
 loop-holds : tie.Need-loop-holds Inv-loop μ-loop
 loop-holds c = (omega arith, omega arith, refl, sym (filled-none _ _ _))
@@ -54,7 +54,7 @@ returns c =
     let l = c .before in
     let start = l .before .before .before in
     let e : l .loop .t ≡ start .args .past = omega arith in
-    l .loop .inv .3 ∙ ap (filled (fluxAt (now (start .args .slab)) (start .args .bins)) (now (start .args .out)) (start .args .from)) e
+    l .loop .inv .3 ∙ ap (filled (fluxAt (now (start .args .magnitudes)) (start .args .slab)) (now (start .args .out)) (start .args .from)) e
 
 pub fill-each-spec : {M : Type 1} → statement M
 fill-each-spec =

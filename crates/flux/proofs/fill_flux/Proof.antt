@@ -14,7 +14,7 @@ returns : tie.Need-returns
 returns c =
     let g = c .before .before .before .before .args in
     let e : g .past ≡ g .from = omega arith in
-    sym (ap (filled (fluxAt (now (g .slab)) (g .bins)) (now (g .out)) (g .from)) e ∙ filled-none _ _ _)
+    sym (ap (filled (fluxAt (now (g .magnitudes)) (g .slab)) (now (g .out)) (g .from)) e ∙ filled-none _ _ _)
 
 fill-each-requires : tie.Need-fill-each-requires
 fill-each-requires c κs =
@@ -24,7 +24,7 @@ fill-each-requires c κs =
 fill-four-requires : tie.Need-fill-four-requires
 fill-four-requires c κs =
     let start = c .before .before .before .before .before .before .before .before .before in
-    (start .pre .0, (start .pre .1 .0, (omega arith, omega arith, omega arith, omega (arith, c .before .before .before .fill-each .kept .1 .1 .1 .1 .1 .0))))
+    (start .pre .0, (start .pre .1 .0, (omega arith, omega arith, omega arith, omega (arith, c .before .before .before .fill-each .kept .1 .1 .1 .1 .0))))
 
 same-length : tie.Need-same-length
 same-length c = search needs
@@ -35,7 +35,7 @@ returns-2 c =
     let g = f .before .before .before .before .before .before .before .before .before .before .args in
     f .fill-four .ensures
     ∙ rw (f .before .before .before .before .fill-each .ensures)
-    (filled-join (fluxAt (now (g .slab)) (g .bins)) (now (g .out)) (g .from) 1 (g .past) (omega arith) (omega arith) nan (omega arith))
+    (filled-join (fluxAt (now (g .magnitudes)) (g .slab)) (now (g .out)) (g .from) 1 (g .past) (omega arith) (omega arith) nan (omega arith))
 
 fill-four-requires-2 : tie.Need-fill-four-requires-2
 fill-four-requires-2 c κs = search needs

@@ -15,11 +15,11 @@ use Rattle.flux.proofs.fill_four.Statement.{statement}
 use Rattle.flux.proofs.fill_four.Tie as tie
 
 abbrev Inv-loop : tie.InvT-loop
-Inv-loop slab rows bins from past out₀ quarter k₀ out k =
-    (k ≤ quarter) × (from + 4 * quarter ≤ past) × (length out ≡ length out₀) × (out ≡ quartered (fluxAt slab bins) nan out₀ from quarter k)
+Inv-loop magnitudes slab from past out₀ quarter k₀ out k =
+    (k ≤ quarter) × (from + 4 * quarter ≤ past) × (length out ≡ length out₀) × (out ≡ quartered (fluxAt magnitudes slab) nan out₀ from quarter k)
 
 abbrev μ-loop : tie.MeasureT-loop
-μ-loop slab rows bins from past out₀ quarter k₀ out k = quarter - k
+μ-loop magnitudes slab from past out₀ quarter k₀ out k = quarter - k
 
 sub-quarter : tie.Need-sub-quarter Inv-loop μ-loop
 sub-quarter c = omega arith
@@ -80,7 +80,7 @@ returns c =
     let l = c .before .before .before .before .before in
     let g = l .before .before .before .args in
     let v = l .loop .inv in
-    let f : ℕ → Float = fluxAt (now (g .slab)) (g .bins) in
+    let f : ℕ → Float = fluxAt (now (g .magnitudes)) (g .slab) in
     let out = now (g .out) in
     let q = (g .past - g .from) / 4 in
     let e : l .loop .k ≡ q = omega arith in

@@ -14,19 +14,19 @@ use Rattle.flux.proofs.flux_four.Statement.{statement}
 use Rattle.flux.proofs.flux_four.Tie as tie
 
 abbrev Inv-loop : tie.InvT-loop
-Inv-loop slab rows bins t apart a₀ b₀ c₀ d₀ f₀ i₀ a b c d f i =
-    (i ≤ bins)
+Inv-loop magnitudes slab t apart a₀ b₀ c₀ d₀ f₀ i₀ a b c d f i =
+    (i ≤ slab .bins)
     × (length a ≡ partBins)
     × (length b ≡ partBins)
     × (length c ≡ partBins)
     × (length d ≡ partBins)
-    × (sumFrom (f .a) (riseRest slab bins t i) ≡ fluxAt slab bins t)
-    × (sumFrom (f .b) (riseRest slab bins (t + apart) i) ≡ fluxAt slab bins (t + apart))
-    × (sumFrom (f .c) (riseRest slab bins (t + 2 * apart) i) ≡ fluxAt slab bins (t + 2 * apart))
-    × (sumFrom (f .d) (riseRest slab bins (t + 3 * apart) i) ≡ fluxAt slab bins (t + 3 * apart))
+    × (sumFrom (f .a) (riseRest magnitudes slab t i) ≡ fluxAt magnitudes slab t)
+    × (sumFrom (f .b) (riseRest magnitudes slab (t + apart) i) ≡ fluxAt magnitudes slab (t + apart))
+    × (sumFrom (f .c) (riseRest magnitudes slab (t + 2 * apart) i) ≡ fluxAt magnitudes slab (t + 2 * apart))
+    × (sumFrom (f .d) (riseRest magnitudes slab (t + 3 * apart) i) ≡ fluxAt magnitudes slab (t + 3 * apart))
 
 abbrev μ-loop : tie.MeasureT-loop
-μ-loop slab rows bins t apart a₀ b₀ c₀ d₀ f₀ i₀ a b c d f i = bins - i
+μ-loop magnitudes slab t apart a₀ b₀ c₀ d₀ f₀ i₀ a b c d f i = slab .bins - i
 
 part-room-requires : tie.Need-part-room-requires Inv-loop μ-loop
 part-room-requires c κs = tt
@@ -44,8 +44,8 @@ loop-holds : tie.Need-loop-holds Inv-loop μ-loop
 loop-holds c =
     let start = c .before .before .before .before .before in
     let g = start .args in
-    let s = now (g .slab) in
-    let n = g .bins in
+    let s = now (g .magnitudes) in
+    let n = g .slab in
     let t = g .t in
     let p = g .apart in (
       omega arith,
@@ -59,24 +59,24 @@ loop-holds c =
       rest-all s n (t + 3 * p) (omega arith),
     )
 
-sub-loop : tie.Need-sub-loop Inv-loop μ-loop
-sub-loop c = c .loop .inv .0
+sub-if1 : tie.Need-sub-if1 Inv-loop μ-loop
+sub-if1 c = c .before .loop .inv .0
 
 slice-aggregate-rise-part : tie.Need-slice-aggregate-rise-part Inv-loop μ-loop
-slice-aggregate-rise-part c = sym (c .before .before .loop .inv .1)
+slice-aggregate-rise-part c = sym (c .before .before .before .loop .inv .1)
 
 slice-aggregate-rise-part-2 : tie.Need-slice-aggregate-rise-part-2 Inv-loop μ-loop
-slice-aggregate-rise-part-2 c = sym (c .before .before .before .loop .inv .2)
+slice-aggregate-rise-part-2 c = sym (c .before .before .before .before .loop .inv .2)
 
 slice-aggregate-rise-part-3 : tie.Need-slice-aggregate-rise-part-3 Inv-loop μ-loop
-slice-aggregate-rise-part-3 c = sym (c .before .before .before .before .loop .inv .3)
+slice-aggregate-rise-part-3 c = sym (c .before .before .before .before .before .loop .inv .3)
 
 slice-aggregate-rise-part-4 : tie.Need-slice-aggregate-rise-part-4 Inv-loop μ-loop
-slice-aggregate-rise-part-4 c = sym (c .before .before .before .before .before .loop .inv .4)
+slice-aggregate-rise-part-4 c = sym (c .before .before .before .before .before .before .loop .inv .4)
 
 rise-part-requires : tie.Need-rise-part-requires Inv-loop μ-loop
 rise-part-requires c κs =
-    let l = c .before .before .before .before .before in
+    let l = c .before .before .before .before .before .before in
     let start = l .before .before .before .before .before .before in
     let v = l .loop .inv in
     (start .pre .0, (start .pre .1 .0, ((omega arith, omega arith, omega arith), (v .1, v .2, v .3, v .4))))
@@ -89,12 +89,11 @@ loop-less c = search needs
 
 loop-again : tie.Need-loop-again Inv-loop μ-loop
 loop-again c =
-    let l = c .before .before .before .before .before .before .before .before .before .before in
+    let l = c .before .before .before .before .before .before .before .before .before .before .before in
     let start = l .before .before .before .before .before .before in
     let g = start .args in
-    let s = now (g .slab) in
-    let n = g .rows in
-    let m = g .bins in
+    let s = now (g .magnitudes) in
+    let n = g .slab in
     let t = g .t in
     let p = g .apart in
     let o = start .pre .0 in
@@ -106,21 +105,21 @@ loop-again c =
       search needs,
       search needs,
       search needs,
-      rest-more s n m t i _ _ o (omega arith) (omega arith) (omega arith) (z .0) (v .5),
-      rest-more s n m (t + p) i _ _ o (omega arith) (omega arith) (omega arith) (z .1) (v .6),
-      rest-more s n m (t + 2 * p) i _ _ o (omega arith) (omega arith) (omega arith) (z .2) (v .7),
-      rest-more s n m (t + 3 * p) i _ _ o (omega arith) (omega arith) (omega arith) (z .3) (v .8),
+      rest-more s n t i _ _ o (omega arith) (omega arith) (omega arith) (z .0) (v .5),
+      rest-more s n (t + p) i _ _ o (omega arith) (omega arith) (omega arith) (z .1) (v .6),
+      rest-more s n (t + 2 * p) i _ _ o (omega arith) (omega arith) (omega arith) (z .2) (v .7),
+      rest-more s n (t + 3 * p) i _ _ o (omega arith) (omega arith) (omega arith) (z .3) (v .8),
     )
 
 rise-rest-requires : tie.Need-rise-rest-requires Inv-loop μ-loop
 rise-rest-requires c κs =
-    let l = c .before in
+    let l = c .before .before in
     let start = l .before .before .before .before .before .before in
     (start .pre .0, (start .pre .1 .0, (omega arith, omega arith, l .loop .inv .0)))
 
 returns : tie.Need-returns Inv-loop μ-loop
 returns c =
-    let v = c .before .before .loop .inv in
+    let v = c .before .before .before .loop .inv in
     let f = c .rise-rest .ensures in
     (f .0 ∙ v .5, f .1 ∙ v .6, f .2 ∙ v .7, f .3 ∙ v .8)
 
@@ -135,7 +134,7 @@ flux-four-spec =
     part-room-requires-3
     part-room-requires-4
     loop-holds
-    sub-loop
+    sub-if1
     slice-aggregate-rise-part
     slice-aggregate-rise-part-2
     slice-aggregate-rise-part-3

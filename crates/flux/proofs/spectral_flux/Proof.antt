@@ -16,7 +16,7 @@ returns c = written-refused _ _ _ _ (c .before .refusal .ensures) (c .if1 .taken
 
 fill-flux-requires : tie.Need-fill-flux-requires
 fill-flux-requires c κs =
-    let told = flux-told _ _ _ _ (sym (c .before .before .refusal .ensures) ∙ c .before .if1 .left) in
+    let told = flux-told _ _ _ (sym (c .before .before .refusal .ensures) ∙ c .before .if1 .left) in
     (told .whole, (told .fine, (omega arith, omega arith, told .has-room)))
 
 same-length : tie.Need-same-length

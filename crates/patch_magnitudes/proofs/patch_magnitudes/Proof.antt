@@ -4,9 +4,10 @@ use native.Mathlib.Omega.{arith}
 use borrow.Author.Needs.{needs}
 use denote.Ref.{now}
 use lib.ListN.{length}
+use Rattle.numbers.specs.Limits.{slabOf}
 use Rattle.patches.specs.Patches.{patchOf}
-use Rattle.patch_refusal.specs.Tracks.{magnitudeTrack, patchNumber}
-use Rattle.patch_refusal.proofs.Asked.{Asked, asked}
+use Rattle.patch_magnitudes.specs.Tracks.{magnitudeTrack, patchNumber}
+use Rattle.patch_magnitudes.proofs.Asked.{Asked, asked}
 use Rattle.patch_magnitudes.proofs.Outcomes.{refused, empty, wrote}
 use Rattle.patch_magnitudes.proofs.patch_magnitudes.Statement.{statement}
 use Rattle.patch_magnitudes.proofs.patch_magnitudes.Tie as tie
@@ -16,15 +17,15 @@ abbrev S : tie.Else2 → tie.Start
 S c = c .before .before .before .before .before .before .before .before .before .before .before
 
 none : (c : tie.Else2)
-    → patchNumber (S c .args .rows) (S c .args .bins) (magnitudeTrack (now (S c .args .magnitudes)) (now (S c .args .flux)) (now (S c .args .threshold)))
+    → patchNumber (slabOf (S c .args .rows) (S c .args .bins)) (magnitudeTrack (now (S c .args .magnitudes)) (now (S c .args .flux)) (now (S c .args .threshold)))
     (patchOf (S c .args .start) (now (S c .args .new))) (length (now (S c .args .work)))
     ≡ 0
 none c = sym (c .before .before .refusal .ensures) ∙ c .before .if1 .left
 
 ready : (c : tie.Else2)
-    → Asked (S c .args .rows) (S c .args .bins) (magnitudeTrack (now (S c .args .magnitudes)) (now (S c .args .flux)) (now (S c .args .threshold)))
+    → Asked (slabOf (S c .args .rows) (S c .args .bins)) (magnitudeTrack (now (S c .args .magnitudes)) (now (S c .args .flux)) (now (S c .args .threshold)))
     (patchOf (S c .args .start) (now (S c .args .new))) (length (now (S c .args .work)))
-ready c = asked _ _ _ _ _ (none c)
+ready c = asked _ _ _ _ (none c)
 
 refusal-requires : tie.Need-refusal-requires
 refusal-requires c κs = search needs
@@ -39,7 +40,7 @@ same-length-3 : tie.Need-same-length-3
 same-length-3 c = search needs
 
 returns : tie.Need-returns
-returns c = refused _ _ _ _ _ _ (c .before .refusal .ensures) (c .if1 .taken)
+returns c = refused _ _ _ _ _ (c .before .refusal .ensures) (c .if1 .taken)
 
 same-length-4 : tie.Need-same-length-4
 same-length-4 c = search needs
@@ -51,7 +52,7 @@ same-length-6 : tie.Need-same-length-6
 same-length-6 c = search needs
 
 returns-2 : tie.Need-returns-2
-returns-2 c = empty _ _ _ _ _ (sym (c .before .before .refusal .ensures) ∙ c .before .if1 .left) (c .if2 .taken)
+returns-2 c = empty _ _ _ _ (sym (c .before .before .refusal .ensures) ∙ c .before .if1 .left) (c .if2 .taken)
 
 div-count : tie.Need-div-count
 div-count c = let a = ready c in omega arith
@@ -60,12 +61,12 @@ mend-flux-requires : tie.Need-mend-flux-requires
 mend-flux-requires c κs =
     let a = ready (c .before .before) in
     let w = a .lengths in
-    ((w .whole, w .new-whole, w .inside), ((a .fine, a .new-fine), (a .bounds .rows-fit, a .rooms .flux-room)))
+    ((w .whole, w .new-whole, w .inside), ((a .fine, a .new-fine), (a .fits .rows-fit, a .rooms .flux-room)))
 
 mend-threshold-requires : tie.Need-mend-threshold-requires
 mend-threshold-requires c κs =
     let a = ready (c .before .before .before .before .before .before .before .before .before .before) in
-    (a .lengths .inside, a .bounds .rows-fit, omega arith, a .rooms .threshold-room, a .rooms .work-room)
+    (a .lengths .inside, a .fits .rows-fit, omega arith, a .rooms .threshold-room, a .rooms .work-room)
 
 same-length-7 : tie.Need-same-length-7
 same-length-7 c = search needs
@@ -84,7 +85,7 @@ returns-3 c =
     let e = c .before .before .before .before .before .before .before .before .before .before .before .before .before .before .before in
     let f = c .before .before .before .before .before .before .before .before .before .before .before .before .mend-flux in
     let t = c .before .before .before .before .mend-threshold in
-    wrote _ _ _ _ _ (none e) (e .if2 .left) _ _ _ (f .ensures .0) (t .ensures .0 .0) (t .ensures .0 .1) _ _ _ _
+    wrote _ _ _ _ (none e) (e .if2 .left) _ _ _ (f .ensures .0) (t .ensures .0 .0) (t .ensures .0 .1) _ _ _ _
     (f .ensures .1 .0) (f .ensures .1 .1) (t .ensures .1 .0) (t .kept .1 .1 .1 .1 .1 .0) (t .ensures .1 .1)
 
 pub patch-magnitudes-spec : {M : Type 1} → statement M

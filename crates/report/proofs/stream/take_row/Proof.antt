@@ -11,7 +11,7 @@ use lib.Ieee.{Float}
 use lib.ListN.{length, take, drop, set, length-drop, length-append}
 use Rattle.numbers.proofs.Everys.{every-append, every-drop}
 use Rattle.numbers.proofs.Tests.{and-held, and-failed}
-use Rattle.numbers.specs.Limits.{magnitudeFine}
+use Rattle.numbers.specs.Limits.{magnitudeFine, slabOf}
 use Rattle.numbers.specs.Lists.{every}
 use Rattle.flux.specs.Flux.{fluxAt}
 use Rattle.report.specs.Input.{valuesOf}
@@ -124,7 +124,7 @@ returns-3 c =
       fine-is = sym passed ∙ told ∙ and-held (start .args .fine) _ on;
       kept-is = keeping .keep-row .ensures;
       flux-is = ap (set (now (start .args .flux)) (start .args .t)) (c .flux-slot .ensures
-          ∙ ap (fluxAt _ bins) (c .before .least .ensures) ∙ ap (λ (r : List Float). fluxAt r bins (min (start .args .t) 1)) (keeping .keep-row .ensures));
+          ∙ ap (fluxAt _ (slabOf 2 bins)) (c .before .least .ensures) ∙ ap (λ (r : List Float). fluxAt r (slabOf 2 bins) (min (start .args .t) 1)) (keeping .keep-row .ensures));
     }
 
 pub take-row-spec : {M : Type 1} → statement M

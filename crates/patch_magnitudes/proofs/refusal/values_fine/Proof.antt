@@ -1,13 +1,13 @@
--- `patch_refusal::values_fine` meets its contract: each return rewrites the chain of tests with those that led to it. Assumes nothing.
+-- `patch_magnitudes::refusal::values_fine` meets its contract: each return rewrites the chain of tests with those that led to it. Assumes nothing.
 use mathlib.Core.Path.{sym, _∙_}
 use borrow.Author.Needs.{needs}
 use borrow.Author.Tests.{not-true, not-false}
 use denote.Ref.{now}
 use Rattle.numbers.specs.Limits.{valueFine}
 use Rattle.patches.proofs.Parts.{first-slots}
-use Rattle.patch_refusal.specs.Tracks.{patchValues}
-use Rattle.patch_refusal.proofs.values_fine.Statement.{statement}
-use Rattle.patch_refusal.proofs.values_fine.Tie as tie
+use Rattle.patch_magnitudes.specs.Tracks.{patchValues}
+use Rattle.patch_magnitudes.proofs.refusal.values_fine.Statement.{statement}
+use Rattle.patch_magnitudes.proofs.refusal.values_fine.Tie as tie
 
 magnitudes-fine-requires : tie.Need-magnitudes-fine-requires
 magnitudes-fine-requires c κs = search needs

@@ -1,4 +1,4 @@
--- `mending::mend_threshold` meets its contract: the part of the flux that is lent on is its first `rows` slots (`lent`). Assumes nothing.
+-- `patch_magnitudes::mending::mend_threshold` meets its contract: the part of the flux that is lent on is its first `rows` slots (`lent`). Assumes nothing.
 use mathlib.Core.Path.{_≡_, _∙_}
 use Prim.Native.Nat.{_-_}
 use native.Mathlib.Nat.{sub-zero}
@@ -7,8 +7,8 @@ use borrow.Author.Needs.{needs}
 use denote.Ref.{now}
 use lib.ListN.{length, take}
 use lib.Seq.{length-take-le}
-use Rattle.mending.proofs.mend_threshold.Statement.{statement}
-use Rattle.mending.proofs.mend_threshold.Tie as tie
+use Rattle.patch_magnitudes.proofs.mending.mend_threshold.Statement.{statement}
+use Rattle.patch_magnitudes.proofs.mending.mend_threshold.Tie as tie
 
 lent : (c : tie.Start) → length (take (c .args .rows - 0) (now (c .args .flux))) ≡ c .args .rows
 lent c = length-take-le (c .args .rows - 0) (now (c .args .flux)) (omega arith) ∙ sub-zero (c .args .rows)

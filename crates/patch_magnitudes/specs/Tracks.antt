@@ -5,11 +5,12 @@ use mathlib.Core.List.{List}
 use lib.Dec.{leb}
 use lib.ListN.{length, take}
 use lib.Ieee.{Float}
-use Rattle.numbers.specs.Limits.{mostRows, mostBins, between, magnitudeFine, valueFine}
+use Rattle.numbers.specs.Limits.{magnitudeFine, valueFine, slabFine, slabWhole}
 use Rattle.numbers.specs.Lists.{every}
 use Rattle.numbers.specs.Refusals.{lowest}
+use Rattle.numbers.specs.declared.Slab.{Slab}
 use Rattle.threshold.specs.Threshold.{windowRoom}
-use Rattle.patches.specs.Patches.{Patch, wholeRows}
+use Rattle.patches.specs.Patches.{Patch, newRows}
 
 -- what is lent and kept: the magnitudes, row behind row, and their two curves
 pub record MagnitudeTrack : Type 0 where
@@ -23,8 +24,12 @@ magnitudeTrack magnitudes flux threshold = record { magnitudes = magnitudes; flu
 -- ---- refusal
 
 -- number 1 else: rows 0 to 1,048,576, bins 1 to 4,096, a start of at most the row count
-unfoldable pub patchBounds : (rows bins start : ℕ) → Bool
-patchBounds rows bins start = leb rows mostRows && (between 1 mostBins bins && leb start rows)
+unfoldable pub patchBounds : Slab → (start : ℕ) → Bool
+patchBounds slab start = slabFine slab && leb start (slab .rows)
+
+-- number 2 else: so many lent magnitudes are rows times bins, and so many new ones are whole rows that end inside
+unfoldable pub patchLengths : Slab → (slots start added : ℕ) → Bool
+patchLengths slab slots start added = slabWhole slab slots && newRows (slab .rows) (slab .bins) start added
 
 -- number 3 else: "A lent curve too short is number 3 here, never 2"
 unfoldable pub patchRoom : (rows flux threshold room : ℕ) → Bool
@@ -37,7 +42,7 @@ patchValues rows was new =
     && (every magnitudeFine new && (every valueFine (take rows (was .flux)) && every valueFine (take rows (was .threshold))))
 
 -- the number, with `room` slots lent to sort in
-unfoldable pub patchNumber : (rows bins : ℕ) → MagnitudeTrack → Patch → (room : ℕ) → ℕ
-patchNumber rows bins was patch room =
-    lowest (patchBounds rows bins (patch .start)) (wholeRows (length (was .magnitudes)) rows bins (patch .start) (length (patch .new)))
-    (patchRoom rows (length (was .flux)) (length (was .threshold)) room) (patchValues rows was (patch .new))
+unfoldable pub patchNumber : Slab → MagnitudeTrack → Patch → (room : ℕ) → ℕ
+patchNumber slab was patch room =
+    lowest (patchBounds slab (patch .start)) (patchLengths slab (length (was .magnitudes)) (patch .start) (length (patch .new)))
+    (patchRoom (slab .rows) (length (was .flux)) (length (was .threshold)) room) (patchValues (slab .rows) was (patch .new))

@@ -1,4 +1,4 @@
--- `mending::mend_flux` meets its contract: the new rows fit (`fits`), and the flux is written from the rows with them copied in. Assumes nothing.
+-- `patch_magnitudes::mending::mend_flux` meets its contract: the new rows fit (`fits`), and the flux is written from the rows with them copied in. Assumes nothing.
 use mathlib.Core.Path.{_∙_}
 use Prim.Native.Nat.{_+_, _*_, _≤_}
 use native.Mathlib.Omega.{arith}
@@ -8,19 +8,19 @@ use lib.Ieee.{nan}
 use lib.ListN.{length}
 use Rattle.numbers.proofs.Overs.{length-over, every-over, patch-fits}
 use Rattle.patches.specs.Patches.{edited}
-use Rattle.mending.proofs.mend_flux.Statement.{statement}
-use Rattle.mending.proofs.mend_flux.Tie as tie
+use Rattle.patch_magnitudes.proofs.mending.mend_flux.Statement.{statement}
+use Rattle.patch_magnitudes.proofs.mending.mend_flux.Tie as tie
 
-fits : (c : tie.Start) → c .args .start * c .args .bins + length (now (c .args .new)) ≤ length (now (c .args .magnitudes))
+fits : (c : tie.Start) → c .args .start * c .args .slab .bins + length (now (c .args .new)) ≤ length (now (c .args .magnitudes))
 fits c =
-    patch-fits (now (c .args .magnitudes)) (now (c .args .new)) (c .args .rows) (c .args .bins) (c .args .start) (c .args .count) nan
+    patch-fits (now (c .args .magnitudes)) (now (c .args .new)) (c .args .slab .rows) (c .args .slab .bins) (c .args .start) (c .args .count) nan
     (c .pre .0 .0) (c .pre .0 .1) (c .pre .0 .2)
 
 mul-copy-magnitudes : tie.Need-mul-copy-magnitudes
-mul-copy-magnitudes c = omega (arith, fits (c .before .before .before .before))
+mul-copy-magnitudes c = omega (arith, fits (c .before .before .before .before .before))
 
 copy-magnitudes-requires : tie.Need-copy-magnitudes-requires
-copy-magnitudes-requires c κs = fits (c .before .before .before .before)
+copy-magnitudes-requires c κs = fits (c .before .before .before .before .before)
 
 add-past : tie.Need-add-past
 add-past c = search needs
@@ -33,7 +33,7 @@ least-requires c κs = search needs
 
 fill-flux-requires : tie.Need-fill-flux-requires
 fill-flux-requires c κs =
-    let s = c .before .before .before .before .before .before .before .before .before .before in
+    let s = c .before .before .before .before .before .before .before .before .before .before .before in
     rw (c .before .before .before .before .before .copy-magnitudes .ensures)
     (length-over _ _ _ (fits s) ∙ s .pre .0 .0, (every-over _ _ _ _ (s .pre .1 .0 .0) (s .pre .1 .0 .1), (omega arith, omega arith, omega arith)))
 

@@ -1,9 +1,9 @@
--- `patch_refusal::room_fine` meets its contract: each return rewrites the chain of tests with those that led to it. Assumes nothing.
+-- `patch_magnitudes::refusal::room_fine` meets its contract: each return rewrites the chain of tests with those that led to it. Assumes nothing.
 use borrow.Author.Needs.{needs}
 use borrow.Author.Tests.{le-leb, lt-leb}
-use Rattle.patch_refusal.specs.Tracks.{patchRoom}
-use Rattle.patch_refusal.proofs.room_fine.Statement.{statement}
-use Rattle.patch_refusal.proofs.room_fine.Tie as tie
+use Rattle.patch_magnitudes.specs.Tracks.{patchRoom}
+use Rattle.patch_magnitudes.proofs.refusal.room_fine.Statement.{statement}
+use Rattle.patch_magnitudes.proofs.refusal.room_fine.Tie as tie
 
 least-requires : tie.Need-least-requires
 least-requires c κs = search needs

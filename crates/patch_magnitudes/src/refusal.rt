@@ -1,32 +1,38 @@
 // Which patches of magnitude rows are refused.
 //
-// Document 01, Patching (added). Inner calls: no caller of the library needs them.
+// Document 01, Patching (added).
+use numbers::Slab;
 use threshold::MEDIAN_WINDOW;
+ghost use mathlib.Core.Bool.{true};
 ghost use mathlib.Core.Path.{_≡_};
 ghost use Prim.Native.Nat.{_≤_};
 ghost use lib.ListN.{length};
 ghost use Rattle.patches.specs.Patches.{patchOf};
-ghost use Rattle.patch_refusal.specs.Tracks.{magnitudeTrack, patchBounds, patchRoom, patchValues, patchNumber};
+ghost use Rattle.patch_magnitudes.specs.Tracks.{magnitudeTrack, patchBounds, patchLengths, patchRoom, patchValues, patchNumber};
 
-// Inner: the number of a patch, lent `room` slots to sort in.
+// The number of a patch, lent `room` slots to sort in.
 pub fn refusal(
     magnitudes: &[f32],
-    rows: usize,
-    bins: usize,
+    slab: Slab,
     start: usize,
     new: &[f32],
     flux: &[f64],
     threshold: &[f64],
     room: usize,
 ) -> u32
-    ensures { λ r. ⌜ r ≡ patchNumber rows bins (magnitudeTrack (now (magnitudes .entry)) (now (flux .entry)) (now (threshold .entry))) (patchOf start (now (new .entry))) room ⌝ }
+    ensures { λ r. ⌜
+        r ≡
+        patchNumber slab (magnitudeTrack (now (magnitudes .entry)) (now (flux .entry)) (now (threshold .entry)))
+        (patchOf start (now (new .entry))) room
+        ⌝ }
 {
-    if !bounds_fine(rows, bins, start) {
+    if !bounds_fine(slab, start) {
         return numbers::OUT_OF_BOUNDS;
     }
-    if !patches::whole_rows(magnitudes.len(), rows, bins, start, new.len()) {
+    if !lengths_fine(slab, magnitudes.len(), start, new.len()) {
         return numbers::WRONG_LENGTH;
     }
+    let rows = slab.rows;
     if !room_fine(rows, flux.len(), threshold.len(), room) {
         return numbers::TOO_LITTLE_ROOM;
     }
@@ -36,10 +42,17 @@ pub fn refusal(
     0
 }
 
-fn bounds_fine(rows: usize, bins: usize, start: usize) -> bool
-    ensures { λ r. ⌜ r ≡ patchBounds rows bins start ⌝ }
+fn bounds_fine(slab: Slab, start: usize) -> bool
+    ensures { λ r. ⌜ r ≡ patchBounds slab start ⌝ }
 {
-    rows <= numbers::MOST_ROWS && (1 <= bins && (bins <= numbers::MOST_BINS && start <= rows))
+    numbers::slab_fine(slab) && start <= slab.rows
+}
+
+fn lengths_fine(slab: Slab, slots: usize, start: usize, added: usize) -> bool
+    requires { ⌜ patchBounds slab start ≡ true ⌝ }
+    ensures { λ r. ⌜ r ≡ patchLengths slab slots start added ⌝ }
+{
+    numbers::slab_whole(slab, slots) && patches::new_rows(slab.rows, slab.bins, start, added)
 }
 
 fn room_fine(rows: usize, flux: usize, threshold: usize, room: usize) -> bool
@@ -56,7 +69,10 @@ fn values_fine(
     threshold: &[f64],
 ) -> bool
     requires { ⌜ (rows ≤ length (now flux)) × (rows ≤ length (now threshold)) ⌝ }
-    ensures { λ r. ⌜ r ≡ patchValues rows (magnitudeTrack (now (magnitudes .entry)) (now (flux .entry)) (now (threshold .entry))) (now (new .entry)) ⌝ }
+    ensures { λ r. ⌜
+        r ≡
+        patchValues rows (magnitudeTrack (now (magnitudes .entry)) (now (flux .entry)) (now (threshold .entry))) (now (new .entry))
+        ⌝ }
 {
     if !numbers::magnitudes_fine(magnitudes) {
         return false;

@@ -1,2 +1,0 @@
--- What number 0 says, for the crates that cite it.
-pub mod Asked
