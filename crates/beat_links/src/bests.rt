@@ -119,7 +119,10 @@ fn first_reaching(
     at: usize,
     value: f64,
 ) -> Best
-    requires { ⌜ (end ≤ length (now score)) × (end ≤ mostRows) × (first + (end - lo) ≤ length (now table)) × Reached (tabled (now table) (now score) first lo) lo end at value ⌝ }
+    requires { ⌜
+        (end ≤ length (now score)) × (end ≤ mostRows) × (first + (end - lo) ≤ length (now table))
+        × Reached (tabled (now table) (now score) first lo) lo end at value
+        ⌝ }
     ensures { λ r. ⌜ r ≡ greatest (tabled (now (table .entry)) (now (score .entry)) first lo) lo (end - lo) unlinked ⌝ }
 {
     let mut u = at;

@@ -17,9 +17,15 @@ fn track_with(
     score: &mut [f64],
     back: &mut [u32],
 )
-    requires { ⌜ (1 ≤ period) × (period ≤ mostPeriod) × (length (now envelope) ≤ mostRows) × (length (now envelope) ≤ length (now score)) × (length (now envelope) ≤ length (now back)) ⌝ }
+    requires { ⌜
+        (1 ≤ period) × (period ≤ mostPeriod) × (length (now envelope) ≤ mostRows)
+        × (length (now envelope) ≤ length (now score)) × (length (now envelope) ≤ length (now back))
+        ⌝ }
     requires { ⌜ Penalties period (now table) ⌝ }
-    ensures { λ _. ⌜ Tracked period (scaledBy scale (now (envelope .entry))) (length (now (envelope .entry))) (now (score .entry)) (now (score .exit)) (now (back .entry)) (now (back .exit)) ⌝ }
+    ensures { λ _. ⌜
+        Tracked period (scaledBy scale (now (envelope .entry))) (length (now (envelope .entry)))
+        (now (score .entry)) (now (score .exit)) (now (back .entry)) (now (back .exit))
+        ⌝ }
 {
     let mut t = 0;
     while t < envelope.len() {
@@ -32,8 +38,14 @@ fn track_with(
 
 // Writes the score and the link of each frame. A table of 4,096 slots is enough for a period of 2,048 frames; a longer one goes without.
 pub fn track(envelope: &[f64], scale: f64, period: usize, score: &mut [f64], back: &mut [u32])
-    requires { ⌜ (1 ≤ period) × (period ≤ mostPeriod) × (length (now envelope) ≤ mostRows) × (length (now envelope) ≤ length (now score)) × (length (now envelope) ≤ length (now back)) ⌝ }
-    ensures { λ _. ⌜ Tracked period (scaledBy scale (now (envelope .entry))) (length (now (envelope .entry))) (now (score .entry)) (now (score .exit)) (now (back .entry)) (now (back .exit)) ⌝ }
+    requires { ⌜
+        (1 ≤ period) × (period ≤ mostPeriod) × (length (now envelope) ≤ mostRows)
+        × (length (now envelope) ≤ length (now score)) × (length (now envelope) ≤ length (now back))
+        ⌝ }
+    ensures { λ _. ⌜
+        Tracked period (scaledBy scale (now (envelope .entry))) (length (now (envelope .entry)))
+        (now (score .entry)) (now (score .exit)) (now (back .entry)) (now (back .exit))
+        ⌝ }
 {
     let mut table = [0.0; 4096];
     if 2 * period <= 4096 {

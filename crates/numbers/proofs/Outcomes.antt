@@ -1,13 +1,15 @@
 -- What a call that writes a lent list promises: a refusal and an answer each meet it, and any two outcomes that it permits coincide.
--- And what is said of the slots from one on holds of those from a later one on.
+-- Then room that is left open; and what is said of the slots from one on holds of those from a later one on.
 use mathlib.Core.List.{List}
-use mathlib.Core.Path.{_≡_, sym, ap, _∙_}
-use Prim.Native.Nat.{ℕ, _+_, _-_, _≤_}
+use mathlib.Core.Path.{_≡_, refl, sym, ap, _∙_, subst}
+use Prim.Native.Nat.{ℕ, _+_, _-_, _≤_, zero-le}
 use native.Mathlib.Omega.{arith}
-use lib.ListN.{drop}
-use lib.Seq.{drop-drop}
-use Rattle.numbers.specs.Outcomes.{Written}
+use lib.ListN.{length, drop}
+use lib.Seq.{drop-drop, drop-at}
+use Rattle.numbers.specs.Lists.{curve, filled}
+use Rattle.numbers.specs.Outcomes.{Written, Open, OpenUnless}
 use Rattle.numbers.proofs.Tests.{refused-keeps, passed-does}
+use Rattle.numbers.proofs.Tabs.{length-tab, length-filled, filled-whole}
 
 module _ {A : Type 0} (number : ℕ) (done was : List A) where
   pub written-refused : (answer : ℕ) → answer ≡ number → (answer ≡ 0 → ⊥) → Written number done was answer was
@@ -26,3 +28,34 @@ module _ {A : Type 0} where
   drop-later n m xs ys h e =
       let k : n + (m - n) ≡ m = omega arith in
       ap (λ (j : ℕ). drop j xs) (sym k) ∙ sym (drop-drop (m - n) n xs) ∙ ap (drop (m - n)) e ∙ drop-drop (m - n) n ys ∙ ap (λ (j : ℕ). drop j ys) k
+
+-- ---- room that is left open
+
+module _ {A : Type 0} where
+  -- nothing was written
+  pub open-same : (slots : ℕ) (xs : List A) → Open slots xs xs
+  open-same slots xs = record { same-length = refl; kept = refl }
+
+  -- written twice
+  pub open-then : (slots : ℕ) (xs ys zs : List A) → Open slots xs ys → Open slots ys zs → Open slots xs zs
+  open-then slots xs ys zs a b = record { same-length = b .same-length ∙ a .same-length; kept = b .kept ∙ a .kept }
+
+  -- the open slots were filled
+  pub open-filled : (slots : ℕ) (f : ℕ → A) (xs ys : List A) → slots ≤ length xs → ys ≡ filled f xs 0 slots → Open slots xs ys
+  open-filled slots f xs ys h e =
+      record {
+        same-length = ap length e ∙ length-filled f xs 0 slots zero-le h;
+        kept = ap (drop slots) (e ∙ filled-whole f xs slots) ∙ drop-at (curve f slots) (drop slots xs) slots (length-tab f 0 slots);
+      }
+
+  -- of a call that answers: what is left open is what the answer leaves open
+  module _ (number slots : ℕ) (was after : List A) (answers : number ≡ 0) where
+    pub open-answered : Open slots was after → OpenUnless number slots was after
+    open-answered o = subst (λ (k : ℕ). Open k was after) (sym (passed-does number slots 0 answers)) o
+
+    pub open-told : OpenUnless number slots was after → Open slots was after
+    open-told o = subst (λ (k : ℕ). Open k was after) (passed-does number slots 0 answers) o
+
+  -- any two outcomes have one length, and coincide in each slot that is not left open
+  pub open-unique : {slots : ℕ} {was xs ys : List A} → Open slots was xs → Open slots was ys → (length xs ≡ length ys) × (drop slots xs ≡ drop slots ys)
+  open-unique p q = (p .same-length ∙ sym (q .same-length), p .kept ∙ sym (q .kept))
