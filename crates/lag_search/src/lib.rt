@@ -37,7 +37,13 @@ pub fn winning_lag(
 ) -> usize
     requires { ⌜ («min_lag» ≤ «max_lag») × («max_lag» ≤ mostPeriod) × («max_lag» < length (now envelope)) ⌝ }
     requires { ⌜ (lagRoom «min_lag» «max_lag» ≤ length (now clarity)) × (lagRoom «min_lag» «max_lag» ≤ length (now weight)) ⌝ }
-    ensures { λ r. ⌜ Searched (now (envelope .entry)) rate «min_lag» «max_lag» (now (clarity .entry)) (now (weight .entry)) r (now (clarity .exit)) (now (weight .exit)) ⌝ }
+    ensures { λ r. ⌜
+        Searched
+        (now (envelope .entry)) rate «min_lag» «max_lag»
+        (now (clarity .entry)) (now (weight .entry))
+        r
+        (now (clarity .exit)) (now (weight .exit))
+        ⌝ }
 {
     let mean = mean_of(envelope);
     let ac0 = energy_of(envelope, mean);

@@ -15,6 +15,7 @@ use Rattle.numbers.specs.Rounded.{pick, epsilon}
 use Rattle.numbers.specs.Lists.{filled}
 use Rattle.numbers.proofs.Tests.{pick-true, pick-false}
 use Rattle.numbers.proofs.Overs.{row-end}
+use Rattle.numbers.proofs.Outcomes.{open-same, open-filled}
 use Rattle.lists.specs.Means.{meanOf}
 use Rattle.lags.specs.Lags.{lagRoom}
 use Rattle.lags.specs.Pairs.{agrees}
@@ -23,8 +24,8 @@ use Rattle.lag_curves.specs.Curves.{clarityFrom, weightedBy}
 use Rattle.lag_curves.proofs.Weights.{weighted-by-is}
 use Rattle.lag_search.specs.Search.{winnerLag, winningLag}
 use Rattle.lag_search.proofs.Searches.{searched-flat, searched-written}
-use Rattle.stability.specs.Windows.{windowAt, windowAgrees, agreeingTo, WindowSearched}
-use Rattle.stability.proofs.Rooms.{open-same, open-filled}
+use Rattle.stability.specs.Windows.{windowAt, windowAgrees, agreeingTo}
+use Rattle.stability.specs.Inner.{WindowSearched}
 
 -- ---- where they lie
 

@@ -15,7 +15,7 @@ ghost use Prim.Native.Nat.{_+_, _*_, _≤_, _<_};
 ghost use lib.ListN.{length};
 ghost use Rattle.numbers.specs.Limits.{mostPeriod, mostRows};
 ghost use Rattle.lags.specs.Lags.{lagRoom};
-ghost use Rattle.stability.specs.Windows.{WindowSearched, Counted};
+ghost use Rattle.stability.specs.Inner.{WindowSearched, Counted};
 
 // Two octaves either way: a window that locks onto half or double time of the same groove has found no other tempo.
 const FOLDS: [f64; 5] = [0.25, 0.5, 1.0, 2.0, 4.0];

@@ -27,9 +27,9 @@ ghost use Rattle.tempo.specs.Answers.{
   withoutTempo,
   candidateAt,
   foundOf,
-  TempoIn,
   EstimatePromise,
 };
+ghost use Rattle.tempo.specs.Inner.{TempoIn};
 
 // A tempo that the envelope may be heard at: its lag in frames, and its clarity, 0 to 1.
 pub struct Candidate {
@@ -178,7 +178,13 @@ fn tempo_in(
 ) -> TempoEstimate
     requires { ⌜ (1 ≤ «min_lag») × («min_lag» ≤ «max_lag») × («max_lag» ≤ mostPeriod) ⌝ }
     requires { ⌜ (lagRoom «min_lag» «max_lag» ≤ length (now clarity)) × (lagRoom «min_lag» «max_lag» ≤ length (now weight)) ⌝ }
-    ensures { λ r. ⌜ TempoIn (now (envelope .entry)) onsets rate «min_lag» «max_lag» (now (clarity .entry)) (now (weight .entry)) r (now (clarity .exit)) (now (weight .exit)) ⌝ }
+    ensures { λ r. ⌜
+        TempoIn
+        (now (envelope .entry)) onsets rate «min_lag» «max_lag»
+        (now (clarity .entry)) (now (weight .entry))
+        r
+        (now (clarity .exit)) (now (weight .exit))
+        ⌝ }
 {
     if too_little(envelope.len(), onsets, max_lag) {
         return without_tempo(0);
@@ -210,7 +216,13 @@ pub fn estimate(
     weight: &mut [f64],
     work: &mut [f64],
 ) -> TempoEstimate
-    ensures { λ r. ⌜ EstimatePromise (now (envelope .entry)) onsets rate opts (now (clarity .entry)) (now (weight .entry)) (now (work .entry)) r (now (clarity .exit)) (now (weight .exit)) (now (work .exit)) ⌝ }
+    ensures { λ r. ⌜
+        EstimatePromise
+        (now (envelope .entry)) onsets rate opts
+        (now (clarity .entry)) (now (weight .entry)) (now (work .entry))
+        r
+        (now (clarity .exit)) (now (weight .exit)) (now (work .exit))
+        ⌝ }
 {
     let number = search_refusal(
         envelope,

@@ -30,6 +30,5 @@ module _ {A : Type 0} where
 
 -- the beats of a grid may be listed
 pub beats-listable : (env : List Float) (period : ℕ) → length env ≤ mostRows → every frameFine (gridOf env period) ≡ true
-unfolding frameFine
 beats-listable env period h =
     every-by frameFine (gridOf env period) 0 (λ i k. le-leb (getD (gridOf env period) i 0) mostFrame (omega (arith, beats-below env period i k)))
