@@ -62,7 +62,7 @@ downbeatPhase envelope beats meter = firstGreatest (phaseSum envelope beats mete
 unfoldable pub downbeatsOf : List Float → List ℕ → (meter : ℕ) → List ℕ
 downbeatsOf envelope beats meter = inPhase meter (downbeatPhase envelope beats meter) 0 beats
 
--- The promise of `downbeats`, in common time: its number and its count, and the lent list, which was `before`, afterwards.
+-- The promise of `downbeats`, whose meter is the common one: its number and its count, and the lent list, which was `before`, afterwards.
 abbrev pub DownbeatsPromise : (envelope : List Float) (beats : List ℕ) (meter : ℕ) (before : List ℕ) → (r : Listing) (after : List ℕ) → Type 0
 DownbeatsPromise envelope beats meter before =
     ListWritten (downbeatRefusal envelope beats meter (length before)) (downbeatsOf envelope beats meter) before

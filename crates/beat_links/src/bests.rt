@@ -1,8 +1,8 @@
 // The best extension of a beat among a run of earlier frames, in three forms that answer the same: with the penalties computed where they
 // are needed, which is slower and asks for no table; with a table; and with a table, eight frames at a time.
-use lists::Best;
 use crate::NO_LINK;
 use crate::penalties::penalty_of;
+use lists::Best;
 use numbers::less;
 ghost use mathlib.Core.Path.{_≡_};
 ghost use Prim.Native.Nat.{_+_, _-_, _<_, _≤_};

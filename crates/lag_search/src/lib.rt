@@ -4,9 +4,9 @@
 use lag_candidates::winner_of;
 use lag_curves::fill_lag_curves;
 use lag_sums::energy_of;
+use lags::lag_slots;
 use lists::mean_of;
 use numbers::EPSILON;
-use lags::lag_slots;
 ghost use mathlib.Core.Path.{_≡_};
 ghost use Prim.Native.Nat.{ℕ, _+_, _≤_, _<_};
 ghost use lib.ListN.{length};

@@ -120,7 +120,9 @@ module _ (f : ℕ → Float) (u n : ℕ) (x y : Best) where
         from = omega (arith, t .from);
         to = omega (arith, t .to);
         above = t .above;
-        most = each-from (NotBelow (f k)) u (λ q. no-lt (f k) (f u) (λ g. not-above (lt-then-lt (x .value) (f k) (f u) (t .above) g))) (λ i p q. t .most i p (omega arith));
+        most =
+            each-from (NotBelow (f k)) u (λ q. no-lt (f k) (f u) (λ g. not-above (lt-then-lt (x .value) (f k) (f u) (t .above) g)))
+            (λ i p q. t .most i p (omega arith));
         first = each-from (Less (f k) k) u (λ q. no-le (f k) (f u) (λ g. not-above (lt-then-le (x .value) (f k) (f u) (t .above) g))) (λ i p q. t .first i p q);
       }
 
@@ -137,9 +139,13 @@ outcome f u (suc n) x =
 pub tops-unique : (f : ℕ → Float) (u n : ℕ) (v : Float) (j k : ℕ) → Tops f u n v j → Tops f u n v k → j ≡ k
 tops-unique f u n v j k s t =
     let clash : (a b : ℕ) → Tops f u n v a → Tops f u n v b → a < b → ⊥ = λ a b p q h.
-    true-not-false (le (f b) (f a)) (not-lt (f a) (f b) (lt-right v (f a) (p .above)) (lt-right v (f b) (q .above)) (p .most b (q .from) (q .to))) (q .first a (p .from) h)
+    true-not-false (le (f b) (f a))
+    (not-lt (f a) (f b) (lt-right v (f a) (p .above)) (lt-right v (f b) (q .above)) (p .most b (q .from) (q .to)))
+    (q .first a (p .from) h)
     in
-    ⊎-elim (λ (h : j < k). absurd (clash j k s t h)) (λ (h : k ≤ j). ⊎-elim (λ (g : k < j). absurd (clash k j t s g)) (λ (g : j ≤ k). omega arith) (lt-or-le k j)) (lt-or-le j k)
+    ⊎-elim (λ (h : j < k). absurd (clash j k s t h))
+    (λ (h : k ≤ j). ⊎-elim (λ (g : k < j). absurd (clash k j t s g)) (λ (g : j ≤ k). omega arith) (lt-or-le k j))
+    (lt-or-le j k)
 
 -- so whatever is found to be the first greatest is it
 pub greatest-is : (f : ℕ → Float) (u n : ℕ) (x : Best) (k : ℕ) → Tops f u n (x .value) k → best (f k) k ≡ greatest f u n x
@@ -196,7 +202,10 @@ module _ (f : ℕ → Float) (n : ℕ) (some : 1 ≤ n) (numbers : (i : ℕ) →
       let w : First f n 0 =
       record {
         below = omega arith;
-        most = λ i p. each-from (Most 0) 0 (λ q. le-self (f 0) (numbers 0 q)) (λ j h q. not-lt (f 0) (f j) (numbers 0 (omega arith)) (numbers j q) (none j h (omega arith))) i zero-le p;
+        most =
+            λ i p.
+            each-from (Most 0) 0 (λ q. le-self (f 0) (numbers 0 q))
+            (λ j h q. not-lt (f 0) (f j) (numbers 0 (omega arith)) (numbers j q) (none j h (omega arith))) i zero-le p;
         before = λ i p. absurd (omega arith);
       }
       in
@@ -208,10 +217,12 @@ module _ (f : ℕ → Float) (n : ℕ) (some : 1 ≤ n) (numbers : (i : ℕ) →
         below = to;
         most =
             λ i p.
-            each-from (Most k) 0 (λ q. lt-is-le (f 0) (f k) (t .above)) (λ j h q. not-lt (f k) (f j) (numbers k to) (numbers j q) (t .most j h (omega arith))) i zero-le p;
+            each-from (Most k) 0 (λ q. lt-is-le (f 0) (f k) (t .above))
+            (λ j h q. not-lt (f k) (f j) (numbers k to) (numbers j q) (t .most j h (omega arith))) i zero-le p;
         before =
             λ i p.
-            each-from (Smaller k) 0 (λ q. t .above) (λ j h q. not-le (f k) (f j) (numbers k to) (numbers j (omega arith)) (t .first j h q)) i zero-le p;
+            each-from (Smaller k) 0 (λ q. t .above)
+            (λ j h q. not-le (f k) (f j) (numbers k to) (numbers j (omega arith)) (t .first j h q)) i zero-le p;
       }
       in
       subst (λ (b : Best). First f n (b .at)) (sym e) w

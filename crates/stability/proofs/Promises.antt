@@ -8,7 +8,7 @@ use native.Mathlib.Nat.{min-le-left}
 use native.Mathlib.Omega.{arith}
 use lib.ListN.{length, drop}
 use lib.Ieee.{Float}
-use Rattle.numbers.specs.Rounded.{pick}
+use Rattle.numbers.specs.Lists.{oneIf}
 use Rattle.numbers.specs.Refusals.{unlessRefused}
 use Rattle.numbers.proofs.Outcomes.{open-unique}
 use Rattle.options.specs.declared.TempoOpts.{TempoOpts}
@@ -38,7 +38,7 @@ pub windows-most : (n maxLag : ℕ) → windowsOf n maxLag ≤ 4
 unfolding windowsOf
 windows-most n maxLag = min-le-left 4 (n / (maxLag + 2))
 
-one-most : (b : Bool) → pick b 1 0 ≤ 1
+one-most : (b : Bool) → oneIf b ≤ 1
 one-most true = omega arith
 one-most false = omega arith
 

@@ -6,7 +6,7 @@ use lib.Dec.{eqb}
 use lib.ListN.{length}
 use lib.Ieee.{Float}
 use Rattle.numbers.specs.Rounded.{pick}
-use Rattle.numbers.specs.Lists.{row}
+use Rattle.numbers.specs.Lists.{row, oneIf}
 use Rattle.lags.specs.Pairs.{agrees}
 use Rattle.lag_search.specs.Search.{winningLag}
 
@@ -30,4 +30,4 @@ unfoldable pub agreeingTo : List Float → (rate minLag maxLag whole w k : ℕ) 
 unfolding windowAt windowAgrees
 agreeingTo env rate minLag maxLag whole w zero = 0
 agreeingTo env rate minLag maxLag whole w (suc k) =
-    agreeingTo env rate minLag maxLag whole w k + pick (windowAgrees (windowAt env w k) rate minLag maxLag whole) 1 0
+    agreeingTo env rate minLag maxLag whole w k + oneIf (windowAgrees (windowAt env w k) rate minLag maxLag whole)

@@ -2,12 +2,12 @@
 //
 // Document 01, Tempo and candidates, "Stability". The Rust: tempo.rs `stability_of`.
 use crate::windows::count_agreeing;
-use options::TempoOpts;
 use lags::lag_range;
 use lists::float_of;
 use numbers::MOST_PERIOD;
 use numbers::OUT_OF_BOUNDS;
 use numbers::least;
+use options::TempoOpts;
 use tempo::search_refusal;
 ghost use mathlib.Core.Path.{_≡_};
 ghost use Prim.Native.Nat.{_≤_};

@@ -5,12 +5,12 @@
 use lag_curves::fill_clarity;
 use lag_curves::fill_priors;
 use lag_curves::weigh;
-use numbers::EPSILON;
 use lag_search::lag_of_winner;
 use lag_sums::energy_of;
-use lists::mean_of;
-use lags::pairs::fold_fits;
 use lags::lag_slots;
+use lags::pairs::fold_fits;
+use lists::mean_of;
+use numbers::EPSILON;
 ghost use Prim.Native.Nat.{_+_, _*_, _≤_, _<_};
 ghost use lib.ListN.{length};
 ghost use Rattle.numbers.specs.Limits.{mostPeriod, mostRows};

@@ -3,7 +3,6 @@
 // Document 01, Tempo and candidates. The Rust: tempo.rs `pick_tempo_peaks`.
 use lag_candidates::first_apart;
 use lag_search::winning_lag;
-use options::TempoOpts;
 use lags::bounds_fine;
 use lags::bpm_at;
 use lags::lag_range;
@@ -13,6 +12,7 @@ use numbers::OUT_OF_BOUNDS;
 use numbers::TOO_LITTLE_ROOM;
 use numbers::WRONG_VALUE;
 use numbers::values_fine;
+use options::TempoOpts;
 ghost use mathlib.Core.Path.{_≡_};
 ghost use mathlib.Core.Bool.{true};
 ghost use Prim.Native.Nat.{ℕ, _+_, _≤_, _<_};

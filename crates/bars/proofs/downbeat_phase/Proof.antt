@@ -14,7 +14,9 @@ use Rattle.bars.specs.Downbeats.{phaseSum, downbeatPhase}
 use Rattle.bars.proofs.downbeat_phase.Statement.{statement}
 use Rattle.bars.proofs.downbeat_phase.Tie as tie
 
-read-back : (f : ℕ → Float) (n : ℕ) (was sums : List Float) → 1 ≤ n → n ≤ length was → sums ≡ filled f was 0 n → firstGreatest (valueAt sums) n ≡ firstGreatest f n
+-- the first greatest of what was written is the rule's
+read-back : (f : ℕ → Float) (n : ℕ) (was sums : List Float) → 1 ≤ n → n ≤ length was → sums ≡ filled f was 0 n
+    → firstGreatest (valueAt sums) n ≡ firstGreatest f n
 read-back f n was sums some room e =
     first-ext (valueAt sums) f n some (λ i h. ap (λ (l : List Float). valueAt l i) e ∙ getD-filled-in f was 0 n zero-le room i nan zero-le h)
 

@@ -23,8 +23,7 @@ module _ (envelope : List Float) (beats : List ℕ) (meter : ℕ) where
   unfolding downbeatRefusal downbeatNumbersFine downbeatRoomFine
   told room e =
       let p = lowest-zero (downbeatNumbersFine envelope beats meter) true (downbeatRoomFine beats room) (every valueFine envelope) e in
-      let m = and-right (every frameFine beats) (between 1 mostMeter meter) (and-right (leb (length envelope) mostRows) _ (p .bounds)) in
-      (
+      let m = and-right (every frameFine beats) (between 1 mostMeter meter) (and-right (leb (length envelope) mostRows) _ (p .bounds)) in (
         (leb-true 1 meter (and-left _ (leb meter mostMeter) m), leb-true meter mostMeter (and-right (leb 1 meter) _ m)),
         leb-true (length beats) room (p .room),
       )
@@ -69,7 +68,8 @@ same-length c = search needs
 returns-2 : tie.Need-returns-2
 returns-2 c =
     let l = c .before .before in
-    answered _ _ _ _ _ _ _ (ready (l .before .before .before)) (l .before .before .downbeat-phase .ensures) (l .list-phase .ensures .0) (l .list-phase .ensures .1)
+    let p = l .before .before in
+    answered _ _ _ _ _ _ _ (ready (p .before)) (p .downbeat-phase .ensures) (l .list-phase .ensures .0) (l .list-phase .ensures .1)
 
 pub downbeats-in-spec : {M : Type 1} → statement M
 downbeats-in-spec =

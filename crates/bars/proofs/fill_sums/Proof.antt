@@ -42,11 +42,12 @@ loop-again : tie.Need-loop-again Inv-loop μ-loop
 loop-again c =
     let l = c .before .before in
     let a = l .before .before .before .before .args in
+    let sum = phaseSum (now (a .envelope)) (now (a .beats)) (a .meter) in
     let v = l .loop .inv in (
       omega arith,
       simp length-set (v .1),
       rw (c .phase-sum .ensures, v .2)
-          (filled-to (phaseSum (now (a .envelope)) (now (a .beats)) (a .meter)) (now (a .sums)) 0 (l .loop .phase) (l .loop .phase + 1) (omega arith) nan (omega arith) refl),
+          (filled-to sum (now (a .sums)) 0 (l .loop .phase) (l .loop .phase + 1) (omega arith) nan (omega arith) refl),
     )
 
 same-length : tie.Need-same-length Inv-loop μ-loop

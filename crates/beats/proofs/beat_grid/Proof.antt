@@ -108,8 +108,12 @@ module _ (envelope : List Float) (period : ℕ) (score₀ : List Float) (back₀
         let scores-are =
         ap (λ (x : Float). scores period (scaledBy x envelope) n) s ∙ sym (pick-false (beatless envelope period) [] (scores period (scaled envelope) n) e)
         in
-        let links-are = ap (λ (x : Float). links period (scaledBy x envelope) n) s ∙ sym (pick-false (beatless envelope period) [] (links period (scaled envelope) n) e) in
-        let grid-is = ap (λ (x : Float). grid period (scaledBy x envelope) n) s ∙ sym (pick-false (beatless envelope period) [] (grid period (scaled envelope) n) e) in
+        let links-are =
+        ap (λ (x : Float). links period (scaledBy x envelope) n) s ∙ sym (pick-false (beatless envelope period) [] (links period (scaled envelope) n) e)
+        in
+        let grid-is =
+        ap (λ (x : Float). grid period (scaledBy x envelope) n) s ∙ sym (pick-false (beatless envelope period) [] (grid period (scaled envelope) n) e)
+        in
         answered count score back beats (w .count-is ∙ ap length grid-is)
         (w .tracked .scores-are ∙ ap (λ (l : List Float). listed l score₀) scores-are)
         (w .tracked .links-are ∙ ap (λ (l : List ℕ). listed l back₀) links-are)

@@ -44,7 +44,10 @@ same-length-3 c = search needs
 
 returns-3 : tie.Need-returns-3
 returns-3 c =
-    shared-counted _ _ _ _ _ _ _ _ (c .before .before .before .before .before .before .before .before .before .before .before .before .before .before .if1 .left) _ (c .before .before .before .before .before .before .before .before .before .before .before .before .before .least .ensures) _ _ _ _ _ _ (c .before .before .before .before .before .before .before .before .before .before .before .before .if2 .left) (c .before .before .before .before .before .before .before .before .count-agreeing .ensures)
+    let counted = c .before .before .before .before .before .before .before .before in
+    let few = counted .before .before .before .before in
+    shared-counted _ _ _ _ _ _ _ _ (few .before .before .if1 .left) _ (few .before .least .ensures) _ _ _ _ _ _ (few .if2 .left)
+    (counted .count-agreeing .ensures)
     (c .before .float-of .ensures)
     (c .float-of2 .ensures)
 
