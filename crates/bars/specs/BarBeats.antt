@@ -1,5 +1,6 @@
 -- Document 01, "Beats and bars": "`bar_beat_at` takes a time and two lent lists of times, any f64, and keeps its 0.000001 slack and a least
 -- beat of 1." Every comparison with a NaN is false, and nothing is refused.
+use mathlib.Core.Path.{_≡_}
 use mathlib.Core.Bool.{Bool, _&&_}
 use mathlib.Core.List.{List, [], _∷_}
 use Prim.Native.Nat.{ℕ, zero, suc, max}
@@ -45,3 +46,7 @@ inBar (suc k) time downbeats beats = suc k ∷ beatIn k time downbeats beats ∷
 -- the bar and the beat of a time, none where it lies in no bar
 unfoldable pub barAndBeat : (time : Float) → (downbeats beats : List Float) → List ℕ
 barAndBeat time downbeats beats = inBar (lastBar (time ⊕ slack) downbeats (length downbeats)) time downbeats beats
+
+-- the promise of `bar_beat_at`: what its answer says
+abbrev pub BarBeatPromise : (time : Float) (downbeats beats : List Float) → (answer : BarBeat) → Type 0
+BarBeatPromise time downbeats beats answer = barBeatSays answer ≡ (0, barAndBeat time downbeats beats)

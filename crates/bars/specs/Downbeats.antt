@@ -1,16 +1,18 @@
 -- Document 01, "Beats and bars": "Downbeats: of phases 0 to 3, the first with the greatest flux sum; a beat past the envelope adds 0, an
 -- empty phase sums to 0." The four is written as the meter, so that a bar may have another number of beats.
-use mathlib.Core.Path.{_≡_}
 use mathlib.Core.Bool.{Bool, true, _&&_}
 use mathlib.Core.List.{List, [], _∷_, map}
-use Prim.Native.Nat.{ℕ, zero, suc, _-_, _%_}
+use Prim.Native.Nat.{ℕ, suc, _%_}
 use lib.Dec.{leb, eqb}
 use lib.ListN.{length, getD}
-use lib.Ieee.{Float, lt}
+use lib.Ieee.{Float}
 use Rattle.numbers.specs.Rounded.{nought, pick, sumOf}
-use Rattle.numbers.specs.Limits.{mostRows, mostFrame, between, valueFine, frameFine}
-use Rattle.numbers.specs.Refusals.{lowest, unlessRefused}
-use Rattle.numbers.specs.Lists.{listed, every}
+use Rattle.numbers.specs.Limits.{mostRows, between, valueFine, frameFine}
+use Rattle.numbers.specs.Refusals.{lowest}
+use Rattle.numbers.specs.Lists.{every}
+use Rattle.numbers.specs.Outcomes.{ListWritten}
+use Rattle.numbers.specs.declared.Listing.{Listing}
+use Rattle.lists.specs.Greatest.{firstGreatest}
 
 -- ---- what is refused
 
@@ -51,21 +53,16 @@ inPhase meter phase place (beat ∷ beats) =
 unfoldable pub phaseSum : List Float → List ℕ → (meter phase : ℕ) → Float
 phaseSum envelope beats meter phase = sumOf (map (beatFlux envelope) (inPhase meter phase 0 beats))
 
--- of `best` and the n phases from `phase` on, the first with the greatest sum
-unfoldable pub firstGreatest : (ℕ → Float) → (phase n best : ℕ) → ℕ
-firstGreatest sum phase zero best = best
-firstGreatest sum phase (suc n) best = firstGreatest sum (suc phase) n (pick (lt (sum best) (sum phase)) phase best)
-
 -- "of phases 0 to 3, the first with the greatest flux sum"
 unfoldable pub downbeatPhase : List Float → List ℕ → (meter : ℕ) → ℕ
-downbeatPhase envelope beats meter = firstGreatest (phaseSum envelope beats meter) 1 (meter - 1) 0
+unfolding phaseSum firstGreatest
+downbeatPhase envelope beats meter = firstGreatest (phaseSum envelope beats meter) meter
 
 -- the downbeats, in the order of the list
 unfoldable pub downbeatsOf : List Float → List ℕ → (meter : ℕ) → List ℕ
 downbeatsOf envelope beats meter = inPhase meter (downbeatPhase envelope beats meter) 0 beats
 
--- the promise of `downbeats`: its number, its count, and the lent list afterwards
-pub record DownbeatsPromise (envelope : List Float) (beats : List ℕ) (meter : ℕ) (before : List ℕ) (number count : ℕ) (after : List ℕ) : Type 0 where
-  pub number-is : number ≡ downbeatRefusal envelope beats meter (length before)
-  pub count-is : count ≡ unlessRefused (downbeatRefusal envelope beats meter (length before)) (length (downbeatsOf envelope beats meter)) 0
-  pub frames-are : after ≡ unlessRefused (downbeatRefusal envelope beats meter (length before)) (listed (downbeatsOf envelope beats meter) before) before
+-- The promise of `downbeats`, whose meter is the common one: its number and its count, and the lent list, which was `before`, afterwards.
+abbrev pub DownbeatsPromise : (envelope : List Float) (beats : List ℕ) (meter : ℕ) (before : List ℕ) → (r : Listing) (after : List ℕ) → Type 0
+DownbeatsPromise envelope beats meter before =
+    ListWritten (downbeatRefusal envelope beats meter (length before)) (downbeatsOf envelope beats meter) before

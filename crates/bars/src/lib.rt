@@ -4,10 +4,18 @@
 ghost use mathlib.Core.Path.{_≡_};
 ghost use Prim.Native.Nat.{_<_, _≤_};
 ghost use lib.ListN.{length};
-ghost use Rattle.numbers.specs.Lists.{every, listed};
-ghost use Rattle.numbers.specs.Limits.{frameFine};
-ghost use Rattle.bars.specs.Downbeats.{downbeatRefusal, beatFlux, inPhase, phaseSum, downbeatPhase, DownbeatsPromise, commonMeter};
-ghost use Rattle.bars.specs.BarBeats.{lastBar, during, passing, barBeatSays, barAndBeat};
+ghost use Rattle.numbers.specs.Lists.{listed, filled};
+ghost use Rattle.bars.specs.Downbeats.{
+  mostMeter,
+  downbeatRefusal,
+  beatFlux,
+  inPhase,
+  phaseSum,
+  downbeatPhase,
+  DownbeatsPromise,
+  commonMeter,
+};
+ghost use Rattle.bars.specs.BarBeats.{lastBar, during, passing, BarBeatPromise};
 use numbers::Listing;
 
 // beats a bar, where nothing else is said
@@ -25,14 +33,14 @@ pub enum BarBeat {
 // Room: one slot for each beat; slots past the count stay. Refuses 1 (N, or a beat above 1,048,575), 3 and 4, and then lists nothing.
 // The beats need not ascend; where flux is negative an empty phase may be the greatest, and then no beat is a downbeat.
 pub fn downbeats(envelope: &[f64], beats: &[u32], frames: &mut [u32]) -> Listing
-    ensures { λ r. ⌜ DownbeatsPromise (now (envelope .entry)) (now (beats .entry)) commonMeter (now (frames .entry)) (r .number) (r .count) (now (frames .exit)) ⌝ }
+    ensures { λ r. ⌜ DownbeatsPromise (now (envelope .entry)) (now (beats .entry)) commonMeter (now (frames .entry)) r (now (frames .exit)) ⌝ }
 {
     downbeats_in(envelope, beats, COMMON_METER, frames)
 }
 
 // Inner: the downbeats of bars of `meter` beats; refuses 1 also for a meter outside 1 to 16.
 pub fn downbeats_in(envelope: &[f64], beats: &[u32], meter: usize, frames: &mut [u32]) -> Listing
-    ensures { λ r. ⌜ DownbeatsPromise (now (envelope .entry)) (now (beats .entry)) meter (now (frames .entry)) (r .number) (r .count) (now (frames .exit)) ⌝ }
+    ensures { λ r. ⌜ DownbeatsPromise (now (envelope .entry)) (now (beats .entry)) meter (now (frames .entry)) r (now (frames .exit)) ⌝ }
 {
     let no = downbeat_refusal(envelope, beats, meter, frames.len());
     if no != 0 {
@@ -53,7 +61,7 @@ pub fn downbeats_in(envelope: &[f64], beats: &[u32], meter: usize, frames: &mut 
 // Both tests have a slack of 0.000001. Any f64 will do in each place, in any order; a NaN is reached by nothing and reaches nothing.
 // Refuses nothing.
 pub fn bar_beat_at(time: f64, downbeats: &[f64], beats: &[f64]) -> BarBeat
-    ensures { λ r. ⌜ barBeatSays r ≡ (0, barAndBeat time (now (downbeats .entry)) (now (beats .entry))) ⌝ }
+    ensures { λ r. ⌜ BarBeatPromise time (now (downbeats .entry)) (now (beats .entry)) r ⌝ }
 {
     let limit = time + 0.000001;
     let bar = last_bar(limit, downbeats);
@@ -118,21 +126,24 @@ fn phase_sum(envelope: &[f64], beats: &[u32], meter: usize, phase: usize) -> f64
 }
 
 fn downbeat_phase(envelope: &[f64], beats: &[u32], meter: usize) -> usize
-    requires { ⌜ 0 < meter ⌝ }
+    requires { ⌜ (0 < meter) × (meter ≤ mostMeter) ⌝ }
     ensures { λ r. ⌜ r ≡ downbeatPhase (now (envelope .entry)) (now (beats .entry)) meter ⌝ }
 {
-    let mut best = 0;
-    let mut top = phase_sum(envelope, beats, meter, 0);
-    let mut phase = 1;
+    let mut sums = [0.0; MOST_METER];
+    fill_sums(envelope, beats, meter, &mut sums);
+    lists::first_greatest(&sums, meter)
+}
+
+// Writes the sum of each phase.
+fn fill_sums(envelope: &[f64], beats: &[u32], meter: usize, sums: &mut [f64])
+    requires { ⌜ (0 < meter) × (meter ≤ length (now sums)) ⌝ }
+    ensures { λ _. ⌜ now (sums .exit) ≡ filled (phaseSum (now (envelope .entry)) (now (beats .entry)) meter) (now (sums .entry)) 0 meter ⌝ }
+{
+    let mut phase = 0;
     while phase < meter {
-        let sum = phase_sum(envelope, beats, meter, phase);
-        if top < sum {
-            top = sum;
-            best = phase;
-        }
+        sums[phase] = phase_sum(envelope, beats, meter, phase);
         phase += 1;
     }
-    best
 }
 
 fn list_phase(beats: &[u32], meter: usize, phase: usize, frames: &mut [u32]) -> usize

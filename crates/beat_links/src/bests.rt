@@ -1,8 +1,8 @@
 // The best extension of a beat among a run of earlier frames, in three forms that answer the same: with the penalties computed where they
 // are needed, which is slower and asks for no table; with a table; and with a table, eight frames at a time.
-use lists::Best;
 use crate::NO_LINK;
 use crate::penalties::penalty_of;
+use lists::Best;
 use numbers::less;
 ghost use mathlib.Core.Path.{_≡_};
 ghost use Prim.Native.Nat.{_+_, _-_, _<_, _≤_};
@@ -119,7 +119,10 @@ fn first_reaching(
     at: usize,
     value: f64,
 ) -> Best
-    requires { ⌜ (end ≤ length (now score)) × (end ≤ mostRows) × (first + (end - lo) ≤ length (now table)) × Reached (tabled (now table) (now score) first lo) lo end at value ⌝ }
+    requires { ⌜
+        (end ≤ length (now score)) × (end ≤ mostRows) × (first + (end - lo) ≤ length (now table))
+        × Reached (tabled (now table) (now score) first lo) lo end at value
+        ⌝ }
     ensures { λ r. ⌜ r ≡ greatest (tabled (now (table .entry)) (now (score .entry)) first lo) lo (end - lo) unlinked ⌝ }
 {
     let mut u = at;

@@ -1,5 +1,5 @@
 // The penalty of an interval, which depends on nothing else: it is computed once for each interval of a period.
-use std::num::nearest_u64_to_f64;
+use lists::float_of;
 ghost use mathlib.Core.Path.{_≡_};
 ghost use Prim.Native.Nat.{_*_, _≤_};
 ghost use lib.ListN.{length};
@@ -11,7 +11,7 @@ ghost use Rattle.beat_links.specs.Inner.{slotPenalty};
 pub fn penalty_of(period: usize, interval: usize) -> f64
     ensures { λ r. ⌜ r ≡ penalty period interval ⌝ }
 {
-    let periods = nearest_u64_to_f64(interval as u64) / nearest_u64_to_f64(period as u64);
+    let periods = float_of(interval) / float_of(period);
     let ln = floats::logs::log(periods);
     -400.0 * ln * ln
 }

@@ -12,10 +12,9 @@ use lib.Seq.{getD-at}
 use lib.Ieee.{Float}
 use Rattle.numbers.specs.Rounded.{pick}
 use Rattle.numbers.proofs.Tests.{lt-or-le}
-use Rattle.lists.specs.declared.Best.{Best}
-use Rattle.lists.specs.Greatest.{greatest, valueAt, firstGreatest}
+use Rattle.lists.specs.Greatest.{valueAt, firstGreatest}
 use Rattle.beat_links.specs.Extensions.{noLink}
-use Rattle.lists.proofs.Greatest.{best, Outcome, kept, found, outcome}
+use Rattle.lists.proofs.Greatest.{first-below}
 use Rattle.beats.specs.Envelopes.{beatless, scaled}
 use Rattle.beats.specs.Scores.{scores, links}
 use Rattle.beats.specs.Grids.{linkAt, walked, beatsTo, grid, scoresOf, linksOf, gridOf}
@@ -86,31 +85,21 @@ beats-steps link t down = walked-steps link t down (t + 1) t (omega arith) (omeg
 
 -- ---- the grid
 
--- the first greatest is one of them
-pub first-below : (values : List Float) (n : ℕ) → 1 ≤ n → firstGreatest (valueAt values) n < n
-unfolding firstGreatest
-first-below values n h = by (outcome (valueAt values) 1 (n - 1) (best (valueAt values 0) 0))
-  where
-    by : Outcome (valueAt values) 1 (n - 1) (best (valueAt values 0) 0) (greatest (valueAt values) 1 (n - 1) (best (valueAt values 0) 0))
-        → greatest (valueAt values) 1 (n - 1) (best (valueAt values 0) 0) .at < n
-    by (kept e none) = omega (arith, ap (λ (b : Best). b .at) e)
-    by (found k e t) = omega (arith, ap (λ (b : Best). b .at) e, t .to)
-
 module _ (period : ℕ) (flux : ℕ → Float) (n : ℕ) (some : 1 ≤ period) (frames : 1 ≤ n) where
   pub grid-steps : Steps (linkAt (links period flux n)) (grid period flux n) (firstGreatest (valueAt (scores period flux n)) n)
   unfolding grid
-  grid-steps = beats-steps (linkAt (links period flux n)) (firstGreatest (valueAt (scores period flux n)) n) (links-descend period flux n some _ (first-below (scores period flux n) n frames))
+  grid-steps = beats-steps (linkAt (links period flux n)) (firstGreatest (valueAt (scores period flux n)) n) (links-descend period flux n some _ (first-below (valueAt (scores period flux n)) n frames))
 
   -- every beat is one of the frames
   pub grid-below : (i : ℕ) → i < length (grid period flux n) → getD (grid period flux n) i 0 < n
-  grid-below i h = omega (arith, grid-steps .below i h, first-below (scores period flux n) n frames)
+  grid-below i h = omega (arith, grid-steps .below i h, first-below (valueAt (scores period flux n)) n frames)
 
   -- and there are no more beats than frames
   pub grid-few : length (grid period flux n) ≤ n
   unfolding grid
   grid-few =
       let ss = scores period flux n in
-      let first = first-below ss n frames in
+      let first = first-below (valueAt ss) n frames in
       omega (
         arith,
         first,

@@ -10,6 +10,7 @@ use Rattle.numbers.specs.Rounded.{pick}
 use Rattle.numbers.specs.Limits.{mostRows, mostPeriod, valueFine}
 use Rattle.numbers.specs.Refusals.{lowest, unlessRefused}
 use Rattle.numbers.specs.Lists.{listed, every}
+use Rattle.numbers.specs.declared.Listing.{Listing}
 use Rattle.lists.specs.Greatest.{valueAt, firstGreatest}
 use Rattle.beat_links.specs.Extensions.{noLink}
 use Rattle.beats.specs.Envelopes.{beatless, scaleOf, scaledBy, scaled}
@@ -64,10 +65,18 @@ unfoldable pub gridOf : List Float → (period : ℕ) → List ℕ
 unfolding beatless scaledBy scaleOf grid
 gridOf envelope period = pick (beatless envelope period) [] (grid period (scaled envelope) (length envelope))
 
--- the promise of `beat_grid`: its number, its count, and the three lent lists afterwards
-pub record GridPromise (envelope : List Float) (period : ℕ) (score₀ : List Float) (back₀ beats₀ : List ℕ) (number count : ℕ) (score : List Float) (back beats : List ℕ) : Type 0 where
-  pub number-is : number ≡ gridRefusal envelope period (length score₀) (length back₀) (length beats₀)
-  pub count-is : count ≡ unlessRefused number (length (gridOf envelope period)) 0
+-- What a call with this number answers and leaves in the three lent lists: the scores, the links and the beats stand first in theirs.
+pub record GridWritten
+    (number : ℕ) (envelope : List Float) (period : ℕ) (score₀ : List Float) (back₀ beats₀ : List ℕ)
+    (r : Listing) (score : List Float) (back beats : List ℕ) : Type 0 where
+  pub number-is : r .number ≡ number
+  pub count-is : r .count ≡ unlessRefused number (length (gridOf envelope period)) 0
   pub score-is : score ≡ unlessRefused number (listed (scoresOf envelope period) score₀) score₀
   pub back-is : back ≡ unlessRefused number (listed (linksOf envelope period) back₀) back₀
   pub beats-are : beats ≡ unlessRefused number (listed (gridOf envelope period) beats₀) beats₀
+
+-- the promise of `beat_grid`: its number, its count, and the three lent lists afterwards
+abbrev pub GridPromise : (envelope : List Float) (period : ℕ) (score₀ : List Float) (back₀ beats₀ : List ℕ)
+    → (r : Listing) (score : List Float) (back beats : List ℕ) → Type 0
+GridPromise envelope period score₀ back₀ beats₀ =
+    GridWritten (gridRefusal envelope period (length score₀) (length back₀) (length beats₀)) envelope period score₀ back₀ beats₀

@@ -19,7 +19,8 @@ abbrev pub Descends : (link : ℕ → ℕ) → (t : ℕ) → Type 0
 Descends link t = (u : ℕ) → u ≤ t → (link u ≡ noLink → ⊥) → link u < u
 
 -- what stands in the three lent lists, and how many beats, once n frames are tracked
-pub record Laid (period : ℕ) (flux : ℕ → Float) (n : ℕ) (score₀ score : List Float) (back₀ back beats₀ beats : List ℕ) (count : ℕ) : Type 0 where
+pub record GridLaid
+    (period : ℕ) (flux : ℕ → Float) (n : ℕ) (score₀ score : List Float) (back₀ back beats₀ beats : List ℕ) (count : ℕ) : Type 0 where
   pub tracked : Tracked period flux n score₀ score back₀ back
   pub count-is : count ≡ length (grid period flux n)
   pub beats-are : beats ≡ listed (grid period flux n) beats₀

@@ -9,7 +9,7 @@ ghost use Rattle.numbers.specs.Limits.{mostRows, mostPeriod};
 ghost use Rattle.numbers.specs.Lists.{listed};
 ghost use Rattle.beats.specs.Envelopes.{scaledBy};
 ghost use Rattle.beats.specs.Grids.{linkAt, beatsTo};
-ghost use Rattle.beats.specs.Inner.{Descends, Laid};
+ghost use Rattle.beats.specs.Inner.{Descends, GridLaid};
 
 // Writes the score and the link of each frame and lists the beats; answers how many there are.
 pub fn lay_grid(
@@ -21,8 +21,16 @@ pub fn lay_grid(
     beats: &mut [u32],
 ) -> usize
     requires { ⌜ (1 ≤ period) × (period ≤ mostPeriod) × (1 ≤ length (now envelope)) × (length (now envelope) ≤ mostRows) ⌝ }
-    requires { ⌜ (length (now envelope) ≤ length (now score)) × (length (now envelope) ≤ length (now back)) × (length (now envelope) ≤ length (now beats)) ⌝ }
-    ensures { λ r. ⌜ Laid period (scaledBy scale (now (envelope .entry))) (length (now (envelope .entry))) (now (score .entry)) (now (score .exit)) (now (back .entry)) (now (back .exit)) (now (beats .entry)) (now (beats .exit)) r ⌝ }
+    requires { ⌜
+        (length (now envelope) ≤ length (now score))
+        × (length (now envelope) ≤ length (now back))
+        × (length (now envelope) ≤ length (now beats))
+        ⌝ }
+    ensures { λ r. ⌜
+        GridLaid period (scaledBy scale (now (envelope .entry))) (length (now (envelope .entry)))
+        (now (score .entry)) (now (score .exit)) (now (back .entry)) (now (back .exit)) (now (beats .entry)) (now (beats .exit))
+        r
+        ⌝ }
 {
     track(envelope, scale, period, score, back);
     let end = first_greatest(score, envelope.len());
@@ -47,7 +55,11 @@ fn count_beats(back: &[u32], end: usize) -> usize
 
 // Stores those beats, the last first: `count` says how many there are.
 fn store_beats(back: &[u32], end: usize, count: usize, beats: &mut [u32])
-    requires { ⌜ (end < length (now back)) × (end < mostRows) × (end < length (now beats)) × Descends (linkAt (now back)) end × (count ≡ length (beatsTo (linkAt (now back)) end)) ⌝ }
+    requires { ⌜
+        (end < length (now back)) × (end < mostRows) × (end < length (now beats))
+        × Descends (linkAt (now back)) end
+        × (count ≡ length (beatsTo (linkAt (now back)) end))
+        ⌝ }
     ensures { λ _. ⌜ now (beats .exit) ≡ listed (beatsTo (linkAt (now (back .entry))) end) (now (beats .entry)) ⌝ }
 {
     let mut t = end;

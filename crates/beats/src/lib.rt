@@ -19,7 +19,13 @@ pub fn beat_grid(
     back: &mut [u32],
     beats: &mut [u32],
 ) -> Listing
-    ensures { λ r. ⌜ GridPromise (now (envelope .entry)) period (now (score .entry)) (now (back .entry)) (now (beats .entry)) (r .number) (r .count) (now (score .exit)) (now (back .exit)) (now (beats .exit)) ⌝ }
+    ensures { λ r. ⌜
+        GridPromise
+        (now (envelope .entry)) period
+        (now (score .entry)) (now (back .entry)) (now (beats .entry))
+        r
+        (now (score .exit)) (now (back .exit)) (now (beats .exit))
+        ⌝ }
 {
     let no = grid_refusal(envelope, period, score.len(), back.len(), beats.len());
     if no != 0 {

@@ -80,9 +80,9 @@ beats-unique p q =
     let one = handed-unique (p .handed) (q .handed) in (
       one,
       (
-        p .slices .score-is ∙ rw (one .0) (sym (q .slices .score-is)),
-        p .slices .back-is ∙ rw (one .0) (sym (q .slices .back-is)),
-        p .slices .beats-are ∙ rw (one .0) (sym (q .slices .beats-are)),
+        p .slices .score-is ∙ sym (q .slices .score-is),
+        p .slices .back-is ∙ sym (q .slices .back-is),
+        p .slices .beats-are ∙ sym (q .slices .beats-are),
       ),
     )
 

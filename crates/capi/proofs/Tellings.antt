@@ -18,7 +18,6 @@ use Rattle.tempo.specs.Answers.{EstimatePromise}
 use Rattle.stability.specs.declared.Steadiness.{Steadiness}
 use Rattle.stability.specs.Answers.{StabilityPromise}
 use Rattle.beats.specs.Grids.{gridOf, GridPromise}
-use Rattle.bars.specs.Downbeats.{DownbeatsPromise, downbeatRefusal, downbeatsOf}
 use Rattle.sections.specs.Boundaries.{sectionsOf}
 use Rattle.sections.specs.Confidence.{confidenceOf}
 use Rattle.sections.specs.Outcomes.{Found}
@@ -51,25 +50,14 @@ pub listed-told : {number : ℕ} {entries was : List ℕ} {listing : Listing} {a
 listed-told {number} {entries} p h =
     record { handed = handed-on number (length entries) 0 (p .number-is) (p .count-is) h; frames-are = p .frames-are }
 
-pub downbeats-told : {envelope : List Float} {beats : List ℕ} {meter : ℕ} {was : List ℕ} {own part : ℕ} {after : List ℕ} {count₀ answer count : ℕ}
-    → DownbeatsPromise envelope beats meter was own part after → Handed own part count₀ answer count
-    → ListHanded (downbeatRefusal envelope beats meter (length was)) (downbeatsOf envelope beats meter) was count₀ answer after count
-downbeats-told {envelope} {beats} {meter} {was} p h =
-    record {
-      handed = handed-on (downbeatRefusal envelope beats meter (length was)) (length (downbeatsOf envelope beats meter)) 0 (p .number-is) (p .count-is) h;
-      frames-are = p .frames-are;
-    }
-
-pub beats-told : {envelope : List Float} {period : ℕ} {score₀ : List Float} {back₀ beats₀ : List ℕ} {own part : ℕ} {score : List Float} {back beats : List ℕ} {count₀ answer count : ℕ}
-    → GridPromise envelope period score₀ back₀ beats₀ own part score back beats → Handed own part count₀ answer count
+pub beats-told : {envelope : List Float} {period : ℕ} {score₀ : List Float} {back₀ beats₀ : List ℕ} {r : Listing} {score : List Float} {back beats : List ℕ}
+    {count₀ answer count : ℕ}
+    → GridPromise envelope period score₀ back₀ beats₀ r score back beats → Handed (r .number) (r .count) count₀ answer count
     → PhGridPromise envelope period score₀ back₀ beats₀ count₀ answer score back beats count
-beats-told {envelope} {period} {own = own} {part = part} {count₀ = count₀} {answer = answer} {count = count} p h =
-    let q : Handed own (length (gridOf envelope period)) count₀ answer count = handed-on own (length (gridOf envelope period)) 0 refl (p .count-is) h in
+beats-told {envelope} {period} p h =
     record {
-      handed = rw (p .number-is) at q;
-      slices =
-          rw (h .number-is)
-          (record { number-is = p .number-is; count-is = refl; score-is = p .score-is; back-is = p .back-is; beats-are = p .beats-are });
+      handed = handed-on _ (length (gridOf envelope period)) 0 (p .number-is) (p .count-is) h;
+      slices = record { number-is = h .number-is ∙ p .number-is; count-is = refl; score-is = p .score-is; back-is = p .back-is; beats-are = p .beats-are };
     }
 
 -- ---- medians

@@ -11,4 +11,10 @@ use Rattle.capi_answers.specs.Handed.{Handed}
 pub record PhGridPromise
     (envelope : List Float) (period : ℕ) (score₀ : List Float) (back₀ beats₀ : List ℕ) (count₀ answer : ℕ) (score : List Float) (back beats : List ℕ) (count : ℕ) : Type 0 where
   pub handed : Handed (gridRefusal envelope period (length score₀) (length back₀) (length beats₀)) (length (gridOf envelope period)) count₀ answer count
-  pub slices : GridPromise envelope period score₀ back₀ beats₀ answer (unlessRefused answer (length (gridOf envelope period)) 0) score back beats
+  pub slices :
+      GridPromise envelope period score₀ back₀ beats₀
+      (record {
+        number = answer;
+        count = unlessRefused (gridRefusal envelope period (length score₀) (length back₀) (length beats₀)) (length (gridOf envelope period)) 0;
+      })
+      score back beats

@@ -4,6 +4,7 @@ use mathlib.Core.List.{List, [], _∷_}
 use lib.ListN.{getD}
 use lib.Ieee.{Float, nan}
 use Rattle.numbers.specs.Rounded.{nought}
+use Rattle.stability.specs.Answers.{agreeingIn, windowsIn}
 use Rattle.lags.specs.declared.LagRange.{LagRange}
 use Rattle.tempo.specs.declared.Candidate.{Candidate}
 use Rattle.tempo.specs.declared.Tempo.{Tempo}
@@ -81,14 +82,6 @@ steadyIn (steady-case.Share fraction agreeing windows) = 1
 abbrev pub fractionIn : steady.Stability → Float
 fractionIn steady-case.None = nought
 fractionIn (steady-case.Share fraction agreeing windows) = fraction
-
-abbrev pub agreeingIn : steady.Stability → ℕ
-agreeingIn steady-case.None = 0
-agreeingIn (steady-case.Share fraction agreeing windows) = agreeing
-
-abbrev pub windowsIn : steady.Stability → ℕ
-windowsIn steady-case.None = 0
-windowsIn (steady-case.Share fraction agreeing windows) = windows
 
 -- the lent numbers of `ph_stability_of`
 pub record ShareLent : Type 0 where

@@ -8,17 +8,13 @@ use lib.ListN.{length, getD}
 use lib.Ieee.{Float, nan, lt, le}
 use Rattle.numbers.specs.Rounded.{nought, pick}
 use Rattle.numbers.specs.Lists.{every}
+use Rattle.lists.specs.Greatest.{valueAt, firstGreatest}
 use Rattle.lags.specs.Pairs.{apart}
 
--- "The first greatest weight wins": slot best, with the weight top, is the first greatest before slot i, from which xs stand
-unfoldable pub winnerFrom : (best : ℕ) (top : Float) (i : ℕ) (xs : List Float) → ℕ
-winnerFrom best top i [] = best
-winnerFrom best top i (x ∷ xs) = pick (lt top x) (winnerFrom i x (suc i) xs) (winnerFrom best top (suc i) xs)
-
+-- "The first greatest weight wins": its slot, 0 where there is none
 unfoldable pub winnerOf : List Float → ℕ
-unfolding winnerFrom
-winnerOf [] = 0
-winnerOf (x ∷ xs) = winnerFrom 0 x 1 xs
+unfolding firstGreatest
+winnerOf ws = firstGreatest (valueAt ws) (length ws)
 
 -- "at least the left": the first slot lacks that side
 unfoldable pub leftFine : List Float → ℕ → Bool

@@ -3,6 +3,7 @@
 // Document 01, Tempo and candidates. The Rust: tempo.rs `pick_tempo_peaks`. The Rust sorts the local maxima and accepts the first that
 // stand apart; here each is chosen as the greatest that does, in a pass of its own, so nothing is sorted.
 use lags::pairs::lags_apart;
+use lists::first_greatest;
 ghost use mathlib.Core.Path.{_≡_};
 ghost use mathlib.Core.List.{List, [], _∷_};
 ghost use Prim.Native.Nat.{ℕ, _+_, _≤_, _<_};
@@ -19,19 +20,14 @@ ghost use Rattle.lag_candidates.specs.Candidates.{
   firstPassing,
 };
 
-// Inner: the slot of the first greatest weight.
+// Inner: the slot of the first greatest weight, 0 of an empty list.
 pub fn winner_of(weight: &[f64]) -> usize
     ensures { λ r. ⌜ r ≡ winnerOf (now (weight .entry)) ⌝ }
 {
-    let mut best = 0;
-    let mut i = 1;
-    while i < weight.len() {
-        if weight[i] > weight[best] {
-            best = i;
-        }
-        i += 1;
+    if weight.len() == 0 {
+        return 0;
     }
-    best
+    first_greatest(weight, weight.len())
 }
 
 // at least the left; the first slot lacks that side

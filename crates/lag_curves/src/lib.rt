@@ -90,7 +90,11 @@ fn fill_sixteen(
     high: Eight,
     clarity: &mut [f64],
 )
-    requires { ⌜ («min_lag» + from + 15 < length (now envelope)) × (t + («min_lag» + from) + 15 ≤ length (now envelope)) × (from + 16 ≤ length (now clarity)) ⌝ }
+    requires { ⌜
+        («min_lag» + from + 15 < length (now envelope))
+        × (t + («min_lag» + from) + 15 ≤ length (now envelope))
+        × (from + 16 ≤ length (now clarity))
+        ⌝ }
     requires { ⌜ (low ≡ eightSums (now envelope) mean («min_lag» + from) t) × (high ≡ eightSums (now envelope) mean («min_lag» + (from + 8)) t) ⌝ }
     ensures { λ _. ⌜ now (clarity .exit) ≡ filled (clarityFrom (now (envelope .entry)) mean ac0 «min_lag») (now (clarity .entry)) from (from + 16) ⌝ }
 {
@@ -175,7 +179,10 @@ pub fn fill_clarity(
     clarity: &mut [f64],
 )
     requires { ⌜ («min_lag» ≤ «max_lag») × («max_lag» < length (now envelope)) × (lagRoom «min_lag» «max_lag» ≤ length (now clarity)) ⌝ }
-    ensures { λ _. ⌜ now (clarity .exit) ≡ filled (clarityFrom (now (envelope .entry)) mean ac0 «min_lag») (now (clarity .entry)) 0 (lagRoom «min_lag» «max_lag») ⌝ }
+    ensures { λ _. ⌜
+        now (clarity .exit) ≡
+        filled (clarityFrom (now (envelope .entry)) mean ac0 «min_lag») (now (clarity .entry)) 0 (lagRoom «min_lag» «max_lag»)
+        ⌝ }
 {
     let count = max_lag - min_lag + 1;
     if count < 32 {
@@ -207,7 +214,10 @@ pub fn prior_at(rate: u32, lag: usize) -> f64
 
 // Inner: the weight curve of a clarity curve, one slot a lag from min_lag to max_lag.
 pub fn fill_weight(clarity: &[f64], rate: u32, min_lag: usize, max_lag: usize, weight: &mut [f64])
-    requires { ⌜ («min_lag» ≤ «max_lag») × («max_lag» ≤ mostPeriod) × (lagRoom «min_lag» «max_lag» ≤ length (now clarity)) × (lagRoom «min_lag» «max_lag» ≤ length (now weight)) ⌝ }
+    requires { ⌜
+        («min_lag» ≤ «max_lag») × («max_lag» ≤ mostPeriod)
+        × (lagRoom «min_lag» «max_lag» ≤ length (now clarity)) × (lagRoom «min_lag» «max_lag» ≤ length (now weight))
+        ⌝ }
     ensures { λ _. ⌜ now (weight .exit) ≡ filled (weighted (now (clarity .entry)) rate «min_lag») (now (weight .entry)) 0 (lagRoom «min_lag» «max_lag») ⌝ }
 {
     let count = max_lag - min_lag + 1;
@@ -256,8 +266,14 @@ pub fn fill_lag_curves(
 )
     requires { ⌜ («min_lag» ≤ «max_lag») × («max_lag» ≤ mostPeriod) × («max_lag» < length (now envelope)) ⌝ }
     requires { ⌜ (lagRoom «min_lag» «max_lag» ≤ length (now clarity)) × (lagRoom «min_lag» «max_lag» ≤ length (now weight)) ⌝ }
-    ensures { λ _. ⌜ now (clarity .exit) ≡ filled (clarityFrom (now (envelope .entry)) mean ac0 «min_lag») (now (clarity .entry)) 0 (lagRoom «min_lag» «max_lag») ⌝ }
-    ensures { λ _. ⌜ now (weight .exit) ≡ filled (weightFrom (now (envelope .entry)) mean ac0 rate «min_lag») (now (weight .entry)) 0 (lagRoom «min_lag» «max_lag») ⌝ }
+    ensures { λ _. ⌜
+        now (clarity .exit) ≡
+        filled (clarityFrom (now (envelope .entry)) mean ac0 «min_lag») (now (clarity .entry)) 0 (lagRoom «min_lag» «max_lag»)
+        ⌝ }
+    ensures { λ _. ⌜
+        now (weight .exit) ≡
+        filled (weightFrom (now (envelope .entry)) mean ac0 rate «min_lag») (now (weight .entry)) 0 (lagRoom «min_lag» «max_lag»)
+        ⌝ }
 {
     fill_clarity(envelope, mean, ac0, min_lag, max_lag, clarity);
     fill_weight(clarity, rate, min_lag, max_lag, weight);

@@ -26,7 +26,7 @@ module _ (ws : List Float) (numbers : (j : ℕ) → j < length ws → T (not (is
       ⊎-elim
       (λ (a : lt nought (at j) ≡ true).
       true-not-false (lt nought (at (winnerOf ws)))
-      (lt-then-le nought (at j) (at (winnerOf ws)) a (winner-is-first-greatest ws numbers (omega arith) .greatest j h))
+      (lt-then-le nought (at j) (at (winnerOf ws)) a (winner-is-first-greatest ws numbers (omega arith) .most j h))
       e)
       (λ (a : lt nought (at j) ≡ false). a)
       (which (lt nought (at j)))

@@ -4,9 +4,9 @@
 use lag_candidates::winner_of;
 use lag_curves::fill_lag_curves;
 use lag_sums::energy_of;
+use lags::lag_slots;
 use lists::mean_of;
 use numbers::EPSILON;
-use lags::lag_slots;
 ghost use mathlib.Core.Path.{_≡_};
 ghost use Prim.Native.Nat.{ℕ, _+_, _≤_, _<_};
 ghost use lib.ListN.{length};
@@ -37,7 +37,13 @@ pub fn winning_lag(
 ) -> usize
     requires { ⌜ («min_lag» ≤ «max_lag») × («max_lag» ≤ mostPeriod) × («max_lag» < length (now envelope)) ⌝ }
     requires { ⌜ (lagRoom «min_lag» «max_lag» ≤ length (now clarity)) × (lagRoom «min_lag» «max_lag» ≤ length (now weight)) ⌝ }
-    ensures { λ r. ⌜ Searched (now (envelope .entry)) rate «min_lag» «max_lag» (now (clarity .entry)) (now (weight .entry)) r (now (clarity .exit)) (now (weight .exit)) ⌝ }
+    ensures { λ r. ⌜
+        Searched
+        (now (envelope .entry)) rate «min_lag» «max_lag»
+        (now (clarity .entry)) (now (weight .entry))
+        r
+        (now (clarity .exit)) (now (weight .exit))
+        ⌝ }
 {
     let mean = mean_of(envelope);
     let ac0 = energy_of(envelope, mean);

@@ -134,7 +134,10 @@ fn centre(envelope: &[f64], mean: f64, from: usize, out: &mut [f64])
 // side: so the additions of one don't wait for those of the other, and each time is spread over the lanes once for both.
 fn sixteen_run(low: Eight, high: Eight, times: &[f64], later: &[f64], at: usize) -> Sixteen
     requires { ⌜ (length (now times) % 2 ≡ 0) × (at + length (now times) + 15 ≤ length (now later)) ⌝ }
-    ensures { λ r. ⌜ (r .a ≡ eightRun low (now (times .entry)) (now (later .entry)) at) × (r .b ≡ eightRun high (now (times .entry)) (now (later .entry)) (at + 8)) ⌝ }
+    ensures { λ r. ⌜
+        (r .a ≡ eightRun low (now (times .entry)) (now (later .entry)) at)
+        × (r .b ≡ eightRun high (now (times .entry)) (now (later .entry)) (at + 8))
+        ⌝ }
 {
     let mut s = low;
     let mut r = high;

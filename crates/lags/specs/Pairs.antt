@@ -3,7 +3,7 @@ use Prim.Native.Nat.{ℕ}
 use mathlib.Core.Bool.{Bool, true, false}
 use mathlib.Core.List.{List, [], _∷_}
 use lib.Ieee.{Float, lt, le}
-use Rattle.numbers.specs.Rounded.{_⊖_, _⊗_, _⊘_, bits, real, pick}
+use Rattle.numbers.specs.Rounded.{_⊖_, _⊗_, _⊘_, bits, real, pick, one, half}
 
 -- |x - y|: the larger less the smaller, rounded once
 abbrev pub lagDistance : Float → Float → Float
@@ -23,13 +23,7 @@ twentieth = bits 0x3FA9_9999_9999_999A
 
 -- "1/4, 1/2, 1, 2, 4"
 abbrev pub folds : List Float
-folds =
-    bits 0x3FD0_0000_0000_0000
-    ∷ bits 0x3FE0_0000_0000_0000
-    ∷ bits 0x3FF0_0000_0000_0000
-    ∷ bits 0x4000_0000_0000_0000
-    ∷ bits 0x4010_0000_0000_0000
-    ∷ []
+folds = bits 0x3FD0_0000_0000_0000 ∷ half ∷ one ∷ bits 0x4000_0000_0000_0000 ∷ bits 0x4010_0000_0000_0000 ∷ []
 
 -- the lag, times the fold, "differs from the whole lag by at most 0.05 of it"
 unfoldable pub foldFits : (whole lag : ℕ) → Float → Bool

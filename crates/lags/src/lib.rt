@@ -26,6 +26,11 @@ ghost use Rattle.lags.specs.Lags.{
 
 pub mod pairs;
 
+// samples from a frame to the next
+const HOP: f64 = 256.0;
+// seconds of a minute
+const SIXTY: f64 = 60.0;
+
 // The answer of `lag_range`: its number, and the least and the greatest lag, in frames (0 where it refuses).
 pub struct LagRange {
     pub number: u32,
@@ -65,7 +70,7 @@ fn high_bpm(opts: TempoOpts) -> f64
 fn minute_over(rate: u32, x: f64) -> f64
     ensures { λ r. ⌜ r ≡ minuteOver rate x ⌝ }
 {
-    rate as f64 / 256.0 * 60.0 / x
+    rate as f64 / HOP * SIXTY / x
 }
 
 // Inner: the tempo of a lag, in beats a minute.

@@ -1,17 +1,18 @@
--- The first greatest of a run of values, one value at a time.
+-- The first greatest of a run of values, one value at a time; and what the place that is found has, for every list and for one without a NaN.
 use mathlib.Core.Path.{_≡_, refl, sym, ap, _∙_, subst}
-use mathlib.Core.Bool.{Bool, true, false}
+use mathlib.Core.Bool.{Bool, true, false, not}
 use mathlib.Core.Logic.{_⊎_, ⊎-elim}
-use Prim.Native.Nat.{ℕ, zero, suc, _+_, _-_, _≤_, _<_}
+use Prim.Native.Nat.{ℕ, zero, suc, _+_, _-_, _≤_, _<_, zero-le}
 use native.Mathlib.Nat.{le-refl}
 use native.Mathlib.Numerals.{add-one}
 use native.Mathlib.Omega.{arith}
-use lib.Ieee.{Float, lt, le}
+use lib.Dec.{T}
+use lib.Ieee.{Float, isNan, lt, le}
 use Rattle.numbers.specs.Rounded.{pick}
 use Rattle.numbers.proofs.Tests.{which, lt-or-le, true-not-false}
-use Rattle.sizes.proofs.Order.{lt-is-le, lt-back, le-back, lt-right, lt-self, lt-then-lt, lt-then-le, not-lt}
+use Rattle.sizes.proofs.Order.{lt-is-le, lt-back, le-back, le-self, lt-right, lt-self, lt-then-lt, lt-then-le, not-lt, not-le}
 use Rattle.lists.specs.declared.Best.{Best}
-use Rattle.lists.specs.Greatest.{greatest}
+use Rattle.lists.specs.Greatest.{greatest, firstGreatest}
 
 abbrev pub best : Float → ℕ → Best
 best v a = record { value = v; at = a }
@@ -119,7 +120,9 @@ module _ (f : ℕ → Float) (u n : ℕ) (x y : Best) where
         from = omega (arith, t .from);
         to = omega (arith, t .to);
         above = t .above;
-        most = each-from (NotBelow (f k)) u (λ q. no-lt (f k) (f u) (λ g. not-above (lt-then-lt (x .value) (f k) (f u) (t .above) g))) (λ i p q. t .most i p (omega arith));
+        most =
+            each-from (NotBelow (f k)) u (λ q. no-lt (f k) (f u) (λ g. not-above (lt-then-lt (x .value) (f k) (f u) (t .above) g)))
+            (λ i p q. t .most i p (omega arith));
         first = each-from (Less (f k) k) u (λ q. no-le (f k) (f u) (λ g. not-above (lt-then-le (x .value) (f k) (f u) (t .above) g))) (λ i p q. t .first i p q);
       }
 
@@ -136,9 +139,13 @@ outcome f u (suc n) x =
 pub tops-unique : (f : ℕ → Float) (u n : ℕ) (v : Float) (j k : ℕ) → Tops f u n v j → Tops f u n v k → j ≡ k
 tops-unique f u n v j k s t =
     let clash : (a b : ℕ) → Tops f u n v a → Tops f u n v b → a < b → ⊥ = λ a b p q h.
-    true-not-false (le (f b) (f a)) (not-lt (f a) (f b) (lt-right v (f a) (p .above)) (lt-right v (f b) (q .above)) (p .most b (q .from) (q .to))) (q .first a (p .from) h)
+    true-not-false (le (f b) (f a))
+    (not-lt (f a) (f b) (lt-right v (f a) (p .above)) (lt-right v (f b) (q .above)) (p .most b (q .from) (q .to)))
+    (q .first a (p .from) h)
     in
-    ⊎-elim (λ (h : j < k). absurd (clash j k s t h)) (λ (h : k ≤ j). ⊎-elim (λ (g : k < j). absurd (clash k j t s g)) (λ (g : j ≤ k). omega arith) (lt-or-le k j)) (lt-or-le j k)
+    ⊎-elim (λ (h : j < k). absurd (clash j k s t h))
+    (λ (h : k ≤ j). ⊎-elim (λ (g : k < j). absurd (clash k j t s g)) (λ (g : j ≤ k). omega arith) (lt-or-le k j))
+    (lt-or-le j k)
 
 -- so whatever is found to be the first greatest is it
 pub greatest-is : (f : ℕ → Float) (u n : ℕ) (x : Best) (k : ℕ) → Tops f u n (x .value) k → best (f k) k ≡ greatest f u n x
@@ -155,3 +162,71 @@ greatest-none f u n x none = by (outcome f u n x)
     by : Outcome f u n x (greatest f u n x) → x ≡ greatest f u n x
     by (kept e h) = sym e
     by (found j e s) = true-not-false (lt (x .value) (f j)) (s .above) (none j (s .from) (s .to))
+
+-- ---- the first greatest of all
+
+-- rules that agree on every place have one first greatest
+pub first-ext : (f g : ℕ → Float) (n : ℕ) → 1 ≤ n → ((i : ℕ) → i < n → f i ≡ g i) → firstGreatest f n ≡ firstGreatest g n
+unfolding firstGreatest
+first-ext f g n h same =
+    ap (λ (b : Best). b .at)
+    (greatest-ext f g 1 (n - 1) (best (f 0) 0) (λ i p q. same i (omega arith))
+    ∙ ap (λ (v : Float). greatest g 1 (n - 1) (best v 0)) (same 0 (omega arith)))
+
+-- the first greatest is one of them, also where some are NaNs
+pub first-below : (f : ℕ → Float) (n : ℕ) → 1 ≤ n → firstGreatest f n < n
+unfolding firstGreatest
+first-below f n h = by (outcome f 1 (n - 1) (best (f 0) 0))
+  where
+    by : Outcome f 1 (n - 1) (best (f 0) 0) (greatest f 1 (n - 1) (best (f 0) 0)) → greatest f 1 (n - 1) (best (f 0) 0) .at < n
+    by (kept e none) = omega (arith, ap (λ (b : Best). b .at) e)
+    by (found k e t) = omega (arith, ap (λ (b : Best). b .at) e, t .to)
+
+-- of the first n places, k has the greatest value, and each before it a smaller one
+pub record First (f : ℕ → Float) (n k : ℕ) : Type 0 where
+  pub below : k < n
+  pub most : (i : ℕ) → i < n → le (f i) (f k) ≡ true
+  pub before : (i : ℕ) → i < k → lt (f i) (f k) ≡ true
+
+module _ (f : ℕ → Float) (n : ℕ) (some : 1 ≤ n) (numbers : (i : ℕ) → i < n → T (not (isNan (f i)))) where
+  -- what is said of each place
+  abbrev Most : ℕ → ℕ → Type 0
+  Most k i = i < n → le (f i) (f k) ≡ true
+
+  abbrev Smaller : ℕ → ℕ → Type 0
+  Smaller k i = i < k → lt (f i) (f k) ≡ true
+
+  -- no NaN is among them, so a value that is not greater is at most as great
+  is-first : (y : Best) → Outcome f 1 (n - 1) (best (f 0) 0) y → First f n (y .at)
+  is-first y (kept e none) =
+      let w : First f n 0 =
+      record {
+        below = omega arith;
+        most =
+            λ i p.
+            each-from (Most 0) 0 (λ q. le-self (f 0) (numbers 0 q))
+            (λ j h q. not-lt (f 0) (f j) (numbers 0 (omega arith)) (numbers j q) (none j h (omega arith))) i zero-le p;
+        before = λ i p. absurd (omega arith);
+      }
+      in
+      subst (λ (b : Best). First f n (b .at)) (sym e) w
+  is-first y (found k e t) =
+      let to : k < n = omega (arith, t .to) in
+      let w : First f n k =
+      record {
+        below = to;
+        most =
+            λ i p.
+            each-from (Most k) 0 (λ q. lt-is-le (f 0) (f k) (t .above))
+            (λ j h q. not-lt (f k) (f j) (numbers k to) (numbers j q) (t .most j h (omega arith))) i zero-le p;
+        before =
+            λ i p.
+            each-from (Smaller k) 0 (λ q. t .above)
+            (λ j h q. not-le (f k) (f j) (numbers k to) (numbers j (omega arith)) (t .first j h q)) i zero-le p;
+      }
+      in
+      subst (λ (b : Best). First f n (b .at)) (sym e) w
+
+  pub first-is : First f n (firstGreatest f n)
+  unfolding firstGreatest
+  first-is = is-first (greatest f 1 (n - 1) (best (f 0) 0)) (outcome f 1 (n - 1) (best (f 0) 0))

@@ -8,7 +8,7 @@ use Prim.Native.Nat.{ℕ}
 use denote.Ref.{RefT, now}
 use lib.Ieee.{Float, ofInt, ofBits}
 use lib.ListN.{length, drop}
-use Rattle.numbers.specs.Lists.{curve, listed}
+use Rattle.numbers.specs.Lists.{curve}
 use Rattle.numbers.specs.declared.Slab.{Slab}
 use Rattle.numbers.specs.Refusals.{unlessRefused}
 use Rattle.numbers.specs.Rounded.{real}
@@ -36,8 +36,8 @@ use Rattle.tempo.proofs.Promises as tempo
 use Rattle.stability.specs.Answers.{stabilityRefusal, leftOpen, StabilityPromise}
 use Rattle.stability.specs.declared.Steadiness.{Steadiness}
 use Rattle.stability.proofs.Promises as stability
-use Rattle.beats.specs.Grids.{scoresOf, linksOf, gridOf, GridPromise}
-use Rattle.bars.specs.BarBeats.{barBeatSays, barAndBeat}
+use Rattle.beats.specs.Grids.{GridPromise}
+use Rattle.bars.specs.BarBeats.{BarBeatPromise}
 use Rattle.bars.specs.Downbeats.{DownbeatsPromise}
 use Rattle.bars.specs.declared.BarBeat.{BarBeat}
 use Rattle.bars.proofs.BarBeats.{says-one}
@@ -70,7 +70,7 @@ room-of rows rate o p q = p ∙ sym q
 
 -- `bar_beat_at`: two answers that say the same are one
 pub bar-beat-at : (time : Float) (bars beats : List Float) {a b : BarBeat}
-    → barBeatSays a ≡ (0, barAndBeat time bars beats) → barBeatSays b ≡ (0, barAndBeat time bars beats) → a ≡ b
+    → BarBeatPromise time bars beats a → BarBeatPromise time bars beats b → a ≡ b
 bar-beat-at time bars beats p q = says-one _ _ (p ∙ sym q)
 
 -- options that are equal have each bound equal
@@ -161,27 +161,23 @@ pub stability-of : {env : List Float} {rate : ℕ} {o : TempoOpts} {whole : ℕ}
     (a ≡ b) × stability.Alike number room c d × stability.Alike number room w v × stability.Alike number room k l
 stability-of = stability.coincide
 
--- what one number decides
-by-number : {A : Type 0} (done was : A) {m n : ℕ} {a b : A} → m ≡ n → a ≡ unlessRefused m done was → b ≡ unlessRefused n done was → a ≡ b
-by-number done was one p q = p ∙ ap (λ (i : ℕ). unlessRefused i done was) one ∙ sym q
-
 -- `beat_grid`
-pub beat-grid : {envelope : List Float} {period : ℕ} {score : List Float} {back beats : List ℕ} {m n c d : ℕ} {s t : List Float} {k l x y : List ℕ}
-    → GridPromise envelope period score back beats m c s k x → GridPromise envelope period score back beats n d t l y
-    → (m ≡ n) × (c ≡ d) × (s ≡ t) × (k ≡ l) × (x ≡ y)
-beat-grid {envelope} {period} {score} {back} {beats} {m} {n} p q =
-    let one : m ≡ n = p .number-is ∙ sym (q .number-is) in (
-      one,
-      by-number (length (gridOf envelope period)) 0 one (p .count-is) (q .count-is),
-      by-number (listed (scoresOf envelope period) score) score one (p .score-is) (q .score-is),
-      by-number (listed (linksOf envelope period) back) back one (p .back-is) (q .back-is),
-      by-number (listed (gridOf envelope period) beats) beats one (p .beats-are) (q .beats-are),
-    )
+pub beat-grid : {envelope : List Float} {period : ℕ} {score : List Float} {back beats : List ℕ} {a b : Listing} {s t : List Float} {k l x y : List ℕ}
+    → GridPromise envelope period score back beats a s k x → GridPromise envelope period score back beats b t l y
+    → (a .number ≡ b .number) × (a .count ≡ b .count) × (s ≡ t) × (k ≡ l) × (x ≡ y)
+beat-grid p q = (
+  p .number-is ∙ sym (q .number-is),
+  p .count-is ∙ sym (q .count-is),
+  p .score-is ∙ sym (q .score-is),
+  p .back-is ∙ sym (q .back-is),
+  p .beats-are ∙ sym (q .beats-are),
+)
 
 -- `downbeats`
-pub downbeats : {envelope : List Float} {beats : List ℕ} {meter : ℕ} {frames : List ℕ} {m n c d : ℕ} {x y : List ℕ}
-    → DownbeatsPromise envelope beats meter frames m c x → DownbeatsPromise envelope beats meter frames n d y → (m ≡ n) × (c ≡ d) × (x ≡ y)
-downbeats p q = (p .number-is ∙ sym (q .number-is), p .count-is ∙ sym (q .count-is), p .frames-are ∙ sym (q .frames-are))
+pub downbeats : {envelope : List Float} {beats : List ℕ} {meter : ℕ} {frames : List ℕ} {a b : Listing} {x y : List ℕ}
+    → DownbeatsPromise envelope beats meter frames a x → DownbeatsPromise envelope beats meter frames b y
+    → (a .number ≡ b .number) × (a .count ≡ b .count) × (x ≡ y)
+downbeats p q = listing _ _ _ p q
 
 -- `similarity`, `novelty`
 pub similarity : {features : List Float} {rows : ℕ} {was : List Float} {m n : ℕ} {x y : List Float}

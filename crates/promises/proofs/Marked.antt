@@ -9,11 +9,12 @@ use Rattle.onsets.specs.Peaks.{bests, suppressed}
 use Rattle.lags.specs.Lags.{lagRange}
 use Rattle.lags.specs.Pairs.{apart, agrees}
 use Rattle.beats.specs.Grids.{gridOf}
-use Rattle.bars.specs.Downbeats.{beatFlux, inPhase, phaseSum, firstGreatest, downbeatPhase, downbeatsOf}
+use Rattle.lists.specs.Greatest.{greatest, firstGreatest}
+use Rattle.bars.specs.Downbeats.{beatFlux, inPhase, phaseSum, downbeatPhase, downbeatsOf}
 use Rattle.promises.specs.Marked.{valued, Holds, marked}
 
 pub all-hold : Each Holds marked
-unfolding medianOf sort insert key turned toBits ofInt valued suppressed bests lagRange ofBits div mul add sub neg lt le apart agrees gridOf sumFrom downbeatsOf downbeatPhase firstGreatest phaseSum inPhase beatFlux
+unfolding medianOf sort insert key turned toBits ofInt valued suppressed bests lagRange ofBits div mul add sub neg lt le apart agrees gridOf sumFrom downbeatsOf downbeatPhase firstGreatest greatest phaseSum inPhase beatFlux
 all-hold =
     more refl
     (more refl (more refl (more refl

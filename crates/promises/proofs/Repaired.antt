@@ -180,17 +180,17 @@ module _ (slab : Slab) (was last : MagnitudeTrack) (fresh : Fresh slab was) (ran
   same-stability rate o whole clarity weight work p q = stability-of (rw flux-is at p) q .0
 
   -- the beat grid, with its scores and links
-  pub same-grid : (period : ℕ) (score : List Float) (back beats : List ℕ) {m n c d : ℕ} {s t : List Float} {k l x y : List ℕ}
-      → GridPromise (take (slab .rows) (last .flux)) period score back beats m c s k x
-      → GridPromise (fluxCurve slab (last .magnitudes)) period score back beats n d t l y
-      → (m ≡ n) × (c ≡ d) × (s ≡ t) × (k ≡ l) × (x ≡ y)
+  pub same-grid : (period : ℕ) (score : List Float) (back beats : List ℕ) {a b : Listing} {s t : List Float} {k l x y : List ℕ}
+      → GridPromise (take (slab .rows) (last .flux)) period score back beats a s k x
+      → GridPromise (fluxCurve slab (last .magnitudes)) period score back beats b t l y
+      → (a .number ≡ b .number) × (a .count ≡ b .count) × (s ≡ t) × (k ≡ l) × (x ≡ y)
   same-grid period score back beats p q = beat-grid (rw flux-is at p) q
 
   -- the downbeats
-  pub same-downbeats : (beats : List ℕ) (meter : ℕ) (frames : List ℕ) {m n c d : ℕ} {x y : List ℕ}
-      → DownbeatsPromise (take (slab .rows) (last .flux)) beats meter frames m c x
-      → DownbeatsPromise (fluxCurve slab (last .magnitudes)) beats meter frames n d y
-      → (m ≡ n) × (c ≡ d) × (x ≡ y)
+  pub same-downbeats : (beats : List ℕ) (meter : ℕ) (frames : List ℕ) {a b : Listing} {x y : List ℕ}
+      → DownbeatsPromise (take (slab .rows) (last .flux)) beats meter frames a x
+      → DownbeatsPromise (fluxCurve slab (last .magnitudes)) beats meter frames b y
+      → (a .number ≡ b .number) × (a .count ≡ b .count) × (x ≡ y)
   same-downbeats beats meter frames p q = downbeats (rw flux-is at p) q
 
   -- the whole analysis in one call, with the period of the beats taken from the tempo

@@ -24,7 +24,7 @@ use Rattle.tempo.specs.Answers.{searchRefusal, estimateOf}
 use Rattle.tempo.proofs.Promises.{Kept, kept}
 use Rattle.stability.specs.declared.Stability.the-variants.{None, Share}
 use Rattle.stability.specs.Windows.{windowsOf, agreeingTo}
-use Rattle.stability.specs.Answers.{shareOf}
+use Rattle.stability.specs.Answers.{shareOf, agreeingIn, windowsIn}
 use Rattle.stability.proofs.Promises.{windows-most, agreeing-most}
 use Rattle.track.specs.declared.Analysis.{Analysis}
 use Rattle.rooms.specs.declared.Room.{Room}
@@ -37,7 +37,7 @@ use Rattle.rooms.specs.Enough.{Enough}
 use Rattle.rooms.proofs.Rooms.{enough-suffices}
 use Rattle.report.specs.Input.{mostReported}
 use Rattle.report_text.specs.Text.{reportText}
-use Rattle.report_lines.specs.Lines.{agreeingIn, windowsIn, linesOf, LagsFit, Listable}
+use Rattle.report_lines.specs.Lines.{linesOf, LagsFit, Listable}
 use Rattle.report_answer.specs.Reports.{reportRate, lagsIn, reportOf}
 use Rattle.report_answer.specs.Inner.{CurvesLent, ListsLent}
 

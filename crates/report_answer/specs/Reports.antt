@@ -8,12 +8,12 @@ use Rattle.options.specs.Options.{defaultOptions}
 use Rattle.lags.specs.Lags.{minLag, maxLag}
 use Rattle.tempo.specs.declared.TempoEstimate.{TempoEstimate}
 use Rattle.stability.specs.declared.Stability.{Stability}
-use Rattle.stability.specs.Answers.{shareOf}
+use Rattle.stability.specs.Answers.{shareOf, agreeingIn, windowsIn}
 use Rattle.onsets.specs.Onsets.{onsetsIn}
 use Rattle.track.specs.Analyses.{estimateIn, periodIn, beatsIn, downbeatsIn}
 use Rattle.report.specs.Input.{reportNumber, reportFlux}
 use Rattle.report_text.specs.Text.{reportText, refusalText}
-use Rattle.report_lines.specs.Lines.{candidateLags, agreeingIn, windowsIn}
+use Rattle.report_lines.specs.Lines.{candidateLags}
 
 -- samples a second
 abbrev pub reportRate : ℕ

@@ -5,12 +5,13 @@ use Prim.Native.Nat.{ℕ, _-_}
 use native.Mathlib.Nat.{sub-zero}
 use native.Mathlib.Omega.{arith}
 use lib.ListN.{length, getD, take, length-take}
+use Rattle.stability.specs.Answers.{agreeingIn, windowsIn}
 use Rattle.tempo.specs.declared.Candidate.{Candidate}
 use Rattle.track.specs.declared.Analysis.{Analysis}
 use Rattle.report_text.specs.Text.{reportText, reportRoom, PutWithin}
 use Rattle.report_text.proofs.Puts.{put-as}
 use Rattle.report_lines.specs.declared.Counts.{Counts}
-use Rattle.report_lines.specs.Lines.{textRoom, candidateLags, agreeingIn, windowsIn, linesOf, Listable}
+use Rattle.report_lines.specs.Lines.{textRoom, candidateLags, linesOf, Listable}
 
 pub three-lags : (cs : List Candidate) (z : Candidate) → length cs ≡ 3 → (getD cs 0 z .lag ∷ getD cs 1 z .lag ∷ getD cs 2 z .lag ∷ []) ≡ candidateLags cs
 three-lags [] z e = absurd (omega arith)

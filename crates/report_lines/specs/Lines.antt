@@ -5,9 +5,8 @@ use mathlib.Core.Path.{_≡_}
 use mathlib.Core.List.{List, map}
 use lib.ListN.{length, getD, take}
 use Rattle.numbers.specs.Limits.{mostPeriod}
+use Rattle.stability.specs.Answers.{agreeingIn, windowsIn}
 use Rattle.tempo.specs.declared.Candidate.{Candidate}
-use Rattle.stability.specs.declared.Stability.{Stability}
-use Rattle.stability.specs.declared.Stability.the-variants.{None, Share}
 use Rattle.track.specs.declared.Analysis.{Analysis}
 use Rattle.report.specs.Input.{mostReported}
 use Rattle.report_text.specs.Text.{reportText, reportRoom, mostCandidates}
@@ -15,15 +14,6 @@ use Rattle.report_text.specs.Text.{reportText, reportRoom, mostCandidates}
 -- the lags of candidates
 abbrev pub candidateLags : List Candidate → List ℕ
 candidateLags candidates = map (λ (c : Candidate). c .lag) candidates
-
--- the counts of a stability; where there is none, there are no windows
-abbrev pub agreeingIn : Stability → ℕ
-agreeingIn None = 0
-agreeingIn (Share fraction agreeing windows) = agreeing
-
-abbrev pub windowsIn : Stability → ℕ
-windowsIn None = 0
-windowsIn (Share fraction agreeing windows) = windows
 
 -- bytes for the longest text: a list of onsets, of beats and of downbeats with an entry for each row
 abbrev pub textRoom : ℕ

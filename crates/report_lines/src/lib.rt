@@ -8,8 +8,9 @@ use track::Analysis;
 ghost use mathlib.Core.Path.{_≡_};
 ghost use Prim.Native.Nat.{_≤_};
 ghost use lib.ListN.{length};
+ghost use Rattle.stability.specs.Answers.{agreeingIn, windowsIn};
 ghost use Rattle.report_text.specs.Text.{PutWithin};
-ghost use Rattle.report_lines.specs.Lines.{textRoom, candidateLags, agreeingIn, windowsIn, linesOf, LagsFit, Listable};
+ghost use Rattle.report_lines.specs.Lines.{textRoom, candidateLags, linesOf, LagsFit, Listable};
 
 // The counts of a stability, as the text has them.
 struct Counts {

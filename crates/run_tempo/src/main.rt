@@ -208,7 +208,12 @@ fn estimate(envelope: &[f64], line: &[u8]) {
         &mut weight[0..run_cases::column_within(line, 7, 20)],
         &mut work[0..run_cases::column_within(line, 8, 20)],
     ));
-    left(&clarity, &weight, &work, run_cases::column_within(line, 9, 20));
+    left(
+        &clarity,
+        &weight,
+        &work,
+        run_cases::column_within(line, 9, 20),
+    );
 }
 
 // The first n slots of each lent slice afterwards, lent or not.

@@ -2,6 +2,5 @@
 pub mod FirstGreatest
 pub mod Refusals
 pub mod Promises
-mod Rooms
 mod Parts
 mod Shares

@@ -12,9 +12,10 @@ use lib.ListN.{length, take, drop, length-drop}
 use lib.Seq.{length-take-le}
 use lib.Ieee.{Float, le}
 use Rattle.numbers.specs.Rounded.{pick, epsilon}
-use Rattle.numbers.specs.Lists.{filled}
+use Rattle.numbers.specs.Lists.{filled, oneIf}
 use Rattle.numbers.proofs.Tests.{pick-true, pick-false}
 use Rattle.numbers.proofs.Overs.{row-end}
+use Rattle.numbers.proofs.Outcomes.{open-same, open-filled}
 use Rattle.lists.specs.Means.{meanOf}
 use Rattle.lags.specs.Lags.{lagRoom}
 use Rattle.lags.specs.Pairs.{agrees}
@@ -23,8 +24,8 @@ use Rattle.lag_curves.specs.Curves.{clarityFrom, weightedBy}
 use Rattle.lag_curves.proofs.Weights.{weighted-by-is}
 use Rattle.lag_search.specs.Search.{winnerLag, winningLag}
 use Rattle.lag_search.proofs.Searches.{searched-flat, searched-written}
-use Rattle.stability.specs.Windows.{windowAt, windowAgrees, agreeingTo, WindowSearched}
-use Rattle.stability.proofs.Rooms.{open-same, open-filled}
+use Rattle.stability.specs.Windows.{windowAt, windowAgrees, agreeingTo}
+use Rattle.stability.specs.Inner.{WindowSearched}
 
 -- ---- where they lie
 
@@ -101,12 +102,12 @@ module _ (env : List Float) (rate minLag maxLag whole w i : ℕ) where
   abbrev counted : ℕ → ℕ
   counted k = agreeingTo env rate minLag maxLag whole w k
 
-  step : counted (i + 1) ≡ counted i + pick (windowAgrees (windowAt env w i) rate minLag maxLag whole) 1 0
+  step : counted (i + 1) ≡ counted i + oneIf (windowAgrees (windowAt env w i) rate minLag maxLag whole)
   unfolding agreeingTo
   step = rw add-one refl
 
-  next : (b : Bool) (a : ℕ) → a ≡ counted i → windowAgrees (windowAt env w i) rate minLag maxLag whole ≡ b → a + pick b 1 0 ≡ counted (i + 1)
-  next b a e f = sym (step ∙ ap (λ (x : Bool). counted i + pick x 1 0) f ∙ ap (λ (x : ℕ). x + pick b 1 0) (sym e))
+  next : (b : Bool) (a : ℕ) → a ≡ counted i → windowAgrees (windowAt env w i) rate minLag maxLag whole ≡ b → a + oneIf b ≡ counted (i + 1)
+  next b a e f = sym (step ∙ ap (λ (x : Bool). counted i + oneIf x) f ∙ ap (λ (x : ℕ). x + oneIf b) (sym e))
 
   module _ (a lag : ℕ) (is : a ≡ counted i) (found : lag ≡ winningLag (windowAt env w i) rate minLag maxLag) where
     answers : windowAgrees (windowAt env w i) rate minLag maxLag whole ≡ pick (eqb lag 0) false (agrees whole lag)

@@ -8,20 +8,18 @@ use native.Mathlib.Nat.{min-le-left}
 use native.Mathlib.Omega.{arith}
 use lib.ListN.{length, drop}
 use lib.Ieee.{Float}
-use Rattle.numbers.specs.Rounded.{pick}
+use Rattle.numbers.specs.Lists.{oneIf}
 use Rattle.numbers.specs.Refusals.{unlessRefused}
+use Rattle.numbers.proofs.Outcomes.{open-unique}
 use Rattle.options.specs.declared.TempoOpts.{TempoOpts}
 use Rattle.lags.specs.Lags.{minLag, maxLag}
 use Rattle.stability.specs.declared.Steadiness.{Steadiness}
 use Rattle.stability.specs.Windows.{windowsOf, windowAt, windowAgrees, agreeingTo}
-use Rattle.stability.specs.Answers.{stabilityRefusal, leftOpen, Lent, StabilityPromise}
+use Rattle.stability.specs.Answers.{stabilityRefusal, leftOpen, StabilityPromise}
 
 -- two slices that are alike in length and in every slot that is not left open
 abbrev pub Alike : (number room : ℕ) → (xs ys : List Float) → Type 0
-Alike number room xs ys = (length xs ≡ length ys) × (unlessRefused number (drop room xs) xs ≡ unlessRefused number (drop room ys) ys)
-
-pub lent-coincide : {number room : ℕ} {was xs ys : List Float} → Lent number room was xs → Lent number room was ys → Alike number room xs ys
-lent-coincide p q = (p .same-length ∙ sym (q .same-length), p .kept ∙ sym (q .kept))
+Alike number room xs ys = (length xs ≡ length ys) × (drop (unlessRefused number room 0) xs ≡ drop (unlessRefused number room 0) ys)
 
 pub coincide : {env : List Float} {rate : ℕ} {o : TempoOpts} {whole : ℕ} {clarity weight work : List Float}
     {r s : Steadiness} {c d w v k l : List Float}
@@ -31,16 +29,16 @@ pub coincide : {env : List Float} {rate : ℕ} {o : TempoOpts} {whole : ℕ} {cl
     (r ≡ s) × Alike number room c d × Alike number room w v × Alike number room k l
 coincide p q = (
   p .answered ∙ sym (q .answered),
-  lent-coincide (p .clarities) (q .clarities),
-  lent-coincide (p .weights) (q .weights),
-  lent-coincide (p .works) (q .works),
+  open-unique (p .clarities) (q .clarities),
+  open-unique (p .weights) (q .weights),
+  open-unique (p .works) (q .works),
 )
 
 pub windows-most : (n maxLag : ℕ) → windowsOf n maxLag ≤ 4
 unfolding windowsOf
 windows-most n maxLag = min-le-left 4 (n / (maxLag + 2))
 
-one-most : (b : Bool) → pick b 1 0 ≤ 1
+one-most : (b : Bool) → oneIf b ≤ 1
 one-most true = omega arith
 one-most false = omega arith
 

@@ -1,16 +1,17 @@
 -- What `stability_of` answers and leaves, by whether there is a whole lag and whether there are windows enough. Assumes nothing.
-use mathlib.Core.Path.{_≡_, refl, sym, ap, _∙_, subst}
+use mathlib.Core.Path.{_≡_, sym, ap, _∙_, subst}
 use mathlib.Core.Bool.{Bool, true, false, _||_}
 use mathlib.Core.List.{List}
 use Prim.Native.Nat.{ℕ, _+_, _*_, _/_, _≤_, _<_, min}
 use native.Mathlib.Nat.{min-le-right, mul-le-mul-right, div-mul-le-self, le-trans}
 use borrow.Author.Tests.{eq-eqb, ne-eqb, lt-ltb, le-ltb}
 use lib.Dec.{ltb, eqb}
-use lib.ListN.{length, drop}
+use lib.ListN.{length}
 use lib.Ieee.{Float}
 use Rattle.numbers.specs.Rounded.{_⊘_, real}
 use Rattle.numbers.proofs.Tests.{pick-true, pick-false, refused-keeps, passed-does}
 use Rattle.numbers.specs.Outcomes.{Open}
+use Rattle.numbers.proofs.Outcomes.{open-same, open-answered}
 use Rattle.options.specs.declared.TempoOpts.{TempoOpts}
 use Rattle.lags.specs.declared.LagRange.{LagRange}
 use Rattle.lags.specs.Lags.{minLag, maxLag, lagRoom}
@@ -18,9 +19,9 @@ use Rattle.tempo.proofs.Refusals.{Ranged}
 use Rattle.stability.specs.declared.Stability.{Stability}
 use Rattle.stability.specs.declared.Stability.the-variants.{None, Share}
 use Rattle.stability.specs.declared.Steadiness.{Steadiness}
-use Rattle.stability.specs.Windows.{windowsOf, agreeingTo, Counted}
-use Rattle.stability.specs.Answers.{stabilityRefusal, leftOpen, shareOf, withoutStability, steadinessOf, Shared, Lent, StabilityPromise}
-use Rattle.stability.proofs.Rooms.{open-same}
+use Rattle.stability.specs.Windows.{windowsOf, agreeingTo}
+use Rattle.stability.specs.Answers.{stabilityRefusal, leftOpen, shareOf, withoutStability, steadinessOf, StabilityPromise}
+use Rattle.stability.specs.Inner.{Counted, Shared}
 
 -- so many windows lie in the envelope
 pub windows-fit : (n m w : ℕ) → w ≡ min 4 (n / (m + 2)) → w * (m + 2) ≤ n
@@ -81,16 +82,6 @@ module _ (env : List Float) (rate minLag maxLag whole : ℕ) (clarity weight wor
 
 -- ---- every call
 
-lent-same : (number room : ℕ) (xs : List Float) → Lent number room xs xs
-lent-same number room xs = record { same-length = refl; kept = refl }
-
-lent-open : (number room : ℕ) (xs ys : List Float) → number ≡ 0 → Open room xs ys → Lent number room xs ys
-lent-open number room xs ys z e =
-    record {
-      same-length = e .same-length;
-      kept = passed-does number (drop room ys) ys z ∙ e .kept ∙ sym (passed-does number (drop room xs) xs z);
-    }
-
 module _ (env : List Float) (rate : ℕ) (o : TempoOpts) (whole : ℕ) (clarity weight work : List Float) where
   abbrev number : ℕ
   number = stabilityRefusal env rate o whole (length clarity) (length weight) (length work)
@@ -101,9 +92,9 @@ module _ (env : List Float) (rate : ℕ) (o : TempoOpts) (whole : ℕ) (clarity 
       let left : number ≡ 0 → ⊥ = λ z. some (e ∙ z) in
       record {
         answered = ap withoutStability e ∙ sym (refused-keeps number _ _ left);
-        clarities = lent-same _ _ clarity;
-        weights = lent-same _ _ weight;
-        works = lent-same _ _ work;
+        clarities = open-same _ clarity;
+        weights = open-same _ weight;
+        works = open-same _ work;
       }
 
   pub steadied-shared : (n : ℕ) (range : LagRange) (s : Stability) (clarity′ weight′ work′ : List Float) → n ≡ number → n ≡ 0 → Ranged rate o range
@@ -115,7 +106,7 @@ module _ (env : List Float) (rate : ℕ) (o : TempoOpts) (whole : ℕ) (clarity 
       let t : Shared env rate (minLag rate o) (maxLag rate o) whole clarity weight work s clarity′ weight′ work′ = rw (a .least, a .greatest) at told in
       record {
         answered = ap (λ (x : Stability). record { number = 0; stability = x }) (t .answered) ∙ sym (passed-does number _ _ none);
-        clarities = lent-open _ _ clarity clarity′ none (t .clarities);
-        weights = lent-open _ _ weight weight′ none (t .weights);
-        works = lent-open _ _ work work′ none (t .works);
+        clarities = open-answered _ _ clarity clarity′ none (t .clarities);
+        weights = open-answered _ _ weight weight′ none (t .weights);
+        works = open-answered _ _ work work′ none (t .works);
       }

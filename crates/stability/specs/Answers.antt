@@ -1,16 +1,19 @@
 -- Document 01, Tempo and candidates, "Stability": what `stability_of` answers, and what it leaves in the slices that it is lent.
+--
+-- Read first `stabilityRefusal`, when it refuses; then `shareOf`, the stability of an envelope, by the windows of Windows; then `leftOpen`, how many
+-- slots of each lent slice it leaves open. `StabilityPromise`, the last, is the whole.
 use Prim.Native.Nat.{ℕ}
 use mathlib.Core.Bool.{true, _&&_, _||_}
 use mathlib.Core.List.{List}
 use mathlib.Core.Path.{_≡_}
 use lib.Dec.{ltb, leb, eqb}
-use lib.ListN.{length, drop}
+use lib.ListN.{length}
 use lib.Ieee.{Float}
 use Rattle.numbers.specs.Rounded.{_⊘_, real, pick}
 use Rattle.numbers.specs.Limits.{mostPeriod, valueFine}
 use Rattle.numbers.specs.Refusals.{lowest, unlessRefused}
 use Rattle.numbers.specs.Lists.{every}
-use Rattle.numbers.specs.Outcomes.{Open}
+use Rattle.numbers.specs.Outcomes.{OpenUnless}
 use Rattle.options.specs.declared.TempoOpts.{TempoOpts}
 use Rattle.lags.specs.Lags.{minLag, maxLag, lagRoom}
 use Rattle.tempo.specs.Answers.{searchBounds, searchRoom}
@@ -33,19 +36,19 @@ shareOf env rate minLag maxLag whole =
     let agreeing = agreeingTo env rate minLag maxLag whole w w in
     pick (eqb whole 0 || ltb w 2) None (Share (real agreeing ⊘ real w) agreeing w)
 
+-- how many windows of a stability agree, and how many there are: none of each without one
+abbrev pub agreeingIn : Stability → ℕ
+agreeingIn None = 0
+agreeingIn (Share fraction agreeing windows) = agreeing
+
+abbrev pub windowsIn : Stability → ℕ
+windowsIn None = 0
+windowsIn (Share fraction agreeing windows) = windows
+
 -- the slots of each lent slice that are left open: one a lag where windows are searched, and none where there is no stability
 unfoldable pub leftOpen : (n minLag maxLag whole : ℕ) → ℕ
 unfolding windowsOf
 leftOpen n minLag maxLag whole = pick (eqb whole 0 || ltb (windowsOf n maxLag) 2) 0 (lagRoom minLag maxLag)
-
--- What an accepted call answers, and leaves of the slices that it is lent.
-pub record Shared
-    (env : List Float) (rate minLag maxLag whole : ℕ) (clarity weight work : List Float)
-    (answer : Stability) (clarity′ weight′ work′ : List Float) : Type 0 where
-  pub answered : answer ≡ shareOf env rate minLag maxLag whole
-  pub clarities : Open (leftOpen (length env) minLag maxLag whole) clarity clarity′
-  pub weights : Open (leftOpen (length env) minLag maxLag whole) weight weight′
-  pub works : Open (leftOpen (length env) minLag maxLag whole) work work′
 
 -- no stability, with the number of a refusal or 0
 abbrev pub withoutStability : ℕ → Steadiness
@@ -58,11 +61,6 @@ steadinessOf env rate o whole clarity weight work =
     let number = stabilityRefusal env rate o whole clarity weight work in
     unlessRefused number (record { number = 0; stability = shareOf env rate (minLag rate o) (maxLag rate o) whole }) (withoutStability number)
 
--- A lent slice afterwards: a refusal changes nothing, and else only the first slots, as many as are left open, may differ.
-pub record Lent (number room : ℕ) (was now′ : List Float) : Type 0 where
-  pub same-length : length now′ ≡ length was
-  pub kept : unlessRefused number (drop room now′) now′ ≡ unlessRefused number (drop room was) was
-
 -- The promise of `stability_of`: its answer is determined by the input. Where windows are searched, what the first slots of each lent slice hold
 -- afterwards, one a lag, is left open, since no caller has a use for it: in the lag curves' room each window's curves go over those of the window
 -- before, but for a flat window, which writes none; in the work slice stand the priors that all of them are weighed by. Where no window is
@@ -72,20 +70,14 @@ pub record StabilityPromise
     (answer : Steadiness) (clarity′ weight′ work′ : List Float) : Type 0 where
   pub answered : answer ≡ steadinessOf env rate o whole (length clarity) (length weight) (length work)
   pub clarities :
-      Lent
-      (stabilityRefusal env rate o whole (length clarity) (length weight) (length work))
-      (leftOpen (length env) (minLag rate o) (maxLag rate o) whole)
-      clarity
-      clarity′
+      OpenUnless
+      (stabilityRefusal env rate o whole (length clarity) (length weight) (length work)) (leftOpen (length env) (minLag rate o) (maxLag rate o) whole)
+      clarity clarity′
   pub weights :
-      Lent
-      (stabilityRefusal env rate o whole (length clarity) (length weight) (length work))
-      (leftOpen (length env) (minLag rate o) (maxLag rate o) whole)
-      weight
-      weight′
+      OpenUnless
+      (stabilityRefusal env rate o whole (length clarity) (length weight) (length work)) (leftOpen (length env) (minLag rate o) (maxLag rate o) whole)
+      weight weight′
   pub works :
-      Lent
-      (stabilityRefusal env rate o whole (length clarity) (length weight) (length work))
-      (leftOpen (length env) (minLag rate o) (maxLag rate o) whole)
-      work
-      work′
+      OpenUnless
+      (stabilityRefusal env rate o whole (length clarity) (length weight) (length work)) (leftOpen (length env) (minLag rate o) (maxLag rate o) whole)
+      work work′

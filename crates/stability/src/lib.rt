@@ -2,18 +2,20 @@
 //
 // Document 01, Tempo and candidates, "Stability". The Rust: tempo.rs `stability_of`.
 use crate::windows::count_agreeing;
-use options::TempoOpts;
 use lags::lag_range;
+use lists::float_of;
 use numbers::MOST_PERIOD;
 use numbers::OUT_OF_BOUNDS;
 use numbers::least;
+use options::TempoOpts;
 use tempo::search_refusal;
 ghost use mathlib.Core.Path.{_≡_};
 ghost use Prim.Native.Nat.{_≤_};
 ghost use lib.ListN.{length};
 ghost use Rattle.numbers.specs.Limits.{mostPeriod, mostRows};
 ghost use Rattle.lags.specs.Lags.{lagRoom};
-ghost use Rattle.stability.specs.Answers.{stabilityRefusal, StabilityPromise, Shared};
+ghost use Rattle.stability.specs.Answers.{stabilityRefusal, StabilityPromise};
+ghost use Rattle.stability.specs.Inner.{Shared};
 
 mod windows;
 
@@ -94,8 +96,7 @@ fn share(
         weight,
         work,
     );
-    let fraction = std::num::nearest_u64_to_f64(agreeing as u64)
-        / std::num::nearest_u64_to_f64(windows as u64);
+    let fraction = float_of(agreeing) / float_of(windows);
     Stability::Share {
         fraction,
         agreeing,

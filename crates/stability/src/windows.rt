@@ -5,17 +5,17 @@
 use lag_curves::fill_clarity;
 use lag_curves::fill_priors;
 use lag_curves::weigh;
-use numbers::EPSILON;
 use lag_search::lag_of_winner;
 use lag_sums::energy_of;
-use lists::mean_of;
-use lags::pairs::fold_fits;
 use lags::lag_slots;
+use lags::pairs::fold_fits;
+use lists::mean_of;
+use numbers::EPSILON;
 ghost use Prim.Native.Nat.{_+_, _*_, _≤_, _<_};
 ghost use lib.ListN.{length};
 ghost use Rattle.numbers.specs.Limits.{mostPeriod, mostRows};
 ghost use Rattle.lags.specs.Lags.{lagRoom};
-ghost use Rattle.stability.specs.Windows.{WindowSearched, Counted};
+ghost use Rattle.stability.specs.Inner.{WindowSearched, Counted};
 
 // Two octaves either way: a window that locks onto half or double time of the same groove has found no other tempo.
 const FOLDS: [f64; 5] = [0.25, 0.5, 1.0, 2.0, 4.0];

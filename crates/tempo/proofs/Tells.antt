@@ -20,7 +20,8 @@ use Rattle.lags.specs.Lags.{minLag, maxLag, lagRoom}
 use Rattle.tempo.specs.declared.TempoEstimate.{TempoEstimate}
 use Rattle.lag_candidates.specs.Candidates.{winnerOf}
 use Rattle.lag_search.specs.Search.{flat, clarityRule, weightRule, clarityCurve, weightCurve, winnerAbove, winnerLag, winningLag, Searched}
-use Rattle.tempo.specs.Answers.{withoutTempo, foundOf, tooLittle, unwritten, tempoOf, curveOf, TempoIn, searchRefusal, estimateOf, EstimatePromise}
+use Rattle.tempo.specs.Answers.{withoutTempo, foundOf, tooLittle, unwritten, tempoOf, curveOf, searchRefusal, estimateOf, EstimatePromise}
+use Rattle.tempo.specs.Inner.{TempoIn}
 use Rattle.lag_candidates.proofs.Winners.{winner-below}
 use Rattle.tempo.proofs.Refusals.{Ranged}
 use Rattle.lag_search.proofs.Searches.{curve-part}

@@ -1,4 +1,7 @@
 -- Document 01, Tempo and candidates: what `estimate` answers, and what it leaves in the slices that it is lent.
+--
+-- Read first `searchRefusal`, when it refuses; then `tempoOf`, the tempo and the candidates of an envelope, by the lag curves of crate lag_search;
+-- then `unwritten` and `curveOf`, what stands in a lent lag curve. `EstimatePromise`, the last, is the whole.
 use Prim.Native.Nat.{ℕ, _+_}
 use mathlib.Core.Bool.{Bool, true, _&&_, _||_}
 use mathlib.Core.List.{List, [], _∷_, map}
@@ -90,17 +93,9 @@ tempoOf env onsets rate minLag maxLag =
     (pick (winnerAbove weight) (foundOf rate minLag clarity weight) (withoutTempo 0))
 
 -- a lent lag curve where nothing is refused, by its rule
-unfoldable pub curveOf : (ℕ → Float) → List Float → (unwritten : Bool) → (room : ℕ) → List Float
+unfoldable pub curveOf : (ℕ → Float) → List Float → (untouched : Bool) → (room : ℕ) → List Float
 unfolding filled
-curveOf rule was unwritten room = pick unwritten was (filled rule was 0 room)
-
--- What an accepted call answers and leaves in the lag curves' room.
-pub record TempoIn
-    (env : List Float) (onsets rate minLag maxLag : ℕ) (clarity weight : List Float)
-    (answer : TempoEstimate) (clarity′ weight′ : List Float) : Type 0 where
-  pub answered : answer ≡ tempoOf env onsets rate minLag maxLag
-  pub clarities : clarity′ ≡ curveOf (clarityRule env minLag) clarity (unwritten env onsets maxLag) (lagRoom minLag maxLag)
-  pub weights : weight′ ≡ curveOf (weightRule env rate minLag) weight (unwritten env onsets maxLag) (lagRoom minLag maxLag)
+curveOf rule was untouched room = pick untouched was (filled rule was 0 room)
 
 -- the answer
 unfoldable pub estimateOf : List Float → (onsets rate : ℕ) → TempoOpts → (clarity weight work : ℕ) → TempoEstimate

@@ -3,7 +3,6 @@
 // Document 01, Tempo and candidates. The Rust: tempo.rs `pick_tempo_peaks`.
 use lag_candidates::first_apart;
 use lag_search::winning_lag;
-use options::TempoOpts;
 use lags::bounds_fine;
 use lags::bpm_at;
 use lags::lag_range;
@@ -13,6 +12,7 @@ use numbers::OUT_OF_BOUNDS;
 use numbers::TOO_LITTLE_ROOM;
 use numbers::WRONG_VALUE;
 use numbers::values_fine;
+use options::TempoOpts;
 ghost use mathlib.Core.Path.{_≡_};
 ghost use mathlib.Core.Bool.{true};
 ghost use Prim.Native.Nat.{ℕ, _+_, _≤_, _<_};
@@ -27,9 +27,9 @@ ghost use Rattle.tempo.specs.Answers.{
   withoutTempo,
   candidateAt,
   foundOf,
-  TempoIn,
   EstimatePromise,
 };
+ghost use Rattle.tempo.specs.Inner.{TempoIn};
 
 // A tempo that the envelope may be heard at: its lag in frames, and its clarity, 0 to 1.
 pub struct Candidate {
@@ -178,7 +178,13 @@ fn tempo_in(
 ) -> TempoEstimate
     requires { ⌜ (1 ≤ «min_lag») × («min_lag» ≤ «max_lag») × («max_lag» ≤ mostPeriod) ⌝ }
     requires { ⌜ (lagRoom «min_lag» «max_lag» ≤ length (now clarity)) × (lagRoom «min_lag» «max_lag» ≤ length (now weight)) ⌝ }
-    ensures { λ r. ⌜ TempoIn (now (envelope .entry)) onsets rate «min_lag» «max_lag» (now (clarity .entry)) (now (weight .entry)) r (now (clarity .exit)) (now (weight .exit)) ⌝ }
+    ensures { λ r. ⌜
+        TempoIn
+        (now (envelope .entry)) onsets rate «min_lag» «max_lag»
+        (now (clarity .entry)) (now (weight .entry))
+        r
+        (now (clarity .exit)) (now (weight .exit))
+        ⌝ }
 {
     if too_little(envelope.len(), onsets, max_lag) {
         return without_tempo(0);
@@ -210,7 +216,13 @@ pub fn estimate(
     weight: &mut [f64],
     work: &mut [f64],
 ) -> TempoEstimate
-    ensures { λ r. ⌜ EstimatePromise (now (envelope .entry)) onsets rate opts (now (clarity .entry)) (now (weight .entry)) (now (work .entry)) r (now (clarity .exit)) (now (weight .exit)) (now (work .exit)) ⌝ }
+    ensures { λ r. ⌜
+        EstimatePromise
+        (now (envelope .entry)) onsets rate opts
+        (now (clarity .entry)) (now (weight .entry)) (now (work .entry))
+        r
+        (now (clarity .exit)) (now (weight .exit)) (now (work .exit))
+        ⌝ }
 {
     let number = search_refusal(
         envelope,

@@ -5,7 +5,7 @@ use mathlib.Core.List.{List, []}
 use Prim.Native.Nat.{ℕ, _≤_}
 use borrow.Author.Tests.{le-leb}
 use lib.Dec.{leb, eqb}
-use lib.ListN.{length, drop}
+use lib.ListN.{length}
 use lib.Ieee.{Float, le}
 use Rattle.numbers.specs.Limits.{mostRows, mostPeriod, valueFine}
 use Rattle.numbers.specs.Lists.{every, listed}
@@ -18,8 +18,8 @@ use Rattle.lags.specs.Lags.{minLag, maxLag, boundsFine}
 use Rattle.tempo.specs.Answers.{searchBounds, searchRoom, searchRefusal}
 use Rattle.stability.specs.declared.Stability.the-variants.{None}
 use Rattle.stability.specs.declared.Steadiness.{Steadiness}
-use Rattle.numbers.specs.Outcomes.{Open}
-use Rattle.stability.specs.Answers.{stabilityRefusal, shareOf, steadinessOf, Lent, StabilityPromise}
+use Rattle.numbers.proofs.Outcomes.{open-same, open-told}
+use Rattle.stability.specs.Answers.{stabilityRefusal, shareOf, steadinessOf, StabilityPromise}
 use Rattle.beats.specs.Envelopes.{varianceOf, beatless}
 use Rattle.beats.specs.Grids.{scoresOf, linksOf, gridOf}
 use Rattle.bars.specs.Downbeats.{commonMeter, inPhase, downbeatsOf}
@@ -113,13 +113,6 @@ module _
 
   -- ---- with a tempo
 
-  open-lent : (n room : ℕ) (xs ys : List Float) → n ≡ 0 → Lent n room xs ys → Open room xs ys
-  open-lent n room xs ys z l =
-      record {
-        same-length = l .same-length;
-        kept = sym (passed-does n (drop room ys) ys z) ∙ l .kept ∙ passed-does n (drop room xs) xs z;
-      }
-
   pub followed-by : (steady : Steadiness) (laid : Laid) (clarity′ weight′ score′ : List Float) (back′ beats′ downbeats′ : List ℕ) (work′ : List Float)
       → length env ≤ mostRows → boundsFine rate o ≡ true → every valueFine env ≡ true → lag ≤ mostPeriod
       → lagsOf rate o ≤ length clarity → lagsOf rate o ≤ length weight → lagsOf rate o ≤ length work
@@ -134,7 +127,7 @@ module _
       record {
         steady = ap (λ (x : Steadiness). x .stability) (s .answered ∙ passed-does _ _ _ z);
         laid = g;
-        clarities = open-lent _ _ clarity clarity′ z (s .clarities);
-        weights = open-lent _ _ weight weight′ z (s .weights);
-        works = open-lent _ _ work work′ z (s .works);
+        clarities = open-told _ _ clarity clarity′ z (s .clarities);
+        weights = open-told _ _ weight weight′ z (s .weights);
+        works = open-told _ _ work work′ z (s .works);
       }

@@ -8,6 +8,7 @@ use borrow.Author.Tests.{le-leb}
 use lib.Dec.{leb}
 use lib.ListN.{length, take, drop}
 use lib.Ieee.{Float}
+use Rattle.numbers.specs.declared.Listing.{Listing}
 use Rattle.numbers.specs.Refusals.{unlessRefused}
 use Rattle.numbers.specs.Limits.{mostRows, mostPeriod, between, valueFine, frameFine}
 use Rattle.numbers.specs.Lists.{every, listed}
@@ -43,24 +44,24 @@ pub beats-counted : (env : List Float) (period number count : ℕ) → count ≡
 beats-counted env period zero count e = omega (arith, beats-fit env period)
 beats-counted env period (suc n) count e = omega arith
 
-pub laid-by : (env : List Float) (period : ℕ) (score score′ : List Float) (back back′ beats beats′ downbeats downbeats′ : List ℕ) (number count number-2 count-2 : ℕ)
+pub laid-by : (env : List Float) (period : ℕ) (score score′ : List Float) (back back′ beats beats′ downbeats downbeats′ : List ℕ) (r s : Listing)
     → length env ≤ mostRows → every valueFine env ≡ true → period ≤ mostPeriod
     → length env ≤ length score → length env ≤ length back → length env ≤ length beats → length env ≤ length downbeats
-    → GridPromise env period score back beats number count score′ back′ beats′
-    → DownbeatsPromise env (take (count - 0) (drop 0 beats′)) commonMeter downbeats number-2 count-2 downbeats′
-    → Grid env period score back beats downbeats (record { beats = count; downbeats = count-2 }) score′ back′ beats′ downbeats′
-laid-by env period score score′ back back′ beats beats′ downbeats downbeats′ number count number-2 count-2 few fine short s b f d g h =
-    let z : number ≡ 0 = g .number-is ∙ grid-passed env period few fine short _ _ _ s b f in
-    let n : count ≡ length (gridOf env period) = g .count-is ∙ passed-does number _ 0 z in
-    let l : beats′ ≡ listed (gridOf env period) beats = g .beats-are ∙ passed-does number _ beats z in
-    let e : take (count - 0) (drop 0 beats′) ≡ gridOf env period = listed-part (gridOf env period) beats beats′ count l n in
+    → GridPromise env period score back beats r score′ back′ beats′
+    → DownbeatsPromise env (take (r .count - 0) (drop 0 beats′)) commonMeter downbeats s downbeats′
+    → Grid env period score back beats downbeats (record { beats = r .count; downbeats = s .count }) score′ back′ beats′ downbeats′
+laid-by env period score score′ back back′ beats beats′ downbeats downbeats′ r s few fine short roomy links room d g h =
+    let z = grid-passed env period few fine short _ _ _ roomy links room in
+    let n : r .count ≡ length (gridOf env period) = g .count-is ∙ passed-does _ _ 0 z in
+    let l : beats′ ≡ listed (gridOf env period) beats = g .beats-are ∙ passed-does _ _ beats z in
+    let e : take (r .count - 0) (drop 0 beats′) ≡ gridOf env period = listed-part (gridOf env period) beats beats′ (r .count) l n in
     let y = downbeats-passed env period few fine short (length downbeats) d in
     let k = rw e at h in
     record {
       beat-count = n;
       downbeat-count = k .count-is ∙ passed-does _ _ 0 y;
-      score-is = g .score-is ∙ passed-does number _ score z;
-      back-is = g .back-is ∙ passed-does number _ back z;
+      score-is = g .score-is ∙ passed-does _ _ score z;
+      back-is = g .back-is ∙ passed-does _ _ back z;
       beats-are = l;
       downbeats-are = k .frames-are ∙ passed-does _ _ downbeats y;
     }

@@ -1,4 +1,4 @@
--- `bars::downbeats_in` meets its contract: past the refusals the meter is at least 1 and there is a slot for each beat, which is all that the
+-- `bars::downbeats_in` meets its contract: past the refusals the meter is 1 to 16 and there is a slot for each beat, which is all that the
 -- inner calls ask. Assumes nothing.
 use mathlib.Core.Path.{_≡_, sym, ap, _∙_}
 use mathlib.Core.Bool.{true}
@@ -19,22 +19,25 @@ use Rattle.bars.proofs.downbeats_in.Tie as tie
 
 module _ (envelope : List Float) (beats : List ℕ) (meter : ℕ) where
   -- what number 0 tells
-  told : (room : ℕ) → downbeatRefusal envelope beats meter room ≡ 0 → (0 < meter) × (length beats ≤ room)
+  told : (room : ℕ) → downbeatRefusal envelope beats meter room ≡ 0 → ((0 < meter) × (meter ≤ mostMeter)) × (length beats ≤ room)
   unfolding downbeatRefusal downbeatNumbersFine downbeatRoomFine
   told room e =
       let p = lowest-zero (downbeatNumbersFine envelope beats meter) true (downbeatRoomFine beats room) (every valueFine envelope) e in
-      let m = and-right (every frameFine beats) (between 1 mostMeter meter) (and-right (leb (length envelope) mostRows) _ (p .bounds)) in
-      (leb-true 1 meter (and-left _ (leb meter mostMeter) m), leb-true (length beats) room (p .room))
+      let m = and-right (every frameFine beats) (between 1 mostMeter meter) (and-right (leb (length envelope) mostRows) _ (p .bounds)) in (
+        (leb-true 1 meter (and-left _ (leb meter mostMeter) m), leb-true meter mostMeter (and-right (leb 1 meter) _ m)),
+        leb-true (length beats) room (p .room),
+      )
 
   module _ (before : List ℕ) where
-    refused : (n : ℕ) → n ≡ downbeatRefusal envelope beats meter (length before) → (n ≡ 0 → ⊥) → DownbeatsPromise envelope beats meter before n 0 before
+    refused : (n : ℕ) → n ≡ downbeatRefusal envelope beats meter (length before) → (n ≡ 0 → ⊥)
+        → DownbeatsPromise envelope beats meter before (record { number = n; count = 0 }) before
     refused n e h =
         let z : downbeatRefusal envelope beats meter (length before) ≡ 0 → ⊥ = λ q. h (e ∙ q) in
         record { number-is = e; count-is = sym (refused-keeps _ _ 0 z); frames-are = sym (refused-keeps _ _ before z) }
 
     answered : (phase count : ℕ) (after : List ℕ) → downbeatRefusal envelope beats meter (length before) ≡ 0 → phase ≡ downbeatPhase envelope beats meter
         → count ≡ length (inPhase meter phase 0 beats) → after ≡ listed (inPhase meter phase 0 beats) before
-        → DownbeatsPromise envelope beats meter before 0 count after
+        → DownbeatsPromise envelope beats meter before (record { number = 0; count = count }) after
     unfolding downbeatsOf
     answered phase count after z p c a =
         record {
@@ -57,7 +60,7 @@ downbeat-phase-requires : tie.Need-downbeat-phase-requires
 downbeat-phase-requires c κs = told _ _ _ _ (ready c) .0
 
 list-phase-requires : tie.Need-list-phase-requires
-list-phase-requires c κs = told _ _ _ _ (ready (c .before .before))
+list-phase-requires c κs = let t = told _ _ _ _ (ready (c .before .before)) in (t .0 .0, t .1)
 
 same-length : tie.Need-same-length
 same-length c = search needs
@@ -65,7 +68,8 @@ same-length c = search needs
 returns-2 : tie.Need-returns-2
 returns-2 c =
     let l = c .before .before in
-    answered _ _ _ _ _ _ _ (ready (l .before .before .before)) (l .before .before .downbeat-phase .ensures) (l .list-phase .ensures .0) (l .list-phase .ensures .1)
+    let p = l .before .before in
+    answered _ _ _ _ _ _ _ (ready (p .before)) (p .downbeat-phase .ensures) (l .list-phase .ensures .0) (l .list-phase .ensures .1)
 
 pub downbeats-in-spec : {M : Type 1} → statement M
 downbeats-in-spec =

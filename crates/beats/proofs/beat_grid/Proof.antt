@@ -13,13 +13,13 @@ use lib.Ieee.{Float, le}
 use Rattle.numbers.specs.Rounded.{_⊘_, epsilon, one}
 use Rattle.numbers.specs.Limits.{mostRows, mostPeriod, valueFine}
 use Rattle.numbers.specs.Lists.{listed, every}
-use Rattle.numbers.proofs.Tests.{lowest-zero, and-left, and-right, refused-keeps, pick-true, pick-false}
+use Rattle.numbers.proofs.Tests.{lowest-zero, and-left, and-right, refused-keeps, passed-does, pick-true, pick-false}
 use Rattle.numbers.proofs.Tabs.{listed-none}
 use Rattle.roots.specs.Roots.{sqrtOf}
 use Rattle.beats.specs.Envelopes.{varianceOf, beatless, scaleOf, scaledBy, scaled}
 use Rattle.beats.specs.Scores.{scores, links}
 use Rattle.beats.specs.Grids.{gridNumbersFine, gridRoomFine, gridRefusal, grid, scoresOf, linksOf, gridOf, GridPromise}
-use Rattle.beats.specs.Inner.{Laid}
+use Rattle.beats.specs.Inner.{GridLaid}
 use borrow.Author.Needs.{needs}
 use Rattle.beats.proofs.beat_grid.Statement.{statement}
 use Rattle.beats.proofs.beat_grid.Tie as tie
@@ -63,40 +63,61 @@ module _ (envelope : List Float) (period : ℕ) where
 
 module _ (envelope : List Float) (period : ℕ) (score₀ : List Float) (back₀ beats₀ : List ℕ) where
   refused : (n : ℕ) → n ≡ gridRefusal envelope period (length score₀) (length back₀) (length beats₀) → (n ≡ 0 → ⊥)
-      → GridPromise envelope period score₀ back₀ beats₀ n 0 score₀ back₀ beats₀
+      → GridPromise envelope period score₀ back₀ beats₀ (record { number = n; count = 0 }) score₀ back₀ beats₀
   refused n e h =
+      let no : gridRefusal envelope period (length score₀) (length back₀) (length beats₀) ≡ 0 → ⊥ = λ z. h (e ∙ z) in
       record {
         number-is = e;
-        count-is = sym (refused-keeps n _ 0 h);
-        score-is = sym (refused-keeps n _ score₀ h);
-        back-is = sym (refused-keeps n _ back₀ h);
-        beats-are = sym (refused-keeps n _ beats₀ h);
+        count-is = sym (refused-keeps _ _ 0 no);
+        score-is = sym (refused-keeps _ _ score₀ no);
+        back-is = sym (refused-keeps _ _ back₀ no);
+        beats-are = sym (refused-keeps _ _ beats₀ no);
       }
 
   module _ (passed : gridRefusal envelope period (length score₀) (length back₀) (length beats₀) ≡ 0) where
-    silent : beatless envelope period ≡ true → GridPromise envelope period score₀ back₀ beats₀ 0 0 score₀ back₀ beats₀
-    unfolding scoresOf linksOf gridOf
-    silent e =
+    -- what is answered, by the three lists
+    answered : (count : ℕ) (score : List Float) (back beats : List ℕ) → count ≡ length (gridOf envelope period)
+        → score ≡ listed (scoresOf envelope period) score₀ → back ≡ listed (linksOf envelope period) back₀ → beats ≡ listed (gridOf envelope period) beats₀
+        → GridPromise envelope period score₀ back₀ beats₀ (record { number = 0; count = count }) score back beats
+    answered count score back beats c s k b =
         record {
           number-is = sym passed;
-          count-is = ap length (sym (pick-true (beatless envelope period) [] (grid period (scaled envelope) (length envelope)) e));
-          score-is = sym (ap (λ (l : List Float). listed l score₀) (pick-true (beatless envelope period) [] (scores period (scaled envelope) (length envelope)) e) ∙ listed-none score₀);
-          back-is = sym (ap (λ (l : List ℕ). listed l back₀) (pick-true (beatless envelope period) [] (links period (scaled envelope) (length envelope)) e) ∙ listed-none back₀);
-          beats-are = sym (ap (λ (l : List ℕ). listed l beats₀) (pick-true (beatless envelope period) [] (grid period (scaled envelope) (length envelope)) e) ∙ listed-none beats₀);
+          count-is = c ∙ sym (passed-does _ _ 0 passed);
+          score-is = s ∙ sym (passed-does _ _ score₀ passed);
+          back-is = k ∙ sym (passed-does _ _ back₀ passed);
+          beats-are = b ∙ sym (passed-does _ _ beats₀ passed);
         }
 
+    silent : beatless envelope period ≡ true → GridPromise envelope period score₀ back₀ beats₀ (record { number = 0; count = 0 }) score₀ back₀ beats₀
+    unfolding scoresOf linksOf gridOf
+    silent e =
+        let scores-none = pick-true (beatless envelope period) [] (scores period (scaled envelope) (length envelope)) e in
+        let links-none = pick-true (beatless envelope period) [] (links period (scaled envelope) (length envelope)) e in
+        let beats-none = pick-true (beatless envelope period) [] (grid period (scaled envelope) (length envelope)) e in
+        answered 0 score₀ back₀ beats₀ (ap length (sym beats-none))
+        (sym (ap (λ (l : List Float). listed l score₀) scores-none ∙ listed-none score₀))
+        (sym (ap (λ (l : List ℕ). listed l back₀) links-none ∙ listed-none back₀))
+        (sym (ap (λ (l : List ℕ). listed l beats₀) beats-none ∙ listed-none beats₀))
+
     laid : (scale : Float) (count : ℕ) (score : List Float) (back beats : List ℕ) → beatless envelope period ≡ false → scale ≡ scaleOf envelope
-        → Laid period (scaledBy scale envelope) (length envelope) score₀ score back₀ back beats₀ beats count
-        → GridPromise envelope period score₀ back₀ beats₀ 0 count score back beats
+        → GridLaid period (scaledBy scale envelope) (length envelope) score₀ score back₀ back beats₀ beats count
+        → GridPromise envelope period score₀ back₀ beats₀ (record { number = 0; count = count }) score back beats
     unfolding scoresOf linksOf gridOf
     laid scale count score back beats e s w =
-        record {
-          number-is = sym passed;
-          count-is = w .count-is ∙ ap (λ (x : Float). length (grid period (scaledBy x envelope) (length envelope))) s ∙ ap length (sym (pick-false (beatless envelope period) [] (grid period (scaled envelope) (length envelope)) e));
-          score-is = w .tracked .scores-are ∙ ap (λ (x : Float). listed (scores period (scaledBy x envelope) (length envelope)) score₀) s ∙ ap (λ (l : List Float). listed l score₀) (sym (pick-false (beatless envelope period) [] (scores period (scaled envelope) (length envelope)) e));
-          back-is = w .tracked .links-are ∙ ap (λ (x : Float). listed (links period (scaledBy x envelope) (length envelope)) back₀) s ∙ ap (λ (l : List ℕ). listed l back₀) (sym (pick-false (beatless envelope period) [] (links period (scaled envelope) (length envelope)) e));
-          beats-are = w .beats-are ∙ ap (λ (x : Float). listed (grid period (scaledBy x envelope) (length envelope)) beats₀) s ∙ ap (λ (l : List ℕ). listed l beats₀) (sym (pick-false (beatless envelope period) [] (grid period (scaled envelope) (length envelope)) e));
-        }
+        let n = length envelope in
+        let scores-are =
+        ap (λ (x : Float). scores period (scaledBy x envelope) n) s ∙ sym (pick-false (beatless envelope period) [] (scores period (scaled envelope) n) e)
+        in
+        let links-are =
+        ap (λ (x : Float). links period (scaledBy x envelope) n) s ∙ sym (pick-false (beatless envelope period) [] (links period (scaled envelope) n) e)
+        in
+        let grid-is =
+        ap (λ (x : Float). grid period (scaledBy x envelope) n) s ∙ sym (pick-false (beatless envelope period) [] (grid period (scaled envelope) n) e)
+        in
+        answered count score back beats (w .count-is ∙ ap length grid-is)
+        (w .tracked .scores-are ∙ ap (λ (l : List Float). listed l score₀) scores-are)
+        (w .tracked .links-are ∙ ap (λ (l : List ℕ). listed l back₀) links-are)
+        (w .beats-are ∙ ap (λ (l : List ℕ). listed l beats₀) grid-is)
 
 at-least : (n : ℕ) → (n ≡ 0 → ⊥) → 1 ≤ n
 at-least zero h = absurd (h refl)

@@ -27,11 +27,11 @@ count-agreeing-requires c κs =
     let h : 1 ≤ c .before .before .before .before .least .result = omega arith in
     (s .pre .0, ((h, windows-fit _ _ _ (c .before .before .before .before .least .ensures)), s .pre .1))
 
-nearest-u64-to-f64-requires : tie.Need-nearest-u64-to-f64-requires
-nearest-u64-to-f64-requires c κs = search needs
+float-of-requires : tie.Need-float-of-requires
+float-of-requires c κs = search needs
 
-nearest-u64-to-f64-requires-2 : tie.Need-nearest-u64-to-f64-requires-2
-nearest-u64-to-f64-requires-2 c κs = search needs
+float-of-requires-2 : tie.Need-float-of-requires-2
+float-of-requires-2 c κs = search needs
 
 same-length : tie.Need-same-length
 same-length c = search needs
@@ -44,9 +44,12 @@ same-length-3 c = search needs
 
 returns-3 : tie.Need-returns-3
 returns-3 c =
-    shared-counted _ _ _ _ _ _ _ _ (c .before .before .before .before .before .before .before .before .before .before .before .before .before .before .if1 .left) _ (c .before .before .before .before .before .before .before .before .before .before .before .before .before .least .ensures) _ _ _ _ _ _ (c .before .before .before .before .before .before .before .before .before .before .before .before .if2 .left) (c .before .before .before .before .before .before .before .before .count-agreeing .ensures)
-    (c .before .nearest-u64-to-f64 .ensures)
-    (c .nearest-u64-to-f642 .ensures)
+    let counted = c .before .before .before .before .before .before .before .before in
+    let few = counted .before .before .before .before in
+    shared-counted _ _ _ _ _ _ _ _ (few .before .before .if1 .left) _ (few .before .least .ensures) _ _ _ _ _ _ (few .if2 .left)
+    (counted .count-agreeing .ensures)
+    (c .before .float-of .ensures)
+    (c .float-of2 .ensures)
 
 pub share-spec : {M : Type 1} → statement M
 share-spec =
@@ -58,8 +61,8 @@ share-spec =
     least-requires
     returns-2
     count-agreeing-requires
-    nearest-u64-to-f64-requires
-    nearest-u64-to-f64-requires-2
+    float-of-requires
+    float-of-requires-2
     same-length
     same-length-2
     same-length-3

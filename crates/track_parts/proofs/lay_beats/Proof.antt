@@ -19,7 +19,7 @@ part-downbeats-end : tie.Need-part-downbeats-end
 part-downbeats-end c =
     let g = c .before .before .before .before .before .before .before in
     let a = g .before .before .before .before .before .before .before .before .before .args in
-    omega (arith, beats-counted (now (a .envelope)) (a .period) (g .beat-grid .result .number) (g .beat-grid .result .count) (g .beat-grid .ensures .count-is))
+    omega (arith, beats-counted (now (a .envelope)) (a .period) _ (g .beat-grid .result .count) (g .beat-grid .ensures .count-is))
 
 downbeats-requires : tie.Need-downbeats-requires
 downbeats-requires c κs = search needs
@@ -41,7 +41,7 @@ returns c =
     let d = c .before .before in
     let g = d .before .before .before .before .before .before .before .before .before .before in
     let p = g .before .before .before .before .before .before .before .before .before .pre in
-    laid-by _ _ _ _ _ _ _ _ _ _ _ _ _ _ (p .0 .0) (p .0 .1) (p .0 .2) (p .1 .0) (p .1 .1) (p .1 .2) (p .1 .3) (g .beat-grid .ensures) (d .downbeats .ensures)
+    laid-by _ _ _ _ _ _ _ _ _ _ _ _ (p .0 .0) (p .0 .1) (p .0 .2) (p .1 .0) (p .1 .1) (p .1 .2) (p .1 .3) (g .beat-grid .ensures) (d .downbeats .ensures)
 
 pub lay-beats-spec : {M : Type 1} → statement M
 lay-beats-spec =

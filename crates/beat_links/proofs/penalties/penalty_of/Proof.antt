@@ -8,11 +8,11 @@ use borrow.Author.Needs.{needs}
 use Rattle.beat_links.proofs.penalties.penalty_of.Statement.{statement}
 use Rattle.beat_links.proofs.penalties.penalty_of.Tie as tie
 
-nearest-u64-to-f64-requires : tie.Need-nearest-u64-to-f64-requires
-nearest-u64-to-f64-requires c κs = search needs
+float-of-requires : tie.Need-float-of-requires
+float-of-requires c κs = search needs
 
-nearest-u64-to-f64-requires-2 : tie.Need-nearest-u64-to-f64-requires-2
-nearest-u64-to-f64-requires-2 c κs = search needs
+float-of-requires-2 : tie.Need-float-of-requires-2
+float-of-requires-2 c κs = search needs
 
 log-requires : tie.Need-log-requires
 log-requires c κs = search needs
@@ -23,10 +23,10 @@ returns c =
     let n = c .before .before in
     let d = c .before in
     ap (λ (ln : Float). neg fourHundred ⊗ ln ⊗ ln)
-    (c .log .ensures ∙ ap (λ (x : Float). logOf (x ⊘ d .nearest-u64-to-f642 .result)) (n .nearest-u64-to-f64 .ensures)
-    ∙ ap (λ (x : Float). logOf (real (n .before .args .interval) ⊘ x)) (d .nearest-u64-to-f642 .ensures))
+    (c .log .ensures ∙ ap (λ (x : Float). logOf (x ⊘ d .float-of2 .result)) (n .float-of .ensures)
+    ∙ ap (λ (x : Float). logOf (real (n .before .args .interval) ⊘ x)) (d .float-of2 .ensures))
 
 pub penalty-of-spec : {M : Type 1} → statement M
 penalty-of-spec =
     tie.close
-    (tie.spec nearest-u64-to-f64-requires nearest-u64-to-f64-requires-2 log-requires returns)
+    (tie.spec float-of-requires float-of-requires-2 log-requires returns)

@@ -2,17 +2,16 @@
 -- score and the links behind it are those of the definition; a link leads to an earlier frame, as the walks ask. Assumes nothing.
 use mathlib.Core.Path.{_≡_, ap, _∙_}
 use mathlib.Core.List.{List}
-use Prim.Native.Nat.{ℕ, _-_, _≤_, _<_}
+use Prim.Native.Nat.{ℕ, _≤_, _<_}
 use native.Mathlib.Omega.{arith}
 use denote.Ref.{now}
 use lib.ListN.{length, getD}
 use lib.Ieee.{Float, nan}
 use Rattle.numbers.specs.Lists.{listed}
 use Rattle.numbers.proofs.Tabs.{getD-listed-in}
-use Rattle.lists.specs.declared.Best.{Best}
-use Rattle.lists.specs.Greatest.{greatest, valueAt, firstGreatest}
+use Rattle.lists.specs.Greatest.{valueAt, firstGreatest}
 use Rattle.beat_links.specs.Extensions.{noLink}
-use Rattle.lists.proofs.Greatest.{best, greatest-ext}
+use Rattle.lists.proofs.Greatest.{first-ext}
 use Rattle.beats.specs.Scores.{scores, links}
 use Rattle.beats.specs.Grids.{linkAt, beatsTo, grid}
 use Rattle.beats.specs.Inner.{Tracked, Descends}
@@ -29,13 +28,6 @@ module _ (period : ℕ) (flux : ℕ → Float) (n : ℕ) (score₀ score : List 
   link-written : (t : ℕ) → t < n → linkAt back t ≡ linkAt (links period flux n) t
   link-written t h = ap (λ (l : List ℕ). getD l t noLink) (w .links-are) ∙ getD-listed-in (links period flux n) back₀ t noLink (omega (arith, length-links period flux n))
 
-  first-read : 1 ≤ n → firstGreatest (valueAt score) n ≡ firstGreatest (valueAt (scores period flux n)) n
-  unfolding firstGreatest
-  first-read h =
-      ap (λ (b : Best). b .at)
-      (greatest-ext (valueAt score) (valueAt (scores period flux n)) 1 (n - 1) (best (valueAt score 0) 0) (λ i p q. value-read i (omega arith))
-      ∙ ap (λ (v : Float). greatest (valueAt (scores period flux n)) 1 (n - 1) (best v 0)) (value-read 0 (omega arith)))
-
   module _ (end : ℕ) (inside : end < n) where
     down : Descends (linkAt back) end
     down u h has =
@@ -47,7 +39,7 @@ module _ (period : ℕ) (flux : ℕ → Float) (n : ℕ) (score₀ score : List 
     unfolding grid
     walks e =
         beats-same (linkAt back) (linkAt (links period flux n)) end (λ u h. link-written u (omega arith)) down end (omega arith)
-        ∙ ap (beatsTo (linkAt (links period flux n))) (e ∙ first-read (omega arith))
+        ∙ ap (beatsTo (linkAt (links period flux n))) (e ∙ first-ext (valueAt score) (valueAt (scores period flux n)) n (omega arith) value-read)
 
 track-requires : tie.Need-track-requires
 track-requires c κs = search needs

@@ -1,6 +1,6 @@
--- `capi::grids::ph_downbeats` meets its contract: `downbeats-told` of what the proved call promises and of what is handed over. Assumes nothing.
+-- `capi::grids::ph_downbeats` meets its contract: `listed-told` of what the proved call promises and of what is handed over. Assumes nothing.
 use borrow.Author.Needs.{needs}
-use Rattle.capi.proofs.Tellings.{downbeats-told}
+use Rattle.capi.proofs.Tellings.{listed-told}
 use Rattle.capi.proofs.grids.ph_downbeats.Statement.{statement}
 use Rattle.capi.proofs.grids.ph_downbeats.Tie as tie
 
@@ -14,7 +14,7 @@ same-length : tie.Need-same-length
 same-length c = search needs
 
 returns : tie.Need-returns
-returns c = downbeats-told (c .before .before .before .before .downbeats .ensures) (c .counted .ensures)
+returns c = listed-told (c .before .before .before .before .downbeats .ensures) (c .counted .ensures)
 
 pub ph-downbeats-spec : {M : Type 1} → statement M
 ph-downbeats-spec = tie.close (tie.spec downbeats-requires counted-requires same-length returns)

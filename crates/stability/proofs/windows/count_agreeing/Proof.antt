@@ -15,7 +15,7 @@ use Rattle.lags.specs.Pairs.{folds, foldFits, some, agrees}
 use Rattle.lags.proofs.Searches.{some-found, some-next, some-end}
 use Rattle.lag_search.specs.Search.{winningLag}
 use Rattle.stability.specs.Windows.{windowAt, agreeingTo}
-use Rattle.stability.proofs.Rooms.{open-same, open-then, open-filled}
+use Rattle.numbers.proofs.Outcomes.{open-same, open-then, open-filled}
 use Rattle.stability.proofs.Parts.{window-ends, part-is, part-long, next-without, next-agrees, next-differs}
 use Rattle.stability.proofs.windows.count_agreeing.Statement.{statement}
 use Rattle.stability.proofs.windows.count_agreeing.Tie as tie
