@@ -26,7 +26,6 @@ use Rattle.rooms.specs.Rooms.{Results, Spare, results, spare}
 use Rattle.rooms.specs.Inner.{Ready}
 use Rattle.track_parts.specs.declared.Following.{Following}
 use Rattle.track_parts.specs.Inner.{Followed}
-use Rattle.numbers.proofs.Outcomes.{open-same}
 use Rattle.track_parts.proofs.Follows.{search-passed}
 use Rattle.track.specs.declared.Analysis.{Analysis}
 use Rattle.track.specs.Analyses.{estimateIn, winnersLag, periodIn, beatsIn, downbeatsIn, analysisOf, withoutAnalysis, writtenIn, openLags, openWork, Analysed}
