@@ -67,7 +67,8 @@ module _ (m : List Float) (slab : Slab) (rate : ℕ) (o : TempoOpts) (flux : Lis
     pub lent-ready : Ready (take (slab .rows - 0) (drop 0 flux′)) rate o was lent
     lent-ready = rw lent-flux (flux-ready m slab rate o flux was lent (told m slab rate o flux was lent (sym is ∙ z)))
 
-    pub magnitudes-passed : (answer : Analysis) (after : Results) (left : Spare) → Analysed 0 (take (slab .rows - 0) (drop 0 flux′)) rate o was lent answer after left
+    pub magnitudes-passed : (answer : Analysis) (after : Results) (left : Spare)
+        → Analysed 0 (take (slab .rows - 0) (drop 0 flux′)) rate o was lent answer after left
         → MagnitudesPromise m slab rate o flux was lent answer flux′ after left
     magnitudes-passed answer after left a =
         record {
@@ -81,4 +82,5 @@ module _ (m : List Float) (slab : Slab) (rate : ℕ) (o : TempoOpts) (flux : Lis
       → MagnitudesPromise m slab rate o flux was lent answer flux′ after left
       → EnvelopePromise (curve (fluxAt m slab) (slab .rows)) rate o was lent answer after left
   flux-is-the-envelope {answer = a} {after = x} {left = s} z p =
-      subst (λ (j : ℕ). Analysed j (curve (fluxAt m slab) (slab .rows)) rate o was lent a x s) (z ∙ sym (flux-taken m slab rate o flux was lent z)) (p .analysed)
+      subst (λ (j : ℕ). Analysed j (curve (fluxAt m slab) (slab .rows)) rate o was lent a x s) (z ∙ sym (flux-taken m slab rate o flux was lent z))
+      (p .analysed)

@@ -196,7 +196,17 @@ module _ (f : ℕ → Float) (lo m end : ℕ) (value : Float) (at : ℕ) where
         by (nothing z e h) = nothing z e (λ i p q. ap (λ (x : Float). lt x (f i)) (sym z) ∙ under b i p q)
         by (something h r) =
             something h
-            record { from = r .from; above = r .above; most = under b; before = r .before; place = r .place; since = r .since; inside = omega (arith, r .inside); there = r .there }
+            record {
+              from = r .from;
+              above = r .above;
+              most = under b;
+              before = r .before;
+              place = r .place;
+              since = r .since;
+              inside = omega
+                  (arith, r .inside);
+              there = r .there;
+            }
 
 -- ---- where the greatest first is
 
@@ -214,7 +224,8 @@ module _ (f : ℕ → Float) (lo end at : ℕ) (value : Float) (r : Reached f lo
         first = λ i p q. no-le (f u) (f i)
             (λ k.
             let reaches = le-then-le value (f u) (f i) e k in
-            ⊎-elim (λ (b : i < at). true-not-false (le value (f i)) reaches (r .before i p b)) (λ (b : at ≤ i). true-not-false (le value (f i)) reaches (others i b q)) (lt-or-le i at));
+            ⊎-elim (λ (b : i < at). true-not-false (le value (f i)) reaches (r .before i p b))
+            (λ (b : at ≤ i). true-not-false (le value (f i)) reaches (others i b q)) (lt-or-le i at));
       }
 
   -- and there is one

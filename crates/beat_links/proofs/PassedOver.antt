@@ -172,7 +172,8 @@ module _ (f : ℕ → Float) where
       by (found j e t) =
           subst (λ (y : Best). le (larger nought (f k)) (y .value) ≡ true) (sym e)
           (⊎-elim
-          (λ b. subst (λ (z : Float). le z (f j) ≡ true) (sym (larger-by nought (f k) true b)) (not-lt (f j) (f k) (lt-right nought (f j) (t .above)) (lt-right nought (f k) b) (t .most k h g)))
+          (λ b. subst (λ (z : Float). le z (f j) ≡ true) (sym (larger-by nought (f k) true b))
+          (not-lt (f j) (f k) (lt-right nought (f j) (t .above)) (lt-right nought (f k) b) (t .most k h g)))
           (λ b. subst (λ (z : Float). le z (f j) ≡ true) (sym (larger-by nought (f k) false b)) (lt-is-le nought (f j) (t .above)))
           (which (lt nought (f k))))
 

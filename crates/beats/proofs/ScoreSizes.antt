@@ -80,7 +80,8 @@ module _ (envelope : List Float) (period : ℕ) (fine : every valueFine envelope
   unfolding varianceOf
   variance-within =
       div-within binary64 392 0 (lit≤ tt)
-      (sum-within 30 362 (lit≤ tt) (lit≤ tt) (omega (arith, length-map (squareAbout (meanOf envelope)) envelope)) (each-mapped (squareAbout (meanOf envelope)) square-within values)) frames-least
+      (sum-within 30 362 (lit≤ tt) (lit≤ tt) (omega (arith, length-map (squareAbout (meanOf envelope)) envelope))
+      (each-mapped (squareAbout (meanOf envelope)) square-within values)) frames-least
 
   variance-fits : T (fits binary64 (varianceOf envelope))
   unfolding varianceOf
@@ -97,7 +98,8 @@ module _ (envelope : List Float) (period : ℕ) (fine : every valueFine envelope
   unfolding scaleOf
   scale-within =
       div-within binary64 0 26 (lit≤ tt) one-within
-      (sqrt-least 26 (lit≤ tt) variance-fits (lt-then-lt nought epsilon (varianceOf envelope) (least-above (lit< tt) flatness-plus flatness-least) variance-above) variance-least)
+      (sqrt-least 26 (lit≤ tt) variance-fits (lt-then-lt nought epsilon (varianceOf envelope) (least-above (lit< tt) flatness-plus flatness-least)
+      variance-above) variance-least)
 
   pub flux-within : (t : ℕ) → t < length envelope → Within 176 (scaled envelope t)
   unfolding scaledBy
@@ -125,7 +127,8 @@ module _ (K : ℕ) (held : (i : ℕ) → i ≤ 2 ^ 32 → Held binary64 (i * K))
       subst (λ (m : ℕ). AtMost m (x ⊕ y)) e (add-most (subst (Held binary64) (sym e) (held (suc i) h)) a b)
 
   -- the best extension of frame t, where the scores before it are bounded
-  extra-most : (t : ℕ) → t < n → ((u : ℕ) → u < t → AtMost ((2 * u + 2) * K) (getD (scores period flux n) u nan)) → AtMost ((2 * t + 1) * K) (extension period (scores period flux n) t .value)
+  extra-most : (t : ℕ) → t < n → ((u : ℕ) → u < t → AtMost ((2 * u + 2) * K) (getD (scores period flux n) u nan))
+      → AtMost ((2 * t + 1) * K) (extension period (scores period flux n) t .value)
   unfolding extended
   extra-most t h before = by (linked period (scores period flux n) t)
     where
@@ -137,7 +140,8 @@ module _ (K : ℕ) (held : (i : ℕ) → i ≤ 2 ^ 32 → Held binary64 (i * K))
       by (links-to u e w above most first) =
           let d = follows-below period t u some w in
           subst (λ (b : Best). AtMost ((2 * t + 1) * K) (b .value)) (sym e)
-          (most-weaken (mul-le-mul-right K (omega arith)) (plus-one (2 * u + 2) (getD ss u nan) (penalty period (t - u)) (omega arith) (before u d) (penalty-most (t - u) (omega arith) (omega (arith, w .from)))))
+          (most-weaken (mul-le-mul-right K (omega arith)) (plus-one (2 * u + 2) (getD ss u nan) (penalty period (t - u)) (omega arith) (before u d)
+          (penalty-most (t - u) (omega arith) (omega (arith, w .from)))))
 
   -- so frame t's score is at most 2 t + 2 times K
   score-parts : (k t : ℕ) → t < k → t < n → AtMost ((2 * t + 2) * K) (getD (scores period flux n) t nan)
@@ -152,7 +156,8 @@ module _ (K : ℕ) (held : (i : ℕ) → i ≤ 2 ^ 32 → Held binary64 (i * K))
 
 -- ---- every score of an envelope that is not refused
 
-pub score-within : (envelope : List Float) (period : ℕ) → every valueFine envelope ≡ true → length envelope ≤ mostRows → period ≤ mostPeriod → beatless envelope period ≡ false
+pub score-within : (envelope : List Float) (period : ℕ) → every valueFine envelope ≡ true → length envelope ≤ mostRows → period ≤ mostPeriod
+    → beatless envelope period ≡ false
     → (t : ℕ) → t < length envelope → Within 208 (getD (scoresOf envelope period) t nan)
 unfolding scoresOf
 score-within envelope period fine rows long b t h =
@@ -161,8 +166,10 @@ score-within envelope period fine rows long b t h =
     rw (pick-false (beatless envelope period) [] (scores period (scaled envelope) (length envelope)) b)
     (most-weaken (le-trans (mul-le-mul-right (2 ^ 176) few) (lit≤ tt))
     (score-parts (2 ^ 176) (λ i j. held-multiple 32 176 i (lit≤ tt) (lit≤ tt) j) period (scaled envelope) (length envelope) (live .periods) rows
-    (flux-within envelope period fine rows live) (λ i p q. within-weaken 29 176 (lit≤ tt) (penalty-within period i (live .periods) long p q)) (suc t) t (omega arith) h))
+    (flux-within envelope period fine rows live) (λ i p q. within-weaken 29 176 (lit≤ tt) (penalty-within period i (live .periods) long p q))
+    (suc t) t (omega arith) h))
 
-pub score-finite : (envelope : List Float) (period : ℕ) → every valueFine envelope ≡ true → length envelope ≤ mostRows → period ≤ mostPeriod → beatless envelope period ≡ false
+pub score-finite : (envelope : List Float) (period : ℕ) → every valueFine envelope ≡ true → length envelope ≤ mostRows → period ≤ mostPeriod
+    → beatless envelope period ≡ false
     → (t : ℕ) → t < length envelope → T (finite (getD (scoresOf envelope period) t nan))
 score-finite envelope period fine rows long b t h = most-finite (score-within envelope period fine rows long b t h)

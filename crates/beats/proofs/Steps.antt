@@ -62,21 +62,25 @@ module _ (link : ℕ → ℕ) (xs : List ℕ) (t : ℕ) (falls : link t < t) (s 
         unlinked = ap link (early 0 (s .some)) ∙ s .unlinked;
         linked = λ i h. ⊎-elim
             (λ (g : suc i < length xs). ap link (early (suc i) g) ∙ s .linked i g ∙ sym (early i (omega arith)))
-            (λ (g : length xs ≤ suc i). let z : suc i ≡ length xs = omega (arith, longer) in ap link (late (suc i) z) ∙ sym (s .last i z) ∙ sym (early i (omega arith)))
+            (λ (g : length xs ≤ suc i). let z : suc i ≡ length xs = omega (arith, longer) in ap link (late (suc i) z) ∙ sym (s .last i z)
+            ∙ sym (early i (omega arith)))
             (lt-or-le (suc i) (length xs));
         rises = λ i h. ⊎-elim
             (λ (g : suc i < length xs). omega (arith, early (suc i) g, s .rises i g, early i (omega arith)))
-            (λ (g : length xs ≤ suc i). let z : suc i ≡ length xs = omega (arith, longer) in omega (arith, late (suc i) z, s .last i z, early i (omega arith), falls))
+            (λ (g : length xs ≤ suc i). let z : suc i ≡ length xs = omega (arith, longer) in omega
+            (arith, late (suc i) z, s .last i z, early i (omega arith), falls))
             (lt-or-le (suc i) (length xs));
         last = λ i h. late i (omega (arith, longer));
-        below = λ i h. ⊎-elim (λ (g : i < length xs). omega (arith, early i g, s .below i g, falls)) (λ (g : length xs ≤ i). omega (arith, late i (omega (arith, longer)))) (lt-or-le i (length xs));
+        below = λ i h. ⊎-elim (λ (g : i < length xs). omega (arith, early i g, s .below i g, falls))
+            (λ (g : length xs ≤ i). omega (arith, late i (omega (arith, longer)))) (lt-or-le i (length xs));
       }
 
 walked-steps : (link : ℕ → ℕ) (top : ℕ) → Descends link top → (k t : ℕ) → t ≤ top → t < k → Steps link (walked k link t) t
 walked-steps link top down zero t h g = absurd (omega arith)
 walked-steps link top down (suc k) t h g =
     ⊎-elim (λ e. rw (alone link k t e) (one-step link t e))
-    (λ e. let d = down t h e in rw (after link k t e) (next-step link (walked k link (link t)) t d (walked-steps link top down k (link t) (omega (arith, d)) (omega (arith, d)))))
+    (λ e. let d = down t h e in rw (after link k t e) (next-step link (walked k link (link t)) t d
+    (walked-steps link top down k (link t) (omega (arith, d)) (omega (arith, d)))))
     (ends link t)
 
 pub beats-steps : (link : ℕ → ℕ) (t : ℕ) → Descends link t → Steps link (beatsTo link t) t
@@ -88,7 +92,8 @@ beats-steps link t down = walked-steps link t down (t + 1) t (omega arith) (omeg
 module _ (period : ℕ) (flux : ℕ → Float) (n : ℕ) (some : 1 ≤ period) (frames : 1 ≤ n) where
   pub grid-steps : Steps (linkAt (links period flux n)) (grid period flux n) (firstGreatest (valueAt (scores period flux n)) n)
   unfolding grid
-  grid-steps = beats-steps (linkAt (links period flux n)) (firstGreatest (valueAt (scores period flux n)) n) (links-descend period flux n some _ (first-below (valueAt (scores period flux n)) n frames))
+  grid-steps = beats-steps (linkAt (links period flux n)) (firstGreatest (valueAt (scores period flux n)) n)
+      (links-descend period flux n some _ (first-below (valueAt (scores period flux n)) n frames))
 
   -- every beat is one of the frames
   pub grid-below : (i : ℕ) → i < length (grid period flux n) → getD (grid period flux n) i 0 < n
@@ -103,7 +108,8 @@ module _ (period : ℕ) (flux : ℕ → Float) (n : ℕ) (some : 1 ≤ period) (
       omega (
         arith,
         first,
-        beats-few (linkAt (links period flux n)) (firstGreatest (valueAt ss) n) (links-descend period flux n some (firstGreatest (valueAt ss) n) first) (firstGreatest (valueAt ss) n) (omega arith),
+        beats-few (linkAt (links period flux n)) (firstGreatest (valueAt ss) n)
+            (links-descend period flux n some (firstGreatest (valueAt ss) n) first) (firstGreatest (valueAt ss) n) (omega arith),
       )
 
 -- ---- the grid of an envelope: what other calls ask of a list of beats
@@ -112,13 +118,15 @@ module _ (envelope : List Float) (period : ℕ) where
   -- no scores, links and beats, or the grid's
   by-grid : (P : (score : List Float) (link beats : List ℕ) → Type 0) → P [] [] []
       → (1 ≤ period → 1 ≤ length envelope
-      → P (scores period (scaled envelope) (length envelope)) (links period (scaled envelope) (length envelope)) (grid period (scaled envelope) (length envelope)))
+      → P (scores period (scaled envelope) (length envelope)) (links period (scaled envelope) (length envelope))
+      (grid period (scaled envelope) (length envelope)))
       → P (scoresOf envelope period) (linksOf envelope period) (gridOf envelope period)
   unfolding scoresOf linksOf gridOf
   by-grid P none some = go (beatless envelope period) refl
     where
       go : (b : Bool) → beatless envelope period ≡ b
-          → P (pick b [] (scores period (scaled envelope) (length envelope))) (pick b [] (links period (scaled envelope) (length envelope))) (pick b [] (grid period (scaled envelope) (length envelope)))
+          → P (pick b [] (scores period (scaled envelope) (length envelope))) (pick b [] (links period (scaled envelope) (length envelope)))
+          (pick b [] (grid period (scaled envelope) (length envelope)))
       go true e = none
       go false e = let l = lively envelope period e in some (l .periods) (l .frames)
 
@@ -126,7 +134,8 @@ module _ (envelope : List Float) (period : ℕ) where
   pub envelope-steps : 1 ≤ length (gridOf envelope period)
       → Steps (linkAt (linksOf envelope period)) (gridOf envelope period) (firstGreatest (valueAt (scoresOf envelope period)) (length envelope))
   envelope-steps =
-      by-grid (λ score link beats. 1 ≤ length beats → Steps (linkAt link) beats (firstGreatest (valueAt score) (length envelope))) (λ h. absurd (not-suc-le-zero h))
+      by-grid (λ score link beats. 1 ≤ length beats → Steps (linkAt link) beats (firstGreatest (valueAt score) (length envelope)))
+      (λ h. absurd (not-suc-le-zero h))
       (λ p n h. grid-steps period (scaled envelope) (length envelope) p n)
 
   -- the first has no link

@@ -103,7 +103,12 @@ pub rows-unique : {slab : Slab} {was : tracks.MagnitudeTrack} {patch : Patch} {w
     ((a ≡ b) × (s ≡ t)) × ((x ≡ y) × (length u ≡ length v) × (drop sorted u ≡ drop sorted v))
 rows-unique p q = (
   handed-unique (p .handed) (q .handed),
-  (p .slices .track-is ∙ sym (q .slices .track-is), p .slices .works .same-length ∙ sym (q .slices .works .same-length), p .slices .works .kept ∙ sym (q .slices .works .kept)),
+  (
+    p .slices .track-is ∙ sym (q .slices .track-is),
+    p .slices .works .same-length ∙ sym (q .slices .works .same-length),
+    p .slices .works .kept
+        ∙ sym (q .slices .works .kept),
+  ),
 )
 
 pub features-unique : {rows : ℕ} {was : features.FeatureTrack} {patch : Patch} {lent₀ : List ℕ} {a b : ℕ} {x y : features.FeatureTrack} {s t : List ℕ}

@@ -46,7 +46,8 @@ use Rattle.capi.specs.Repairs as repairs
 -- ---- lists
 
 pub listed-told : {number : ℕ} {entries was : List ℕ} {listing : Listing} {after : List ℕ} {count₀ answer count : ℕ}
-    → ListWritten number entries was listing after → Handed (listing .number) (listing .count) count₀ answer count → ListHanded number entries was count₀ answer after count
+    → ListWritten number entries was listing after → Handed (listing .number) (listing .count) count₀ answer count
+    → ListHanded number entries was count₀ answer after count
 listed-told {number} {entries} p h =
     record { handed = handed-on number (length entries) 0 (p .number-is) (p .count-is) h; frames-are = p .frames-are }
 
@@ -80,13 +81,15 @@ value-told {number} {v} {value₀ = value₀} p h =
 
 -- ---- tempo and stability
 
-pub estimate-told : {env : List Float} {onsets rate : ℕ} {o : TempoOpts} {clarity weight work : List Float} {own : TempoEstimate} {clarity′ weight′ work′ : List Float}
+pub estimate-told : {env : List Float} {onsets rate : ℕ} {o : TempoOpts} {clarity weight work : List Float} {own : TempoEstimate}
+    {clarity′ weight′ work′ : List Float}
     {lent₀ : TempoLent} {answer : ℕ} {lent : TempoLent}
     → EstimatePromise env onsets rate o clarity weight work own clarity′ weight′ work′ → Handed (own .number) (tempoParts own) lent₀ answer lent
     → PhEstimatePromise env onsets rate o clarity weight work lent₀ answer clarity′ weight′ work′ lent
 estimate-told p h = rw (← p .answered) (record { handed = h; slices = p })
 
-pub stability-told : {env : List Float} {rate : ℕ} {o : TempoOpts} {whole : ℕ} {clarity weight work : List Float} {own : Steadiness} {clarity′ weight′ work′ : List Float}
+pub stability-told : {env : List Float} {rate : ℕ} {o : TempoOpts} {whole : ℕ} {clarity weight work : List Float} {own : Steadiness}
+    {clarity′ weight′ work′ : List Float}
     {lent₀ : ShareLent} {answer : ℕ} {lent : ShareLent}
     → StabilityPromise env rate o whole clarity weight work own clarity′ weight′ work′ → Handed (own .number) (shareParts (own .stability)) lent₀ answer lent
     → PhStabilityPromise env rate o whole clarity weight work lent₀ answer clarity′ weight′ work′ lent
@@ -117,7 +120,8 @@ boundaries-told {number} {novelty} {bounds} {own = own} p h =
 
 -- the four numbers that are lent, and what they then hold
 module _ {p q r s answer : ℕ} {lent : List ℕ} where
-  pub rows-told : {slab : Slab} {was : tracks.MagnitudeTrack} {patch : Patch} {work : List Float} {own : rows-done.Patched} {now : tracks.MagnitudeTrack} {work′ : List Float}
+  pub rows-told : {slab : Slab} {was : tracks.MagnitudeTrack} {patch : Patch} {work : List Float} {own : rows-done.Patched}
+      {now : tracks.MagnitudeTrack} {work′ : List Float}
       → magnitudes.PatchMagnitudesPromise slab was patch work own now work′ → SlotsHanded (magnitudes.patchedSays own) (ranges p q r s) answer lent
       → repairs.PhRowsPromise slab was patch work (ranges p q r s) answer now work′ lent
   rows-told {slab} {was} {patch} {work} done h =

@@ -56,20 +56,24 @@ pub envelope-told : {env : List Float} {rate : ℕ} {o o′ : TempoOpts} {was : 
     → PhEnvelopePromise env rate o′ was spare lent₀ answer after left lent
 envelope-told e p h = rw e at (track-told p h)
 
-pub magnitudes-told : {magnitudes : List Float} {slab : Slab} {rate : ℕ} {o o′ : TempoOpts} {flux : List Float} {was : Results} {spare : Spare} {own : Analysis} {flux′ : List Float}
+pub magnitudes-told : {magnitudes : List Float} {slab : Slab} {rate : ℕ} {o o′ : TempoOpts} {flux : List Float} {was : Results} {spare : Spare}
+    {own : Analysis} {flux′ : List Float}
     {after : Results} {left : Spare} {lent₀ : TrackLent} {answer : ℕ} {lent : TrackLent}
     → o ≡ o′ → MagnitudesPromise magnitudes slab rate o flux was spare own flux′ after left → Handed (own .number) (trackParts own) lent₀ answer lent
     → PhMagnitudesPromise magnitudes slab rate o′ flux was spare lent₀ answer flux′ after left lent
 magnitudes-told {magnitudes} {slab} {rate} {o} {o′} {flux} {was} {spare} {own} {flux′} {after} {left} {lent₀} {answer} {lent} e p h =
-    let told : PhMagnitudesPromise magnitudes slab rate o flux was spare lent₀ answer flux′ after left lent = record { fluxes = p .fluxes; track = track-told (p .analysed) h } in
+    let told : PhMagnitudesPromise magnitudes slab rate o flux was spare lent₀ answer flux′ after left lent =
+    record { fluxes = p .fluxes; track = track-told (p .analysed) h } in
     rw e at told
 
 -- Two outcomes of an analysis of `env` with this number are one: what is lent to work in too, past the slots that are left open.
 abbrev pub SameTrack : (number : ℕ) (env : List Float) (rate : ℕ) (o : TempoOpts) (a b : ℕ) (s t : TrackLent) (x y : Results) (u v : Spare) → Type 0
 SameTrack number env rate o a b s t x y u v =
     ((a ≡ b) × (s ≡ t)) × (x ≡ y)
-    × (((length (u .windowClarity) ≡ length (v .windowClarity)) × (drop (openLags number env rate o) (u .windowClarity) ≡ drop (openLags number env rate o) (v .windowClarity)))
-    × ((length (u .windowWeight) ≡ length (v .windowWeight)) × (drop (openLags number env rate o) (u .windowWeight) ≡ drop (openLags number env rate o) (v .windowWeight)))
+    × (((length (u .windowClarity) ≡ length (v .windowClarity))
+    × (drop (openLags number env rate o) (u .windowClarity) ≡ drop (openLags number env rate o) (v .windowClarity)))
+    × ((length (u .windowWeight) ≡ length (v .windowWeight))
+    × (drop (openLags number env rate o) (u .windowWeight) ≡ drop (openLags number env rate o) (v .windowWeight)))
     × ((length (u .work) ≡ length (v .work)) × (drop (openWork number env rate o) (u .work) ≡ drop (openWork number env rate o) (v .work))))
 
 -- any two outcomes coincide
@@ -88,7 +92,8 @@ track-unique p q = (
 )
 
 -- `ph_analyse_magnitudes`: the flux too
-pub magnitudes-unique : {number : ℕ} {magnitudes : List Float} {slab : Slab} {rate : ℕ} {o : TempoOpts} {flux : List Float} {was : Results} {spare : Spare} {lent₀ : TrackLent}
+pub magnitudes-unique : {number : ℕ} {magnitudes : List Float} {slab : Slab} {rate : ℕ} {o : TempoOpts} {flux : List Float} {was : Results}
+    {spare : Spare} {lent₀ : TrackLent}
     {a b : ℕ} {f g : List Float} {x y : Results} {u v : Spare} {s t : TrackLent}
     → FluxTold number magnitudes slab rate o flux was spare lent₀ a f x u s → FluxTold number magnitudes slab rate o flux was spare lent₀ b g y v t
     → (f ≡ g) × SameTrack number (curve (fluxAt magnitudes slab) (slab .rows)) rate o a b s t x y u v

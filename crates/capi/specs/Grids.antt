@@ -1,4 +1,4 @@
--- The C interface to `beat_grid`. That to `downbeats` is `Listed` of Lists, that to `bar_beat_at` is `Placed` of crate handing.
+-- The C interface to `beat_grid`. That to `downbeats` is `ListHanded` of Lists, that to `bar_beat_at` is `Placed` of crate capi_answers.
 use Prim.Native.Nat.{ℕ}
 use mathlib.Core.List.{List}
 use lib.ListN.{length}
@@ -9,7 +9,8 @@ use Rattle.capi_answers.specs.Handed.{Handed}
 
 -- What `ph_beat_grid` promises: the lent count is how many beats there are, and the slices are as `beat_grid` leaves them.
 pub record PhGridPromise
-    (envelope : List Float) (period : ℕ) (score₀ : List Float) (back₀ beats₀ : List ℕ) (count₀ answer : ℕ) (score : List Float) (back beats : List ℕ) (count : ℕ) : Type 0 where
+    (envelope : List Float) (period : ℕ) (score₀ : List Float) (back₀ beats₀ : List ℕ) (count₀ answer : ℕ) (score : List Float) (back beats : List ℕ)
+    (count : ℕ) : Type 0 where
   pub handed : Handed (gridRefusal envelope period (length score₀) (length back₀) (length beats₀)) (length (gridOf envelope period)) count₀ answer count
   pub slices :
       GridPromise envelope period score₀ back₀ beats₀

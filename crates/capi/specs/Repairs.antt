@@ -35,7 +35,8 @@ pub record FeaturesTold
   pub handed : Handed number (features.featuresNamed rows patch) lent₀ answer lent
   pub slices : features.PatchFeaturesPromise rows was patch (features.featuresAnswered number rows patch) now
 
-abbrev pub PhFeaturesPromise : (rows : ℕ) (was : features.FeatureTrack) (patch : Patch) (lent₀ : List ℕ) (answer : ℕ) (now : features.FeatureTrack) (lent : List ℕ) → Type 0
+abbrev pub PhFeaturesPromise : (rows : ℕ) (was : features.FeatureTrack) (patch : Patch) (lent₀ : List ℕ) (answer : ℕ) (now : features.FeatureTrack)
+    (lent : List ℕ) → Type 0
 PhFeaturesPromise rows was patch = FeaturesTold (features.featurePatchNumber rows was patch) rows was patch
 
 abbrev pub featuresLent : (slab similarity novelty : List Float) → features.FeatureTrack

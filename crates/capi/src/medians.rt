@@ -8,7 +8,11 @@ ghost use Rattle.capi.specs.Medians.{Valued};
 // `median::median_of`, for C.
 #[no_mangle]
 pub extern "C" fn ph_median_of(values: &[f64], work: &mut [f64], median: &mut f64) -> u32
-    ensures { λ r. ⌜ Valued (medianRefusal (now (values .entry)) (length (now (work .entry)))) (medianOf (now (values .entry))) (now (values .entry)) (now (work .entry)) (now (median .entry)) r (now (work .exit)) (now (median .exit)) ⌝ }
+    ensures { λ r. ⌜
+        Valued (medianRefusal (now (values .entry)) (length (now (work .entry)))) (medianOf (now (values .entry))) (now (values .entry))
+        (now (work .entry)) (now (median .entry))
+        r (now (work .exit)) (now (median .exit))
+        ⌝ }
 {
     told(median::median_of(values, work), median)
 }
@@ -16,7 +20,11 @@ pub extern "C" fn ph_median_of(values: &[f64], work: &mut [f64], median: &mut f6
 // `median::mad_of`, for C.
 #[no_mangle]
 pub extern "C" fn ph_mad_of(values: &[f64], median: f64, work: &mut [f64], mad: &mut f64) -> u32
-    ensures { λ r. ⌜ Valued (madRefusal (now (values .entry)) median (length (now (work .entry)))) (madOf (now (values .entry)) median) (now (values .entry)) (now (work .entry)) (now (mad .entry)) r (now (work .exit)) (now (mad .exit)) ⌝ }
+    ensures { λ r. ⌜
+        Valued (madRefusal (now (values .entry)) median (length (now (work .entry)))) (madOf (now (values .entry)) median) (now (values .entry))
+        (now (work .entry)) (now (mad .entry))
+        r (now (work .exit)) (now (mad .exit))
+        ⌝ }
 {
     told(median::mad_of(values, median, work), mad)
 }

@@ -43,7 +43,11 @@ pub extern "C" fn ph_pick_onsets(
     frames: &mut [u32],
     count: &mut usize,
 ) -> u32
-    ensures { λ r. ⌜ ListHanded (onsetsRefusal (now (flux .entry)) (now (threshold .entry)) rate (length (now (frames .entry)))) (onsetsOf (now (flux .entry)) (now (threshold .entry)) rate) (now (frames .entry)) (now (count .entry)) r (now (frames .exit)) (now (count .exit)) ⌝ }
+    ensures { λ r. ⌜
+        ListHanded (onsetsRefusal (now (flux .entry)) (now (threshold .entry)) rate (length (now (frames .entry))))
+        (onsetsOf (now (flux .entry)) (now (threshold .entry)) rate) (now (frames .entry)) (now (count .entry))
+        r (now (frames .exit)) (now (count .exit))
+        ⌝ }
 {
     counted(onsets::pick_onsets(flux, threshold, rate, frames), count)
 }
@@ -57,7 +61,11 @@ pub extern "C" fn ph_suppress_close_peaks(
     frames: &mut [u32],
     count: &mut usize,
 ) -> u32
-    ensures { λ r. ⌜ ListHanded (suppressionRefusal (now (peaks .entry)) (now (curve .entry)) (length (now (frames .entry)))) (suppressed (now (curve .entry)) gap (now (peaks .entry))) (now (frames .entry)) (now (count .entry)) r (now (frames .exit)) (now (count .exit)) ⌝ }
+    ensures { λ r. ⌜
+        ListHanded (suppressionRefusal (now (peaks .entry)) (now (curve .entry)) (length (now (frames .entry))))
+        (suppressed (now (curve .entry)) gap (now (peaks .entry))) (now (frames .entry)) (now (count .entry))
+        r (now (frames .exit)) (now (count .exit))
+        ⌝ }
 {
     counted(
         onsets::peaks::suppress_close_peaks(peaks, curve, gap, frames),

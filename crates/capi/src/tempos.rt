@@ -18,7 +18,11 @@ pub extern "C" fn ph_lag_range(
     min_lag: &mut usize,
     max_lag: &mut usize,
 ) -> u32
-    ensures { λ r. ⌜ Handed (lagRange rate (optionsOf «min_bpm» «max_bpm») .number) (lagParts (lagRange rate (optionsOf «min_bpm» «max_bpm»))) (lagsLent (now («min_lag» .entry)) (now («max_lag» .entry))) r (lagsLent (now («min_lag» .exit)) (now («max_lag» .exit))) ⌝ }
+    ensures { λ r. ⌜
+        Handed (lagRange rate (optionsOf «min_bpm» «max_bpm») .number) (lagParts (lagRange rate (optionsOf «min_bpm» «max_bpm»)))
+        (lagsLent (now («min_lag» .entry)) (now («max_lag» .entry)))
+        r (lagsLent (now («min_lag» .exit)) (now («max_lag» .exit)))
+        ⌝ }
 {
     put_range(
         lags::lag_range(rate, TempoOpts::between(min_bpm, max_bpm)),
@@ -45,7 +49,13 @@ pub extern "C" fn ph_estimate(
     saliences: &mut [f64; 3],
     count: &mut usize,
 ) -> u32
-    ensures { λ r. ⌜ PhEstimatePromise (now (envelope .entry)) onsets rate (optionsOf «min_bpm» «max_bpm») (now («clarity_curve» .entry)) (now («weight_curve» .entry)) (now (work .entry)) (tempoLent (now (found .entry)) (now (bpm .entry)) (now (clarity .entry)) (now (lags .entry)) (now (saliences .entry)) (now (count .entry))) r (now («clarity_curve» .exit)) (now («weight_curve» .exit)) (now (work .exit)) (tempoLent (now (found .exit)) (now (bpm .exit)) (now (clarity .exit)) (now (lags .exit)) (now (saliences .exit)) (now (count .exit))) ⌝ }
+    ensures { λ r. ⌜
+        PhEstimatePromise (now (envelope .entry)) onsets rate (optionsOf «min_bpm» «max_bpm») (now («clarity_curve» .entry))
+        (now («weight_curve» .entry)) (now (work .entry))
+        (tempoLent (now (found .entry)) (now (bpm .entry)) (now (clarity .entry)) (now (lags .entry)) (now (saliences .entry)) (now (count .entry)))
+        r (now («clarity_curve» .exit)) (now («weight_curve» .exit)) (now (work .exit))
+        (tempoLent (now (found .exit)) (now (bpm .exit)) (now (clarity .exit)) (now (lags .exit)) (now (saliences .exit)) (now (count .exit)))
+        ⌝ }
 {
     let answer = tempo::estimate(
         envelope,
@@ -75,7 +85,13 @@ pub extern "C" fn ph_stability_of(
     agreeing: &mut usize,
     windows: &mut usize,
 ) -> u32
-    ensures { λ r. ⌜ PhStabilityPromise (now (envelope .entry)) rate (optionsOf «min_bpm» «max_bpm») «whole_lag» (now («clarity_curve» .entry)) (now («weight_curve» .entry)) (now (work .entry)) (shareLent (now (found .entry)) (now (fraction .entry)) (now (agreeing .entry)) (now (windows .entry))) r (now («clarity_curve» .exit)) (now («weight_curve» .exit)) (now (work .exit)) (shareLent (now (found .exit)) (now (fraction .exit)) (now (agreeing .exit)) (now (windows .exit))) ⌝ }
+    ensures { λ r. ⌜
+        PhStabilityPromise (now (envelope .entry)) rate (optionsOf «min_bpm» «max_bpm») «whole_lag» (now («clarity_curve» .entry))
+        (now («weight_curve» .entry)) (now (work .entry))
+        (shareLent (now (found .entry)) (now (fraction .entry)) (now (agreeing .entry)) (now (windows .entry)))
+        r (now («clarity_curve» .exit)) (now («weight_curve» .exit)) (now (work .exit))
+        (shareLent (now (found .exit)) (now (fraction .exit)) (now (agreeing .exit)) (now (windows .exit)))
+        ⌝ }
 {
     let answer = stability::stability_of(
         envelope,

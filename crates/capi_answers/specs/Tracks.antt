@@ -27,7 +27,8 @@ pub record TrackLent : Type 0 where
   pub beats : ℕ
   pub downbeats : ℕ
 
-abbrev pub trackLent : (onsets found : ℕ) (bpm clarity : Float) (lags : List ℕ) (saliences : List Float) (count steady : ℕ) (fraction : Float) (agreeing windows beats downbeats : ℕ) → TrackLent
+abbrev pub trackLent : (onsets found : ℕ) (bpm clarity : Float) (lags : List ℕ) (saliences : List Float) (count steady : ℕ) (fraction : Float)
+    (agreeing windows beats downbeats : ℕ) → TrackLent
 trackLent onsets found bpm clarity lags saliences count steady fraction agreeing windows beats downbeats =
     record {
       onsets = onsets;

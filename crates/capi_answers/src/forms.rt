@@ -10,7 +10,10 @@ pub fn put_sections(
     count: &mut usize,
     confidence: &mut f64,
 ) -> u32
-    ensures { λ r. ⌜ Handed (answer .number) (partsIn answer) (sectionsLent (now (sections .entry)) (now (count .entry)) (now (confidence .entry))) r (sectionsLent (now (sections .exit)) (now (count .exit)) (now (confidence .exit))) ⌝ }
+    ensures { λ r. ⌜
+        Handed (answer .number) (partsIn answer) (sectionsLent (now (sections .entry)) (now (count .entry)) (now (confidence .entry)))
+        r (sectionsLent (now (sections .exit)) (now (count .exit)) (now (confidence .exit)))
+        ⌝ }
 {
     if answer.number != 0 {
         return answer.number;

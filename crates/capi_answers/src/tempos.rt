@@ -23,7 +23,10 @@ ghost use Rattle.capi_answers.specs.Tempos.{
 
 // Inner: stores the lags unless the call refused, and answers its number.
 pub fn put_range(range: LagRange, min_lag: &mut usize, max_lag: &mut usize) -> u32
-    ensures { λ r. ⌜ Handed (range .number) (lagParts range) (lagsLent (now («min_lag» .entry)) (now («max_lag» .entry))) r (lagsLent (now («min_lag» .exit)) (now («max_lag» .exit))) ⌝ }
+    ensures { λ r. ⌜
+        Handed (range .number) (lagParts range) (lagsLent (now («min_lag» .entry)) (now («max_lag» .entry)))
+        r (lagsLent (now («min_lag» .exit)) (now («max_lag» .exit)))
+        ⌝ }
 {
     if range.number != 0 {
         return range.number;
@@ -75,7 +78,11 @@ pub fn put_estimate(
     saliences: &mut [f64; 3],
     count: &mut usize,
 ) -> u32
-    ensures { λ r. ⌜ Handed (answer .number) (tempoParts answer) (tempoLent (now (found .entry)) (now (bpm .entry)) (now (clarity .entry)) (now (lags .entry)) (now (saliences .entry)) (now (count .entry))) r (tempoLent (now (found .exit)) (now (bpm .exit)) (now (clarity .exit)) (now (lags .exit)) (now (saliences .exit)) (now (count .exit))) ⌝ }
+    ensures { λ r. ⌜
+        Handed (answer .number) (tempoParts answer)
+        (tempoLent (now (found .entry)) (now (bpm .entry)) (now (clarity .entry)) (now (lags .entry)) (now (saliences .entry)) (now (count .entry)))
+        r (tempoLent (now (found .exit)) (now (bpm .exit)) (now (clarity .exit)) (now (lags .exit)) (now (saliences .exit)) (now (count .exit)))
+        ⌝ }
 {
     if answer.number != 0 {
         return answer.number;
@@ -126,7 +133,11 @@ pub fn put_steadiness(
     agreeing: &mut usize,
     windows: &mut usize,
 ) -> u32
-    ensures { λ r. ⌜ Handed (answer .number) (shareParts (answer .stability)) (shareLent (now (found .entry)) (now (fraction .entry)) (now (agreeing .entry)) (now (windows .entry))) r (shareLent (now (found .exit)) (now (fraction .exit)) (now (agreeing .exit)) (now (windows .exit))) ⌝ }
+    ensures { λ r. ⌜
+        Handed (answer .number) (shareParts (answer .stability))
+        (shareLent (now (found .entry)) (now (fraction .entry)) (now (agreeing .entry)) (now (windows .entry)))
+        r (shareLent (now (found .exit)) (now (fraction .exit)) (now (agreeing .exit)) (now (windows .exit)))
+        ⌝ }
 {
     if answer.number != 0 {
         return answer.number;

@@ -14,7 +14,10 @@ pub fn put_room(
     lag_slots: &mut usize,
     work_slots: &mut usize,
 ) -> u32
-    ensures { λ r. ⌜ Handed (room .number) (roomParts room) (roomLent (now («row_slots» .entry)) (now («lag_slots» .entry)) (now («work_slots» .entry))) r (roomLent (now («row_slots» .exit)) (now («lag_slots» .exit)) (now («work_slots» .exit))) ⌝ }
+    ensures { λ r. ⌜
+        Handed (room .number) (roomParts room) (roomLent (now («row_slots» .entry)) (now («lag_slots» .entry)) (now («work_slots» .entry)))
+        r (roomLent (now («row_slots» .exit)) (now («lag_slots» .exit)) (now («work_slots» .exit)))
+        ⌝ }
 {
     if room.number != 0 {
         return room.number;
@@ -42,7 +45,16 @@ pub fn put_analysis(
     beat_count: &mut usize,
     downbeat_count: &mut usize,
 ) -> u32
-    ensures { λ r. ⌜ Handed (answer .number) (trackParts answer) (trackLent (now («onset_count» .entry)) (now (found .entry)) (now (bpm .entry)) (now (clarity .entry)) (now (lags .entry)) (now (saliences .entry)) (now (count .entry)) (now (steady .entry)) (now (fraction .entry)) (now (agreeing .entry)) (now (windows .entry)) (now («beat_count» .entry)) (now («downbeat_count» .entry))) r (trackLent (now («onset_count» .exit)) (now (found .exit)) (now (bpm .exit)) (now (clarity .exit)) (now (lags .exit)) (now (saliences .exit)) (now (count .exit)) (now (steady .exit)) (now (fraction .exit)) (now (agreeing .exit)) (now (windows .exit)) (now («beat_count» .exit)) (now («downbeat_count» .exit))) ⌝ }
+    ensures { λ r. ⌜
+        Handed (answer .number) (trackParts answer)
+        (trackLent (now («onset_count» .entry)) (now (found .entry)) (now (bpm .entry)) (now (clarity .entry)) (now (lags .entry))
+            (now (saliences .entry)) (now (count .entry)) (now (steady .entry)) (now (fraction .entry)) (now (agreeing .entry)) (now (windows .entry))
+            (now («beat_count» .entry)) (now («downbeat_count» .entry)))
+        r
+        (trackLent (now («onset_count» .exit)) (now (found .exit)) (now (bpm .exit)) (now (clarity .exit)) (now (lags .exit))
+            (now (saliences .exit)) (now (count .exit)) (now (steady .exit)) (now (fraction .exit)) (now (agreeing .exit)) (now (windows .exit))
+            (now («beat_count» .exit)) (now («downbeat_count» .exit)))
+        ⌝ }
 {
     if answer.number != 0 {
         return answer.number;

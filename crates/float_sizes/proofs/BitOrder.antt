@@ -28,7 +28,8 @@ key-plus : (x : Float) → toBits binary64 x < 2 ^ 63 → key x ≡ toBits binar
 unfolding key
 key-plus x h = ⊎-elim (λ w. omega (arith, w)) (λ w. omega (arith, w)) (turned-at (toBits binary64 x))
 
-bits-not-lt : (x y : Float) → T (fits binary64 x) → T (fits binary64 y) → toBits binary64 x < 2 ^ 63 → toBits binary64 y < 2 ^ 63 → toBits binary64 x ≤ toBits binary64 y → lt y x ≡ false
+bits-not-lt : (x y : Float) → T (fits binary64 x) → T (fits binary64 y) → toBits binary64 x < 2 ^ 63 → toBits binary64 y < 2 ^ 63
+    → toBits binary64 x ≤ toBits binary64 y → lt y x ≡ false
 bits-not-lt x y f g a b h = go (lt y x) refl
   where
     go : (t : Bool) → lt y x ≡ t → t ≡ false
@@ -69,10 +70,12 @@ size-bits true m e f = omega (arith, bits-fin true m e, bits-fin false m e, mag-
 size-bits false m e f = omega (arith, bits-fin false m e, mag-small false m e f)
 
 -- x / e ≤ y / d in the order of the bits
-crossed : (m : ℕ) (e : ℤ) (n : ℕ) (d : ℤ) → T (fits binary64 (fin false m e)) → T (fits binary64 (fin false n d)) → toBits binary64 (fin false m e) ≤ toBits binary64 (fin false n d) → m * up e * down d ≤ n * up d * down e
+crossed : (m : ℕ) (e : ℤ) (n : ℕ) (d : ℤ) → T (fits binary64 (fin false m e)) → T (fits binary64 (fin false n d))
+    → toBits binary64 (fin false m e) ≤ toBits binary64 (fin false n d) → m * up e * down d ≤ n * up d * down e
 crossed m e n d f g h =
     ltb-false (n * up d * down e) (m * up e * down d)
-    (unfold lt in bits-not-lt (fin false m e) (fin false n d) f g (omega (arith, bits-fin false m e, mag-small false m e f)) (omega (arith, bits-fin false n d, mag-small false n d g)) h)
+    (unfold lt in bits-not-lt (fin false m e) (fin false n d) f g (omega (arith, bits-fin false m e, mag-small false m e f))
+    (omega (arith, bits-fin false n d, mag-small false n d g)) h)
 
 module _ (B n : ℕ) (d : ℤ) (is : bits B ≡ fin false n d) (small : B < 0x7FF0_0000_0000_0000) where
   end-fits : T (fits binary64 (fin false n d))
@@ -112,7 +115,15 @@ module _ (B n : ℕ) (d : ℤ) (is : bits B ≡ fin false n d) (small : B < 0x7F
   under-of p nan l f h = absurd h
   under-of p (inf s) l f h = absurd h
   under-of p (fin s m e) l f h =
-      omega (arith, size-bits s m e f, end-bits, bits-fin false m e, bits-fin false n d, mag-mono (units m e) (units n d) (units-mono m e n d (through (m * up e) p (n * up d) (down e) (2 ^ 20) (down d) (pow-pos 20) h l)))
+      omega (
+        arith,
+        size-bits s m e f,
+        end-bits,
+        bits-fin false m e,
+        bits-fin false n d,
+        mag-mono (units m e) (units n d)
+            (units-mono m e n d (through (m * up e) p (n * up d) (down e) (2 ^ 20) (down d) (pow-pos 20) h l)),
+      )
 
   pub under-bits : {x : Float} (p : ℕ) → p * down d ≤ n * up d * 2 ^ 20 → T (fits binary64 x) → Under p x → toBits binary64 x % 2 ^ 63 ≤ B
   under-bits {x} p l f h = under-of p x l f (h .size)

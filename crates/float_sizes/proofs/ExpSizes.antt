@@ -4,7 +4,30 @@ use mathlib.Core.Path.{_≡_, refl, sym, ap, _∙_, subst}
 use mathlib.Core.Logic.{_⊎_, inl, inr}
 use mathlib.Core.Bool.{Bool, true, false, not, _&&_, cond, true≢false}
 use Prim.Native.Nat.{ℕ, zero, suc, _+_, _-_, _*_, _/_, _%_, _^_, _≤_, _<_, min}
-use native.Mathlib.Nat.{zero-lt-suc, le-of-eq, le-of-lt, le-trans, mul-comm, mul-assoc, mul-left-comm, mul-right-comm, mul-mul-mul-comm, mul-lt-mul-of-pos-right, lt-of-lt-of-le, mul-pos, mul-one, add-mul, suc-mul, div-mul-le-self, div-add-mod', mod-lt, mul-le-mul-right, mul-le-mul-left, le-of-mul-le-mul-left, le-of-mul-le-mul-right}
+use native.Mathlib.Nat.{
+  zero-lt-suc,
+  le-of-eq,
+  le-of-lt,
+  le-trans,
+  mul-comm,
+  mul-assoc,
+  mul-left-comm,
+  mul-right-comm,
+  mul-mul-mul-comm,
+  mul-lt-mul-of-pos-right,
+  lt-of-lt-of-le,
+  mul-pos,
+  mul-one,
+  add-mul,
+  suc-mul,
+  div-mul-le-self,
+  div-add-mod',
+  mod-lt,
+  mul-le-mul-right,
+  mul-le-mul-left,
+  le-of-mul-le-mul-left,
+  le-of-mul-le-mul-right,
+}
 use lib.Pow.{pow-add, pow-pos}
 use native.Mathlib.Omega.{arith}
 use lib.Dec.{T, ltb, leb, lit<, lit≤}
@@ -25,12 +48,45 @@ use Rattle.sizes.proofs.Signs.{mul-plus}
 use Rattle.sizes.proofs.Numbers.{held-at-value}
 use Rattle.sizes.proofs.Sizes.{most-finite, most-not-nan, real-value, real-most}
 use Rattle.floats.specs.Logs.{two, ln2hi, ln2lo}
-use Rattle.floats.specs.Exps.{invln2, P1, P2, P3, P4, P5, x1p1023, x1pMinus969, overflowAbove, zeroBelowMinus, powerAt, timesDown, scaleDown, expNear, expLess, expBy, foldsOf, expSized, expOf}
+use Rattle.floats.specs.Exps.{
+  invln2,
+  P1,
+  P2,
+  P3,
+  P4,
+  P5,
+  x1p1023,
+  x1pMinus969,
+  overflowAbove,
+  zeroBelowMinus,
+  powerAt,
+  timesDown,
+  scaleDown,
+  expNear,
+  expLess,
+  expBy,
+  foldsOf,
+  expSized,
+  expOf,
+}
 use Rattle.floats.proofs.Marks.{exp-zero}
 use Rattle.floats.proofs.Patterns.{is-nan}
 use Rattle.floats.proofs.TotalOrder.{bits-fin}
 use Rattle.float_sizes.specs.Fractions.{partsUpTo, Under}
-use Rattle.float_sizes.proofs.Fractions.{held-parts, round-under, under-most, most-under, under-weaken, neg-under, add-under, sub-under, mul-under, div-under, left-least, left-plus}
+use Rattle.float_sizes.proofs.Fractions.{
+  held-parts,
+  round-under,
+  under-most,
+  most-under,
+  under-weaken,
+  neg-under,
+  add-under,
+  sub-under,
+  mul-under,
+  div-under,
+  left-least,
+  left-plus,
+}
 use Rattle.float_sizes.proofs.BitOrder.{plain, bits-back, bits-upper, bits-lower}
 
 -- 1 in units
@@ -97,13 +153,20 @@ near-finite h = most-finite (under-most 2 (lit≤ tt) (h .under))
 
 -- times a factor that is not negative and at most 1
 near-times : {y z : Float} → Near y → Plus z → Under U z → Near (y ⊗ z)
-near-times h p u = record { plus = mul-plus binary64 (near-finite h) (most-finite (under-most 1 (lit≤ tt) u)) (h .plus) p; under = mul-under (2 * U) (lit< tt) (lit≤ tt) (h .under) u }
+near-times h p u = record {
+  plus = mul-plus binary64 (near-finite h) (most-finite (under-most 1 (lit≤ tt) u)) (h .plus) p;
+  under = mul-under (2 * U)
+      (lit< tt) (lit≤ tt) (h .under) u;
+}
 
 power-bits : (i : ℕ) → i ≤ 1023 → i * 0x10_0000_0000_0000 ≤ 0x3FF0_0000_0000_0000
 power-bits i h = omega arith
 
 power-plus : (i : ℕ) → i ≤ 1023 → Plus (powerAt i)
-power-plus i h = let p = plain (i * 0x10_0000_0000_0000) (omega (arith, power-bits i h)) in record { sign = subst (λ (y : Float). T (isPlus y)) (sym (p .2)) (unfold isPlus in tt) }
+power-plus i h = let p = plain (i * 0x10_0000_0000_0000) (omega (arith, power-bits i h)) in record {
+  sign = subst (λ (y : Float). T (isPlus y))
+      (sym (p .2)) (unfold isPlus in tt);
+}
 
 power-under : (i : ℕ) → i ≤ 1023 → Under U (powerAt i)
 power-under i h =
@@ -133,7 +196,8 @@ near-scaled {y} n h = go (ltb 1022 n) (ltb 1022 (n - 969))
     less : Near (y ⊗ x1pMinus969)
     less = near-times h tiny-plus tiny-under
 
-    go : (b c : Bool) → Near (pick b (pick c (timesDown (y ⊗ x1pMinus969 ⊗ x1pMinus969) (n - 969 - 969)) (timesDown (y ⊗ x1pMinus969) (n - 969))) (timesDown y n))
+    go : (b c : Bool) → Near (pick b (pick c (timesDown (y ⊗ x1pMinus969 ⊗ x1pMinus969) (n - 969 - 969)) (timesDown (y ⊗ x1pMinus969) (n - 969)))
+        (timesDown y n))
     go true true = near-down (n - 969 - 969) (near-times less tiny-plus tiny-under)
     go true false = near-down (n - 969) less
     go false c = near-down n h
@@ -154,7 +218,14 @@ module _ (N D n : ℕ) (e : ℤ) (p : 0 < D) (is : round binary64 false N D ≡ 
     where
       go : (N * 2 ^ 20 < q * D) ⊎ (q * D ≤ N * 2 ^ 20) → suc q * D ≤ N * 2 ^ 20 + D
       go (inr h) = omega (arith, suc-mul q D)
-      go (inl h) = absurd (omega (arith, l, suc-mul q (down e), down-pos e, subst (λ (v : Float). partsUpTo q v) is (round-under {p = q} false N D p (omega arith) (le-of-lt h) .size)))
+      go (inl h) = absurd (omega (
+        arith,
+        l,
+        suc-mul q (down e),
+        down-pos e,
+        subst (λ (v : Float). partsUpTo q v) is
+            (round-under {p = q} false N D p (omega arith) (le-of-lt h) .size),
+      ))
 
 -- ---- how often ln 2 is taken from a negative x of size a / d: K, with a / d between (K - 1/2) ln 2 and (K + 1/2) ln 2, nearly
 
@@ -172,7 +243,8 @@ product-is m e = round-neg binary64 (3248660424278399 * 1 * (m * up e)) (2 ^ 51 
 
 shifted-is : (n : ℕ) (e : ℤ) → neg (neg (fin false n e) ⊕ neg half) ≡ round binary64 false (n * up e * 2 + 1 * 1 * down e) (down e * 2)
 unfolding add sum neg ofBits
-shifted-is n e = ap neg (round-neg binary64 (n * up e * 2 + 1 * 1 * down e) (down e * 2)) ∙ neg-neg (round binary64 false (n * up e * 2 + 1 * 1 * down e) (down e * 2))
+shifted-is n e = ap neg (round-neg binary64 (n * up e * 2 + 1 * 1 * down e) (down e * 2))
+    ∙ neg-neg (round binary64 false (n * up e * 2 + 1 * 1 * down e) (down e * 2))
 
 -- the size of x is a / d
 pub record Folded (K a d : ℕ) : Type 0 where
@@ -183,7 +255,8 @@ pub record Folded (K a d : ℕ) : Type 0 where
 -- (K + 1) and K, and then (2 K + 1) / 2 and nearly (2 K - 1) / 2, in units, over a denominator
 module _ (K B : ℕ) where
   next-whole : (K + 1) * 2 ^ 20 * (B * 2) ≡ 2 ^ 21 * (K * B) + 2 ^ 21 * B
-  next-whole = ap (λ (z : ℕ). z * (B * 2)) (mul-comm (K + 1) (2 ^ 20)) ∙ mul-assoc (2 ^ 20) (K + 1) (B * 2) ∙ omega (arith, add-mul K 1 (B * 2), mul-assoc K B 2)
+  next-whole = ap (λ (z : ℕ). z * (B * 2)) (mul-comm (K + 1) (2 ^ 20)) ∙ mul-assoc (2 ^ 20) (K + 1) (B * 2)
+      ∙ omega (arith, add-mul K 1 (B * 2), mul-assoc K B 2)
 
   this-whole : K * 2 ^ 20 * (B * 2) ≡ 2 ^ 21 * (K * B)
   this-whole = ap (λ (z : ℕ). z * (B * 2)) (mul-comm K (2 ^ 20)) ∙ mul-assoc (2 ^ 20) K (B * 2) ∙ omega (arith, mul-assoc K B 2)
@@ -204,7 +277,8 @@ module _ (K N D n : ℕ) (e : ℤ) (p : 0 < D) (is : round binary64 false N D �
   folded-above : N * 2 ^ 20 < 2 ^ 20 * (K * D) + 2 ^ 19 * D
   folded-above =
       let a : (n * up e * 2 + 1 * 1 * down e) * 2 ^ 20 < (K + 1) * 2 ^ 20 * (down e * 2) =
-      below-back (n * up e * 2 + 1 * 1 * down e) (down e * 2) k g d2 is2 ((K + 1) * 2 ^ 20) (omega arith) (omega (arith, hi, mul-right-comm (K + 1) (2 ^ 20) (down g))) in
+      below-back (n * up e * 2 + 1 * 1 * down e) (down e * 2) k g d2 is2 ((K + 1) * 2 ^ 20) (omega arith)
+      (omega (arith, hi, mul-right-comm (K + 1) (2 ^ 20) (down g))) in
       let b : n * up e * 2 ^ 20 < (2 * K + 1) * 2 ^ 19 * down e = omega (arith, next-whole K (down e), next-half K (down e)) in
       omega (arith, next-half K D, below-back N D n e p is ((2 * K + 1) * 2 ^ 19) (omega arith) b)
 
@@ -242,7 +316,8 @@ module _ (m : ℕ) (e : ℤ) (small : m * up e ≤ 746 * down e) where
   first-under : Under 1128530896 (round binary64 false N1 D1)
   first-under = round-under false N1 D1 D1-pos (lit< tt) (omega arith)
 
-  second-under : (n : ℕ) (g : ℤ) → round binary64 false N1 D1 ≡ fin false n g → Under 1129055184 (round binary64 false (n * up g * 2 + 1 * 1 * down g) (down g * 2))
+  second-under : (n : ℕ) (g : ℤ) → round binary64 false N1 D1 ≡ fin false n g
+      → Under 1129055184 (round binary64 false (n * up g * 2 + 1 * 1 * down g) (down g * 2))
   second-under n g i =
       let h : n * up g * 2 ^ 20 ≤ 1128530896 * down g = subst (λ (v : Float). partsUpTo 1128530896 v) i (first-under .size) in
       round-under false (n * up g * 2 + 1 * 1 * down g) (down g * 2) (omega (arith, down-pos g)) (lit< tt) (omega arith)
@@ -250,15 +325,18 @@ module _ (m : ℕ) (e : ℤ) (small : m * up e ≤ 746 * down e) where
   few-folds : (k : ℕ) (h : ℤ) → k * up h * 2 ^ 20 ≤ 1129055184 * down h → k * up h / down h ≤ 1076
   few-folds k h l =
       let q = k * up h / down h in
-      let a : q * 2 ^ 20 * down h ≤ 1129055184 * down h = le-trans (le-of-eq (mul-right-comm q (2 ^ 20) (down h))) (le-trans (mul-le-mul-right (2 ^ 20) (whole-part (k * up h) (down h) (down-pos h) .0)) l) in
+      let a : q * 2 ^ 20 * down h ≤ 1129055184 * down h = le-trans (le-of-eq (mul-right-comm q (2 ^ 20) (down h)))
+      (le-trans (mul-le-mul-right (2 ^ 20) (whole-part (k * up h) (down h) (down-pos h) .0)) l) in
       let b : q * 2 ^ 20 ≤ 1129055184 = le-of-mul-le-mul-right a (down-pos h) in
       omega arith
 
-  folds-are : (n : ℕ) (g : ℤ) → round binary64 false N1 D1 ≡ fin false n g → (k : ℕ) (h : ℤ) → round binary64 false (n * up g * 2 + 1 * 1 * down g) (down g * 2) ≡ fin false k h → foldsOf (fin true m e) true ≡ min (k * up h / down h) (2 ^ 64 - 1)
+  folds-are : (n : ℕ) (g : ℤ) → round binary64 false N1 D1 ≡ fin false n g → (k : ℕ) (h : ℤ)
+      → round binary64 false (n * up g * 2 + 1 * 1 * down g) (down g * 2) ≡ fin false k h → foldsOf (fin true m e) true ≡ min (k * up h / down h) (2 ^ 64 - 1)
   unfolding foldsOf toUnsigned
   folds-are n g i k h j = ap (λ (y : Float). toUnsigned 64 (neg (y ⊕ neg half))) (product-is m e ∙ ap neg i) ∙ ap (toUnsigned 64) (shifted-is n g ∙ j)
 
-  folded-by : (n : ℕ) (g : ℤ) → round binary64 false N1 D1 ≡ fin false n g → (k : ℕ) (h : ℤ) → round binary64 false (n * up g * 2 + 1 * 1 * down g) (down g * 2) ≡ fin false k h → Folded (foldsOf (fin true m e) true) (m * up e) (down e)
+  folded-by : (n : ℕ) (g : ℤ) → round binary64 false N1 D1 ≡ fin false n g → (k : ℕ) (h : ℤ)
+      → round binary64 false (n * up g * 2 + 1 * 1 * down g) (down g * 2) ≡ fin false k h → Folded (foldsOf (fin true m e) true) (m * up e) (down e)
   folded-by n g i k h j =
       let q = k * up h / down h in
       let l : q ≤ 1076 = few-folds k h (subst (λ (v : Float). partsUpTo 1129055184 v) j (second-under n g i .size)) in
@@ -273,7 +351,8 @@ module _ (m : ℕ) (e : ℤ) (small : m * up e ≤ 746 * down e) where
   folded =
       let s = shape 1128530896 (round binary64 false N1 D1) (round-plus binary64 N1 D1 .sign) (first-under .size) in
       let u = second-under (s .0) (s .1) (s .2) in
-      let t = shape 1129055184 (round binary64 false (s .0 * up (s .1) * 2 + 1 * 1 * down (s .1)) (down (s .1) * 2)) (round-plus binary64 (s .0 * up (s .1) * 2 + 1 * 1 * down (s .1)) (down (s .1) * 2) .sign) (u .size) in
+      let t = shape 1129055184 (round binary64 false (s .0 * up (s .1) * 2 + 1 * 1 * down (s .1)) (down (s .1) * 2))
+      (round-plus binary64 (s .0 * up (s .1) * 2 + 1 * 1 * down (s .1)) (down (s .1) * 2) .sign) (u .size) in
       folded-by (s .0) (s .1) (s .2) (t .0) (t .1) (t .2)
 
 -- ---- x less K ln 2
@@ -294,13 +373,16 @@ more {a} {b} c h = omega arith
 over-scaled : (x k d : ℕ) → x * 2 < 2 ^ 51 * (2 * k + d) → k ≤ 1077 * d → 2 ^ 32 * x ≤ 9671406554254521907681929 * k + 4905312988389330974146560 * d
 over-scaled x k d h l =
     let a : 2 ^ 31 * (x * 2) ≤ 2 ^ 31 * (2 ^ 51 * (2 * k + d)) = mul-le-mul-left (2 ^ 31) (le-of-lt h) in
-    let b : 2662511489967479 * k ≤ 69609709930814275321856 * d = le-trans (mul-le-mul-left 2662511489967479 l) (le-trans (le-of-eq (sym (mul-assoc 2662511489967479 1077 d))) (mul-le-mul-right d (lit≤ tt))) in
-    le-trans (plain-left x k d a) (exchange (2 ^ 83 * k) (9671406554254521907681929 * k) (2662511489967479 * k) (4905312988389330974146560 * d) (2 ^ 82 * d) (69609709930814275321856 * d) (add-mul 9671406554254521907681929 2662511489967479 k) (add-mul (2 ^ 82) 69609709930814275321856 d) b)
+    let b : 2662511489967479 * k ≤ 69609709930814275321856 * d =
+    le-trans (mul-le-mul-left 2662511489967479 l) (le-trans (le-of-eq (sym (mul-assoc 2662511489967479 1077 d))) (mul-le-mul-right d (lit≤ tt))) in
+    le-trans (plain-left x k d a) (exchange (2 ^ 83 * k) (9671406554254521907681929 * k) (2662511489967479 * k) (4905312988389330974146560 * d)
+    (2 ^ 82 * d) (69609709930814275321856 * d) (add-mul 9671406554254521907681929 2662511489967479 k) (add-mul (2 ^ 82) 69609709930814275321856 d) b)
   where
     plain-left : (x k d : ℕ) → 2 ^ 31 * (x * 2) ≤ 2 ^ 31 * (2 ^ 51 * (2 * k + d)) → 2 ^ 32 * x ≤ 2 ^ 83 * k + 2 ^ 82 * d
     plain-left x k d a = omega arith
 
-under-scaled : (x k d : ℕ) → 2 ^ 51 * (2 ^ 20 * k) ≤ x * 2 ^ 20 + 2 ^ 51 * ((2 ^ 19 + 2) * d) → 9671406554254521907681929 * k ≤ 2 ^ 32 * x + 4905312988389330974146560 * d
+under-scaled : (x k d : ℕ) → 2 ^ 51 * (2 ^ 20 * k) ≤ x * 2 ^ 20 + 2 ^ 51 * ((2 ^ 19 + 2) * d)
+    → 9671406554254521907681929 * k ≤ 2 ^ 32 * x + 4905312988389330974146560 * d
 under-scaled x k d h =
     le-trans (mul-le-mul-right k (lit≤ tt))
     (le-trans (plain-left x k d h) (more (2 ^ 32 * x) (mul-le-mul-right d (lit≤ {m = 4835721725202590408376320} {n = 4905312988389330974146560} tt))))
@@ -319,10 +401,12 @@ reached {K} {a} {d} h =
       under = le-of-mul-le-mul-left (factor-u (K * d) (K * 2977044471 * d) t u) (lit< {m = 0} {n = 3248660424278399} tt);
     }
   where
-    factor-o : (k w : ℕ) → w ≡ 2977044471 * k → 2 ^ 32 * (3248660424278399 * a) ≤ 9671406554254521907681929 * k + 4905312988389330974146560 * d → 3248660424278399 * (2 ^ 32 * a) ≤ 3248660424278399 * (w + 1509949440 * d)
+    factor-o : (k w : ℕ) → w ≡ 2977044471 * k → 2 ^ 32 * (3248660424278399 * a) ≤ 9671406554254521907681929 * k + 4905312988389330974146560 * d
+        → 3248660424278399 * (2 ^ 32 * a) ≤ 3248660424278399 * (w + 1509949440 * d)
     factor-o k w t h = omega arith
 
-    factor-u : (k w : ℕ) → w ≡ 2977044471 * k → 9671406554254521907681929 * k ≤ 2 ^ 32 * (3248660424278399 * a) + 4905312988389330974146560 * d → 3248660424278399 * w ≤ 3248660424278399 * (2 ^ 32 * a + 1509949440 * d)
+    factor-u : (k w : ℕ) → w ≡ 2977044471 * k → 9671406554254521907681929 * k ≤ 2 ^ 32 * (3248660424278399 * a) + 4905312988389330974146560 * d
+        → 3248660424278399 * w ≤ 3248660424278399 * (2 ^ 32 * a + 1509949440 * d)
     factor-u k w t h = omega arith
 
 held-product : (W : ℕ) → W < 2 ^ 53 → HeldAt binary64 W (2 ^ 32)
@@ -343,14 +427,17 @@ product-of K (inf s) h v = absurd v
 product-of K (fin true k g) h v = absurd (true≢false (v .0))
 product-of K (fin false k g) h v =
     subst (λ (y : Float). HasValue y true (K * 2977044471) (2 ^ 32))
-    (sym (round-same binary64 true (k * up g * (2977044471 * 1)) (down g * 2 ^ 32) (K * 2977044471) (2 ^ 32) (mul-pos (down-pos g) (pow-pos 32)) (pow-pos 32) same))
+    (sym (round-same binary64 true (k * up g * (2977044471 * 1)) (down g * 2 ^ 32) (K * 2977044471) (2 ^ 32) (mul-pos (down-pos g) (pow-pos 32))
+    (pow-pos 32) same))
     (held-at-value true (pow-pos 32) (held-product (K * 2977044471) (omega arith)))
   where
     same : k * up g * (2977044471 * 1) * 2 ^ 32 ≡ K * 2977044471 * (down g * 2 ^ 32)
     same =
-        mul-assoc (k * up g) 2977044471 (2 ^ 32) ∙ ap (λ (z : ℕ). z * (2977044471 * 2 ^ 32)) (sym (mul-one (k * up g)) ∙ v .1) ∙ mul-mul-mul-comm K (down g) 2977044471 (2 ^ 32)
+        mul-assoc (k * up g) 2977044471 (2 ^ 32) ∙ ap (λ (z : ℕ). z * (2977044471 * 2 ^ 32)) (sym (mul-one (k * up g)) ∙ v .1)
+        ∙ mul-mul-mul-comm K (down g) 2977044471 (2 ^ 32)
 
-difference-of : (W m : ℕ) (e : ℤ) (w : Float) → HasValue w true W (2 ^ 32) → 2 ^ 32 * (m * up e) ≤ W * down e + 1509949440 * down e → W * down e ≤ 2 ^ 32 * (m * up e) + 1509949440 * down e → Under 368640 (sub binary64 (fin true m e) w)
+difference-of : (W m : ℕ) (e : ℤ) (w : Float) → HasValue w true W (2 ^ 32) → 2 ^ 32 * (m * up e) ≤ W * down e + 1509949440 * down e
+    → W * down e ≤ 2 ^ 32 * (m * up e) + 1509949440 * down e → Under 368640 (sub binary64 (fin true m e) w)
 unfolding sub add sum neg
 difference-of W m e nan v o u = absurd v
 difference-of W m e (inf s) v o u = absurd v
@@ -373,10 +460,14 @@ difference-of W m e (fin true n g) v o u = go (ltb A B) (ltb B A)
     b = mul-right-comm (n * up g) (down e) (2 ^ 32) ∙ ap (λ (z : ℕ). z * down e) (v .1) ∙ mul-right-comm W (down g) (down e)
 
     o' : 2 ^ 32 * A ≤ W * down e * down g + 1509949440 * C
-    o' = le-trans (le-of-eq (sym (mul-assoc (2 ^ 32) (m * up e) (down g)))) (le-trans (mul-le-mul-right (down g) o) (le-of-eq (add-mul (W * down e) (1509949440 * down e) (down g) ∙ ap (λ (z : ℕ). W * down e * down g + z) (mul-assoc 1509949440 (down e) (down g)))))
+    o' = le-trans (le-of-eq (sym (mul-assoc (2 ^ 32) (m * up e) (down g))))
+        (le-trans (mul-le-mul-right (down g) o) (le-of-eq (add-mul (W * down e) (1509949440 * down e) (down g)
+        ∙ ap (λ (z : ℕ). W * down e * down g + z) (mul-assoc 1509949440 (down e) (down g)))))
 
     u' : W * down e * down g ≤ 2 ^ 32 * A + 1509949440 * C
-    u' = le-trans (mul-le-mul-right (down g) u) (le-of-eq (add-mul (2 ^ 32 * (m * up e)) (1509949440 * down e) (down g) ∙ ap (λ (z : ℕ). z + 1509949440 * down e * down g) (mul-assoc (2 ^ 32) (m * up e) (down g)) ∙ ap (λ (z : ℕ). 2 ^ 32 * A + z) (mul-assoc 1509949440 (down e) (down g))))
+    u' = le-trans (mul-le-mul-right (down g) u) (le-of-eq (add-mul (2 ^ 32 * (m * up e)) (1509949440 * down e) (down g)
+        ∙ ap (λ (z : ℕ). z + 1509949440 * down e * down g) (mul-assoc (2 ^ 32) (m * up e) (down g))
+        ∙ ap (λ (z : ℕ). 2 ^ 32 * A + z) (mul-assoc 1509949440 (down e) (down g))))
 
     go : (x y : Bool) → Under 368640 (cond x (round binary64 false (B - A) C) (round binary64 (true && y) (A - B) C))
     go true y = round-under false (B - A) C C-pos (lit< tt) (omega (arith, b, u'))
@@ -389,7 +480,8 @@ ln2lo-under = record { size = lit≤ tt }
 less-near : (m : ℕ) (e : ℤ) (K : ℕ) → Reached K (m * up e) (down e) → Near (expLess (fin true m e) (neg (real K)))
 unfolding expLess
 less-near m e K h =
-    let hi = difference-of (K * 2977044471) m e (neg (real K) ⊗ ln2hi) (product-of K (real K) (h .few) (real-value K (omega (arith, h .few)))) (h .over) (h .under) in
+    let hi = difference-of (K * 2977044471) m e (neg (real K) ⊗ ln2hi) (product-of K (real K) (h .few) (real-value K (omega (arith, h .few))))
+    (h .over) (h .under) in
     let k : Under (1077 * U) (real K) = most-under (real-most {N = 1077} K (omega (arith, h .few)) (h .few)) in
     let lo = mul-under 1077 (lit< tt) (lit≤ tt) (neg-under k) ln2lo-under in
     near-series (under-weaken 393216 (lit≤ tt) (sub-under (lit< tt) hi lo)) (under-weaken 393216 (lit≤ tt) hi) (under-weaken 1100 (lit≤ tt) lo)
@@ -417,8 +509,10 @@ module _ (m : ℕ) (e : ℤ) (f : T (fits binary64 (fin true m e))) (small : m *
   -- below 1.5 ln 2 and above 0.5 ln 2
   once : h < 0x3FF0_A2B2 → 0x3FD6_2E42 < h → Reached 1 (m * up e) (down e)
   once l g =
-      let a : m * up e * 2 ^ 20 ≤ 1090226 * down e = bits-upper 0x3FF0_A2B2_0000_0000 545113 (negsuc 18) (unfold ofBits in refl) (lit< tt) {x = fin true m e} 1090226 (lit≤ tt) f (omega arith) .size in
-      let c : 363408 * down e ≤ 2 ^ 20 * (m * up e) = bits-lower 0x3FD6_2E43_0000_0000 1453635 (negsuc 21) (unfold ofBits in refl) (lit< tt) {x = fin true m e} 363408 (2 ^ 20) (lit≤ tt) f (unfold isNan in tt) (omega arith) .size in
+      let a : m * up e * 2 ^ 20 ≤ 1090226 * down e = bits-upper 0x3FF0_A2B2_0000_0000 545113 (negsuc 18) (unfold ofBits in refl)
+      (lit< tt) {x = fin true m e} 1090226 (lit≤ tt) f (omega arith) .size in
+      let c : 363408 * down e ≤ 2 ^ 20 * (m * up e) = bits-lower 0x3FD6_2E43_0000_0000 1453635 (negsuc 21) (unfold ofBits in refl)
+      (lit< tt) {x = fin true m e} 363408 (2 ^ 20) (lit≤ tt) f (unfold isNan in tt) (omega arith) .size in
       record { few = lit≤ tt; over = omega arith; under = omega arith }
 
   few-near : h ≤ 0x3FD6_2E42 → Near (expNear (fin true m e) (fin true m e) nought)
@@ -427,13 +521,16 @@ module _ (m : ℕ) (e : ℤ) (f : T (fits binary64 (fin true m e))) (small : m *
       near-series u u nought-under
 
   least-near : h ≤ 0x3E30_0000 → Near (one ⊕ fin true m e)
-  least-near l = one-near (bits-upper 0x3E30_0001_0000_0000 1048577 (negsuc 47) (unfold ofBits in refl) (lit< tt) {x = fin true m e} 1 (lit≤ tt) f (omega arith))
+  least-near l = one-near (bits-upper 0x3E30_0001_0000_0000 1048577 (negsuc 47) (unfold ofBits in refl) (lit< tt) {x = fin true m e} 1 (lit≤ tt) f
+      (omega arith))
 
   sized-near : Near (expSized (fin true m e) true h)
   unfolding expSized
   sized-near = go (leb 0x3FF0_A2B2 h) (ltb 0x3FD6_2E42 h) (ltb 0x3E30_0000 h) refl refl refl
     where
-      go : (x y z : Bool) → leb 0x3FF0_A2B2 h ≡ x → ltb 0x3FD6_2E42 h ≡ y → ltb 0x3E30_0000 h ≡ z → Near (pick x (expBy (fin true m e) true (foldsOf (fin true m e) true)) (pick y (expBy (fin true m e) true 1) (pick z (expNear (fin true m e) (fin true m e) nought) (one ⊕ fin true m e))))
+      go : (x y z : Bool) → leb 0x3FF0_A2B2 h ≡ x → ltb 0x3FD6_2E42 h ≡ y → ltb 0x3E30_0000 h ≡ z
+          → Near (pick x (expBy (fin true m e) true (foldsOf (fin true m e) true))
+          (pick y (expBy (fin true m e) true 1) (pick z (expNear (fin true m e) (fin true m e) nought) (one ⊕ fin true m e))))
       go true y z p q r = by-near m e (foldsOf (fin true m e) true) (reached (folded m e small))
       go false true z p q r = by-near m e 1 (once (leb-false 0x3FF0_A2B2 h p) (ltb-true 0x3FD6_2E42 h q))
       go false false true p q r = few-near (ltb-false 0x3FD6_2E42 h q)
@@ -469,7 +566,8 @@ module _ (m : ℕ) (e : ℤ) (f : T (fits binary64 (fin true m e))) where
   by-word : ltb (n / 0x1_0000_0000 % 0x8000_0000) 0x4086_232B ≡ true → m * up e ≤ 746 * down e
   by-word t =
       let l = ltb-true (n / 0x1_0000_0000 % 0x8000_0000) 0x4086_232B t in
-      let a : m * up e * 2 ^ 20 ≤ 742807040 * down e = bits-upper 0x4086_232B_0000_0000 1450795 (negsuc 10) (unfold ofBits in refl) (lit< tt) {x = fin true m e} 742807040 (lit≤ tt) f (omega (arith, high-word)) .size in
+      let a : m * up e * 2 ^ 20 ≤ 742807040 * down e = bits-upper 0x4086_232B_0000_0000 1450795 (negsuc 10) (unfold ofBits in refl)
+      (lit< tt) {x = fin true m e} 742807040 (lit≤ tt) f (omega (arith, high-word)) .size in
       omega arith
 
   by-test : lt (fin true m e) (neg zeroBelowMinus) ≡ false → m * up e ≤ 746 * down e
@@ -478,12 +576,14 @@ module _ (m : ℕ) (e : ℤ) (f : T (fits binary64 (fin true m e))) where
 
   minus-near : Near (expOf (fin true m e))
   unfolding expOf isNan
-  minus-near = go (ltb (n / 0x1_0000_0000 % 0x8000_0000) 0x4086_232B) (ne (fin true m e) (fin true m e)) (lt overflowAbove (fin true m e)) (lt (fin true m e) (neg zeroBelowMinus)) refl refl refl refl
+  minus-near = go (ltb (n / 0x1_0000_0000 % 0x8000_0000) 0x4086_232B) (ne (fin true m e) (fin true m e)) (lt overflowAbove (fin true m e))
+      (lt (fin true m e) (neg zeroBelowMinus)) refl refl refl refl
     where
       y : Float
       y = expSized (fin true m e) (leb 0x8000_0000_0000_0000 n) (n / 0x1_0000_0000 % 0x8000_0000)
 
-      go : (p q r s : Bool) → ltb (n / 0x1_0000_0000 % 0x8000_0000) 0x4086_232B ≡ p → ne (fin true m e) (fin true m e) ≡ q → lt overflowAbove (fin true m e) ≡ r → lt (fin true m e) (neg zeroBelowMinus) ≡ s
+      go : (p q r s : Bool) → ltb (n / 0x1_0000_0000 % 0x8000_0000) 0x4086_232B ≡ p → ne (fin true m e) (fin true m e) ≡ q
+          → lt overflowAbove (fin true m e) ≡ r → lt (fin true m e) (neg zeroBelowMinus) ≡ s
           → Near (pick p y (pick q (fin true m e) (pick r (fin true m e ⊗ x1p1023) (pick s nought y))))
       go true q r s P Q R S = below-near (by-word P)
       go false true r s P Q R S = absurd (subst (λ (z : Float). T (isNan z)) (sym (is-nan (fin true m e) Q)) tt)
@@ -497,7 +597,8 @@ exp-lowest = refl
 
 -- a zero with a plus sign is +0, and what else has one is above it
 zero-is : (e : ℤ) → T (fits binary64 (fin false 0 e)) → fin false 0 e ≡ nought
-zero-is e f = value-unique binary64 (fin false 0 e) nought false 0 1 (lit< tt) f (ofBits-fits binary64 0) (refl, none (up e) (down e)) (unfold ofBits in (refl, refl))
+zero-is e f = value-unique binary64 (fin false 0 e) nought false 0 1 (lit< tt) f (ofBits-fits binary64 0) (refl, none (up e) (down e))
+    (unfold ofBits in (refl, refl))
   where
     none : (u d : ℕ) → 0 * u * 1 ≡ 0 * d
     none u d = omega arith

@@ -22,7 +22,38 @@ use Rattle.sizes.proofs.Sizes.{real-most, nought-most, most-finite, div-most}
 use Rattle.sizes.proofs.Least.{real-least, least-above, div-least}
 use Rattle.sizes.proofs.Signs.{real-plus, mul-plus, div-plus, above-plus}
 use Rattle.sizes.proofs.Order.{lt-self}
-use Rattle.floats.specs.Logs.{two, bias, biasAfter54, Lg1, Lg2, Lg3, Lg4, Lg5, Lg6, Lg7, ln2hi, ln2lo, ivln2hi, ivln2lo, highWord, powerOf, restOf, halfSquare, seriesOf, logFrom, upperHalf, log2From, x1p54, isSubnormal, scaledBits, biasOf, inSequence, apartOf, logOf, log2Of}
+use Rattle.floats.specs.Logs.{
+  two,
+  bias,
+  biasAfter54,
+  Lg1,
+  Lg2,
+  Lg3,
+  Lg4,
+  Lg5,
+  Lg6,
+  Lg7,
+  ln2hi,
+  ln2lo,
+  ivln2hi,
+  ivln2lo,
+  highWord,
+  powerOf,
+  restOf,
+  halfSquare,
+  seriesOf,
+  logFrom,
+  upperHalf,
+  log2From,
+  x1p54,
+  isSubnormal,
+  scaledBits,
+  biasOf,
+  inSequence,
+  apartOf,
+  logOf,
+  log2Of,
+}
 use Rattle.float_sizes.specs.Fractions.{Under}
 use Rattle.float_sizes.proofs.Fractions.{under-most, most-under, under-weaken, add-under, sub-under, mul-under, div-under, left-least, near-under}
 use Rattle.float_sizes.proofs.BitOrder.{plain, bits-back, bits-upper, under-bits, bits-same, finite-bits, plus-bits}
@@ -41,7 +72,10 @@ module _ (u : ℕ) where
   mantissa-lt = omega arith
 
   mantissa-plus : Plus (bits mantissa)
-  mantissa-plus = let p = plain mantissa (omega (arith, mantissa-lt)) in record { sign = subst (λ (y : Float). T (isPlus y)) (sym (p .2)) (unfold isPlus in tt) }
+  mantissa-plus = let p = plain mantissa (omega (arith, mantissa-lt)) in record {
+    sign = subst (λ (y : Float). T (isPlus y)) (sym (p .2))
+        (unfold isPlus in tt);
+  }
 
   mantissa-under : Under (2 * U) (bits mantissa)
   mantissa-under =
@@ -106,8 +140,11 @@ module _ {f : Float} (h : Under U f) where
       let s : Under U (f ⊘ (two ⊕ f)) = div-under U (lit< tt) (lit< tt) (lit≤ tt) h (left-least 2 two U (lit< tt) (lit≤ tt) two-value h) in
       let z = times (lit< tt) s s in
       let w = times (lit< tt) z z in
-      let t1 = times (lit< tt) w (add-under (lit< tt) (constants .lg2) (times (lit< tt) w (add-under (lit< tt) (constants .lg4) (times (lit< tt) w (constants .lg6))))) in
-      let t2 = times (lit< tt) z (add-under (lit< tt) (constants .lg1) (times (lit< tt) w (add-under (lit< tt) (constants .lg3) (times (lit< tt) w (add-under (lit< tt) (constants .lg5) (times (lit< tt) w (constants .lg7))))))) in
+      let t1 = times (lit< tt) w (add-under (lit< tt) (constants .lg2)
+      (times (lit< tt) w (add-under (lit< tt) (constants .lg4) (times (lit< tt) w (constants .lg6))))) in
+      let t2 = times (lit< tt) z (add-under (lit< tt) (constants .lg1)
+      (times (lit< tt) w (add-under (lit< tt) (constants .lg3)
+      (times (lit< tt) w (add-under (lit< tt) (constants .lg5) (times (lit< tt) w (constants .lg7))))))) in
       times (lit< tt) s (add-under (lit< tt) square-under (add-under (lit< tt) t2 t1))
 
 -- ---- k
@@ -159,7 +196,8 @@ log2-from {k} {f} kh fh =
     let hi = upper-under (sub-fits binary64 f (halfSquare f)) (sub-under (lit< tt) fh hfsq) in
     let lo = add-under (lit< tt) (sub-under (lit< tt) (sub-under (lit< tt) fh hi) hfsq) (series-under fh) in
     let valHi = mul-under (4 * U) (lit< tt) (lit≤ tt) hi (constants .ivln2hi-under) in
-    let valLo = add-under (lit< tt) (mul-under 14 (lit< tt) (lit≤ tt) (add-under (lit< tt) lo hi) (constants .ivln2lo-under)) (mul-under (24 * U) (lit< tt) (lit≤ tt) lo (constants .ivln2hi-under)) in
+    let valLo = add-under (lit< tt) (mul-under 14 (lit< tt) (lit≤ tt) (add-under (lit< tt) lo hi) (constants .ivln2lo-under))
+    (mul-under (24 * U) (lit< tt) (lit≤ tt) lo (constants .ivln2hi-under)) in
     let w = add-under (lit< tt) kh valHi in
     under-most 4096 (lit≤ tt) (add-under (lit< tt) (add-under (lit< tt) valLo (add-under (lit< tt) (sub-under (lit< tt) kh w) valHi)) w)
 
@@ -187,7 +225,9 @@ module _ (x : Float) (f : T (fits binary64 x)) (h : T (finite x)) (a : lt nought
   power-under = go (isSubnormal n)
     where
       go : (b : Bool) → Under (1077 * U) (powerOf (pick b (toBits binary64 (x ⊗ x1p54)) n) (pick b biasAfter54 bias))
-      go true = power-near 1077 (toBits binary64 (x ⊗ x1p54)) biasAfter54 (lit≤ tt) (lit≤ tt) (plus-bits (mul-fits binary64 x x1p54) (mul-plus binary64 h (unfold ofBits in tt) (above-plus x a) (record { sign = unfold ofBits isPlus in tt }))) bias54-value
+      go true = power-near 1077 (toBits binary64 (x ⊗ x1p54)) biasAfter54 (lit≤ tt) (lit≤ tt)
+          (plus-bits (mul-fits binary64 x x1p54) (mul-plus binary64 h (unfold ofBits in tt) (above-plus x a)
+          (record { sign = unfold ofBits isPlus in tt }))) bias54-value
       go false = power-near 1023 n bias (lit≤ tt) (lit≤ tt) (omega (arith, n-lt)) bias-value
 
   -- without the sequence only 1 is left
@@ -208,17 +248,20 @@ module _ (x : Float) (f : T (fits binary64 x)) (h : T (finite x)) (a : lt nought
 
   pub log-most : AtMost 1024 (logOf x)
   unfolding logOf
-  log-most = in-sequence-most 1024 (logFrom (powerOf (scaledBits x n) (biasOf n)) (restOf (scaledBits x n))) (log-from power-under (rest-under (scaledBits x n)))
+  log-most = in-sequence-most 1024 (logFrom (powerOf (scaledBits x n) (biasOf n)) (restOf (scaledBits x n)))
+      (log-from power-under (rest-under (scaledBits x n)))
 
   pub log2-most : AtMost 4096 (log2Of x)
   unfolding log2Of
-  log2-most = in-sequence-most 4096 (log2From (powerOf (scaledBits x n) (biasOf n)) (restOf (scaledBits x n))) (log2-from power-under (rest-under (scaledBits x n)))
+  log2-most = in-sequence-most 4096 (log2From (powerOf (scaledBits x n) (biasOf n)) (restOf (scaledBits x n)))
+      (log2-from power-under (rest-under (scaledBits x n)))
 
 -- ---- the quotient of two whole numbers, as a beat's interval by the period
 
 module _ (m n : ℕ) (m-pos : 1 ≤ m) (m-le : m ≤ 2 ^ 20) (n-pos : 1 ≤ n) (n-le : n ≤ 2 ^ 20) where
   ratio-most : AtMost (2 ^ 20) (real m ⊘ real n)
-  ratio-most = div-most (lit< tt) (held-short (lit< tt)) (lit≤ tt) (real-most {N = 2 ^ 20} m (omega arith) m-le) (real-least {p = 1} {q = 1} n (omega arith) (omega arith))
+  ratio-most = div-most (lit< tt) (held-short (lit< tt)) (lit≤ tt) (real-most {N = 2 ^ 20} m (omega arith) m-le)
+      (real-least {p = 1} {q = 1} n (omega arith) (omega arith))
 
   divisor-above : lt nought (real n) ≡ true
   divisor-above = least-above (lit< tt) (real-plus n) (real-least {p = 1} {q = 1} n (omega arith) (omega arith))
@@ -227,7 +270,8 @@ module _ (m n : ℕ) (m-pos : 1 ≤ m) (m-le : m ≤ 2 ^ 20) (n-pos : 1 ≤ n) (
   ratio-above =
       least-above (lit< tt)
       (div-plus binary64 (real n) (most-finite (real-most {N = 2 ^ 20} m (omega arith) m-le)) (real-plus m) divisor-above)
-      (div-least (lit< tt) (lit< tt) (held-part 20 (lit≤ tt)) (lit≤ tt) (real-least {p = 1} {q = 1} m (omega arith) (omega arith)) (real-most {N = 2 ^ 20} n (omega arith) n-le))
+      (div-least (lit< tt) (lit< tt) (held-part 20 (lit≤ tt)) (lit≤ tt) (real-least {p = 1} {q = 1} m (omega arith) (omega arith))
+      (real-most {N = 2 ^ 20} n (omega arith) n-le))
 
   pub log-ratio-most : AtMost 1024 (logOf (real m ⊘ real n))
   log-ratio-most = log-most (real m ⊘ real n) (div-fits binary64 (real m) (real n)) (most-finite ratio-most) ratio-above

@@ -50,13 +50,15 @@ unfolding log2Of toBits ofBits ofInt add sub mul div neg
 log2-specials = refl
 
 -- 1 twice, +infinity, +0, the NaN, and 0.36787944117144233
-exp-specials : answers expOf specials ≡ 0x3FF0_0000_0000_0000 ∷ 0x3FF0_0000_0000_0000 ∷ 0x7FF0_0000_0000_0000 ∷ 0 ∷ 0x7FF8_0000_0000_0000 ∷ 0x3FD7_8B56_362C_EF38 ∷ []
+exp-specials : answers expOf specials ≡ 0x3FF0_0000_0000_0000 ∷ 0x3FF0_0000_0000_0000 ∷ 0x7FF0_0000_0000_0000 ∷ 0 ∷ 0x7FF8_0000_0000_0000 ∷
+    0x3FD7_8B56_362C_EF38 ∷ []
 unfolding expOf toBits ofBits ofInt add sub mul div neg lt ne toUnsigned
 exp-specials = refl
 
 -- 0.49999999999999994, 0.5, 0.5000000000000001, 1.5, 2.5, 4503599627370495.5, 2 ^ 53, 2 ^ 64, -2.5, the NaN
 abbrev halves : List ℕ
-halves = 0x3FDF_FFFF_FFFF_FFFF ∷ 0x3FE0_0000_0000_0000 ∷ 0x3FE0_0000_0000_0001 ∷ 0x3FF8_0000_0000_0000 ∷ 0x4004_0000_0000_0000 ∷ 0x432F_FFFF_FFFF_FFFF ∷ 0x4340_0000_0000_0000 ∷ 0x43F0_0000_0000_0000 ∷ 0xC004_0000_0000_0000 ∷ 0x7FF8_0000_0000_0000 ∷ []
+halves = 0x3FDF_FFFF_FFFF_FFFF ∷ 0x3FE0_0000_0000_0000 ∷ 0x3FE0_0000_0000_0001 ∷ 0x3FF8_0000_0000_0000 ∷ 0x4004_0000_0000_0000 ∷ 0x432F_FFFF_FFFF_FFFF
+    ∷ 0x4340_0000_0000_0000 ∷ 0x43F0_0000_0000_0000 ∷ 0xC004_0000_0000_0000 ∷ 0x7FF8_0000_0000_0000 ∷ []
 
 round-halves : map (λ (n : ℕ). roundOf (bits n)) halves ≡ 0 ∷ 1 ∷ 1 ∷ 2 ∷ 3 ∷ 4503599627370496 ∷ 9007199254740992 ∷ 18446744073709551615 ∷ 0 ∷ 0 ∷ []
 unfolding roundOf ofBits

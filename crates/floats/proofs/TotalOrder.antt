@@ -4,7 +4,22 @@ use Prim.Native.Nat.{ℕ, zero, suc, _+_, _-_, _*_, _/_, _%_, _^_, _≤_, _<_}
 use mathlib.Core.Path.{_≡_, refl, sym, ap, _∙_, subst}
 use mathlib.Core.Logic.{_⊎_, inl, inr, ⊎-elim}
 use mathlib.Core.Bool.{Bool, true, false, _&&_, cond}
-use native.Mathlib.Nat.{le-trans, le-of-eq, zero-mul, mul-right-comm, mul-le-mul-right, mul-pos, lt-irrefl, add-assoc, le-of-lt, mul-lt-mul-of-pos-right, lt-of-le-of-lt, eq-or-lt-of-le, le-div-iff-mul-le, div-lt-iff-lt-mul}
+use native.Mathlib.Nat.{
+  le-trans,
+  le-of-eq,
+  zero-mul,
+  mul-right-comm,
+  mul-le-mul-right,
+  mul-pos,
+  lt-irrefl,
+  add-assoc,
+  le-of-lt,
+  mul-lt-mul-of-pos-right,
+  lt-of-le-of-lt,
+  eq-or-lt-of-le,
+  le-div-iff-mul-le,
+  div-lt-iff-lt-mul,
+}
 use native.Mathlib.Omega.{arith}
 use lib.IntN.{ℤ, pos}
 use lib.Dec.{T, ltb, leb, eqb, ltb→lt, lit<}
@@ -21,7 +36,8 @@ use Rattle.floats.specs.TotalOrder.{turned, key}
 
 -- ---- the key is one-to-one
 
-pub turned-at : (b : ℕ) → ((b < 9223372036854775808) × (turned b ≡ b + 9223372036854775808)) ⊎ ((9223372036854775808 ≤ b) × (turned b ≡ 18446744073709551615 - b))
+pub turned-at : (b : ℕ) → ((b < 9223372036854775808) × (turned b ≡ b + 9223372036854775808))
+    ⊎ ((9223372036854775808 ≤ b) × (turned b ≡ 18446744073709551615 - b))
 unfolding turned
 turned-at b = go (which (ltb b 9223372036854775808))
   where
@@ -67,7 +83,12 @@ pub mag-mono : (a b : ℕ) → a ≤ b → mag a ≤ mag b
 mag-mono a b h =
     let s = size-mono a b h in
     ⊎-elim
-    (λ (e : size a - 53 ≡ size b - 53). omega (arith, ap (λ (z : ℕ). z * 4503599627370496) e, subst (λ (z : ℕ). a / 2 ^ (size a - 53) ≤ b / 2 ^ z) e (shr-mono (size a - 53) h)))
+    (λ (e : size a - 53 ≡ size b - 53). omega (
+      arith,
+      ap (λ (z : ℕ). z * 4503599627370496) e,
+      subst (λ (z : ℕ). a / 2 ^ (size a - 53) ≤ b / 2 ^ z) e
+          (shr-mono (size a - 53) h),
+    ))
     (λ (l : size a - 53 < size b - 53). omega (arith, mag-lt a, mag-ge b (omega arith)))
     (eq-or-lt-of-le (omega arith))
 
@@ -90,7 +111,8 @@ mag-small s m e h = omega (arith, bits-fin true m e, toBits-lt binary64 (fin tru
 
 units-lt : (s : Bool) (m : ℕ) (e : ℤ) → T (fits binary64 (fin s m e)) → units m e < 2 ^ 2098
 unfolding fits
-units-lt s zero e h = div-lt-iff-lt-mul (down-pos e) .1 (subst (λ (z : ℕ). z < 2 ^ 2098 * down e) (sym (ap (λ (z : ℕ). z * 2 ^ 1074) (zero-mul (up e)) ∙ zero-mul (2 ^ 1074))) (mul-pos (pow-pos 2098) (down-pos e)))
+units-lt s zero e h = div-lt-iff-lt-mul (down-pos e) .1 (subst (λ (z : ℕ). z < 2 ^ 2098 * down e)
+    (sym (ap (λ (z : ℕ). z * 2 ^ 1074) (zero-mul (up e)) ∙ zero-mul (2 ^ 1074))) (mul-pos (pow-pos 2098) (down-pos e)))
 units-lt s (suc m) e h =
     let A = eqb (suc m % 2) 1 in
     let B = ltb (suc m) (2 ^ 53) in
@@ -129,7 +151,8 @@ key-bottom = refl
 pub units-mono : (m : ℕ) (e : ℤ) (n : ℕ) (d : ℤ) → m * up e * down d ≤ n * up d * down e → units m e ≤ units n d
 units-mono m e n d h =
     div-mono (m * up e * 2 ^ 1074) (down e) (n * up d * 2 ^ 1074) (down d) (down-pos e) (down-pos d)
-    (le-trans (le-of-eq (mul-right-comm (m * up e) (2 ^ 1074) (down d))) (le-trans (mul-le-mul-right (2 ^ 1074) h) (le-of-eq (mul-right-comm (n * up d) (down e) (2 ^ 1074)))))
+    (le-trans (le-of-eq (mul-right-comm (m * up e) (2 ^ 1074) (down d)))
+    (le-trans (mul-le-mul-right (2 ^ 1074) h) (le-of-eq (mul-right-comm (n * up d) (down e) (2 ^ 1074)))))
 
 key-le : (x y : Float) → T (fits binary64 x) → T (fits binary64 y) → T (lt x y) → key x ≤ key y
 unfolding lt
@@ -147,10 +170,22 @@ key-le (fin true m e) (inf false) f g h = omega (arith, key-top, key-minus m e)
 key-le (fin false m e) (inf false) f g h = omega (arith, key-top, key-plus m e f, mag-inf false m e f)
 key-le (fin false m e) (fin true n d) f g h = absurd h
 key-le (fin false m e) (fin false n d) f g h =
-    omega (arith, key-plus m e f, key-plus n d g, mag-mono (units m e) (units n d) (units-mono m e n d (le-of-lt (ltb→lt (m * up e * down d) (n * up d * down e) h))))
+    omega (
+      arith,
+      key-plus m e f,
+      key-plus n d g,
+      mag-mono (units m e) (units n d)
+          (units-mono m e n d (le-of-lt (ltb→lt (m * up e * down d) (n * up d * down e) h))),
+    )
 key-le (fin true m e) (fin false n d) f g h = omega (arith, key-minus m e, key-plus n d g)
 key-le (fin true m e) (fin true n d) f g h =
-    omega (arith, key-minus m e, key-minus n d, mag-mono (units n d) (units m e) (units-mono n d m e (le-of-lt (ltb→lt (n * up d * down e) (m * up e * down d) h))))
+    omega (
+      arith,
+      key-minus m e,
+      key-minus n d,
+      mag-mono (units n d) (units m e)
+          (units-mono n d m e (le-of-lt (ltb→lt (n * up d * down e) (m * up e * down d) h))),
+    )
 
 never-below-itself : (x : Float) → T (lt x x) → ⊥
 unfolding lt

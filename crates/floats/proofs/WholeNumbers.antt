@@ -2,7 +2,33 @@
 -- that halving its whole part upwards rounds half up; from 2 ^ 52 on a value of the format is whole. Assumes nothing.
 use mathlib.Core.Path.{_≡_, refl, sym, ap, subst, _∙_}
 use Prim.Native.Nat.{ℕ, zero, suc, _+_, _-_, _*_, _/_, _%_, _^_, _≤_, _<_, min, compare, zero-le}
-use native.Mathlib.Nat.{add-mul, mul-assoc, mul-comm, mul-left-comm, mul-right-comm, le-of-eq, le-of-suc-le-suc, le-trans, suc-mul, mul-one, one-mul, mul-pos, mul-le-mul-left, mul-le-mul-right, div-mul-le-self, div-add-mod', mod-lt, add-div-right, div-div-eq-div-mul, div-lt-iff-lt-mul, le-div-iff-mul-le, lt-of-lt-of-le, lt-irrefl, lt-of-mul-lt-mul-right, mul-lt-mul-of-pos-right}
+use native.Mathlib.Nat.{
+  add-mul,
+  mul-assoc,
+  mul-comm,
+  mul-left-comm,
+  mul-right-comm,
+  le-of-eq,
+  le-of-suc-le-suc,
+  le-trans,
+  suc-mul,
+  mul-one,
+  one-mul,
+  mul-pos,
+  mul-le-mul-left,
+  mul-le-mul-right,
+  div-mul-le-self,
+  div-add-mod',
+  mod-lt,
+  add-div-right,
+  div-div-eq-div-mul,
+  div-lt-iff-lt-mul,
+  le-div-iff-mul-le,
+  lt-of-lt-of-le,
+  lt-irrefl,
+  lt-of-mul-lt-mul-right,
+  mul-lt-mul-of-pos-right,
+}
 use native.Mathlib.Decide.{decLt, decLe}
 use native.Mathlib.Omega.{arith}
 use mathlib.Core.Bool.{Bool, true, false, _&&_, cond}
@@ -52,7 +78,8 @@ ltb-scale x y d p = go (decLt x y)
 
 up-law : (a d : ℕ) (b : Bool) → 0 < d → ltb (a / d * d) a ≡ b → pick b (a / d + 1) (a / d) ≡ (a + d - 1) / d
 up-law a d true p h =
-    sym (div-is (a + d - 1) d (a / d + 1) p (omega (arith, one-more (a / d) d, ltb-true (a / d * d) a h, div-add-mod' a d, mod-lt a p)) (omega (arith, one-more (a / d) d, one-more (a / d + 1) d, div-add-mod' a d, mod-lt a p)))
+    sym (div-is (a + d - 1) d (a / d + 1) p (omega (arith, one-more (a / d) d, ltb-true (a / d * d) a h, div-add-mod' a d, mod-lt a p))
+    (omega (arith, one-more (a / d) d, one-more (a / d + 1) d, div-add-mod' a d, mod-lt a p)))
 up-law a d false p h =
     sym (div-is (a + d - 1) d (a / d) p (omega (arith, div-add-mod' a d)) (omega (arith, one-more (a / d) d, ltb-false (a / d * d) a h, div-mul-le-self a d)))
 
@@ -65,7 +92,8 @@ below-law t m e (fin false n d) v =
     let q : n * up d * down e ≡ t * down e * down d = ap (λ (x : ℕ). x * down e) (sym (mul-one (n * up d)) ∙ v .1) ∙ mul-right-comm t (down d) (down e) in
     rw q (ltb-scale (t * down e) (m * up e) (down d) (down-pos d))
 
-ceil-small : (m : ℕ) (e : ℤ) → m * up e / down e < 2 ^ 52 → pick (lt (real (m * up e / down e)) (fin false m e)) (m * up e / down e + 1) (m * up e / down e) ≡ ceilingOver (m * up e) (down e)
+ceil-small : (m : ℕ) (e : ℤ) → m * up e / down e < 2 ^ 52 → pick (lt (real (m * up e / down e)) (fin false m e)) (m * up e / down e + 1)
+    (m * up e / down e) ≡ ceilingOver (m * up e) (down e)
 unfolding ofInt
 ceil-small m e h =
     rw (below-law (m * up e / down e) m e _ (round-whole binary64 false (m * up e / down e) (omega arith)))
@@ -92,12 +120,16 @@ place : (e : ℤ) → down e ≤ 2 ^ 1074 → (j : ℕ) × ((m : ℕ) → m * up
 place (pos k) h = (k + 1074, λ m. mul-assoc m (2 ^ k) (2 ^ 1074) ∙ ap (λ (x : ℕ). m * x) (sym (pow-add 2 k 1074)) ∙ sym (mul-one (m * 2 ^ (k + 1074))))
 place (negsuc k) h =
     let l : suc k ≤ 1074 = pow-le-back (suc k) 1074 h in
-    let z : 1074 ≡ 1074 - suc k + suc k = omega arith in
-    (1074 - suc k, λ m. ap (λ (x : ℕ). x * 2 ^ 1074) (mul-one m) ∙ ap (λ (x : ℕ). m * x) (ap (λ (x : ℕ). 2 ^ x) z ∙ pow-add 2 (1074 - suc k) (suc k)) ∙ sym (mul-assoc m (2 ^ (1074 - suc k)) (2 ^ suc k)))
+    let z : 1074 ≡ 1074 - suc k + suc k = omega arith in (
+      1074 - suc k,
+      λ m. ap (λ (x : ℕ). x * 2 ^ 1074) (mul-one m) ∙ ap (λ (x : ℕ). m * x) (ap (λ (x : ℕ). 2 ^ x) z ∙ pow-add 2 (1074 - suc k) (suc k))
+          ∙ sym (mul-assoc m (2 ^ (1074 - suc k)) (2 ^ suc k)),
+    )
 
 room : (w a d : ℕ) → 0 < d → w * d ≡ a * 2 ^ 1074 → a < 2 ^ 62 * d → w * 2 < 2 ^ 2098
 room w a d p e c =
-    let h : w * d < 2 ^ 62 * 2 ^ 1074 * d = rw e (lt-of-lt-of-le (mul-lt-mul-of-pos-right c (pow-pos 1074)) (le-of-eq (mul-right-comm (2 ^ 62) d (2 ^ 1074)))) in
+    let h : w * d < 2 ^ 62 * 2 ^ 1074 * d = rw e (lt-of-lt-of-le (mul-lt-mul-of-pos-right c (pow-pos 1074))
+    (le-of-eq (mul-right-comm (2 ^ 62) d (2 ^ 1074)))) in
     let g : w < 2 ^ 1136 = lt-of-mul-lt-mul-right d h in
     lt-of-lt-of-le (mul-lt-mul-of-pos-right g (lit< tt)) (lit≤ tt)
 
@@ -184,7 +216,8 @@ half-exact m e f h =
     let d = down-pos e in
     let v = double m e (b .0) (b .1) (omega arith) in
     let q : (m * up e * down e + m * up e * down e) / (down e * down e) ≡ (m * up e + m * up e) / down e =
-    div-same _ _ (m * up e + m * up e) (down e) (mul-pos d d) d (ap (λ (y : ℕ). y * down e) (sym (add-mul (m * up e) (m * up e) (down e))) ∙ mul-assoc (m * up e + m * up e) (down e) (down e)) in
+    div-same _ _ (m * up e + m * up e) (down e) (mul-pos d d) d
+    (ap (λ (y : ℕ). y * down e) (sym (add-mul (m * up e) (m * up e) (down e))) ∙ mul-assoc (m * up e + m * up e) (down e) (down e)) in
     let l : (m * up e + m * up e) / down e < 2 ^ 64 = div-lt-iff-lt-mul d .1 (omega arith) in
     let l2 : (m * up e * down e + m * up e * down e) / (down e * down e) < 2 ^ 64 = rw q l in
     value-cut _ _ _ (mul-pos d d) v l2 ∙ q
@@ -196,12 +229,14 @@ round-below nan f h = unfold toUnsigned add roundOf in refl
 round-below (inf true) f h = unfold toUnsigned add roundOf in refl
 round-below (inf false) f h = true-not-false (lt (inf false) (bits 0x4330_0000_0000_0000)) h (unfold lt ofBits in refl)
 round-below (fin true m e) f h =
-    let z : toUnsigned 64 (add binary64 (fin true m e) (fin true m e)) ≡ 0 = unfold add sum in minus-cut (m * up e * down e + m * up e * down e) (down e * down e) in
+    let z : toUnsigned 64 (add binary64 (fin true m e) (fin true m e)) ≡ 0 =
+    unfold add sum in minus-cut (m * up e * down e + m * up e * down e) (down e * down e) in
     rw z (unfold roundOf in refl)
 round-below (fin false m e) f h =
     let l = ltb-true (m * up e) (2 ^ 52 * down e) (below-52 m e true (rw two52 at h)) in
     let d = down-pos e in
-    let n : nearestOver (m * up e) (down e) < 2 ^ 53 = div-lt-iff-lt-mul (mul-pos (lit< {m = 0} {n = 2} tt) d) .1 (omega (arith, mul-left-comm (2 ^ 53) 2 (down e))) in
+    let n : nearestOver (m * up e) (down e) < 2 ^ 53 = div-lt-iff-lt-mul (mul-pos (lit< {m = 0} {n = 2} tt) d) .1
+    (omega (arith, mul-left-comm (2 ^ 53) 2 (down e))) in
     let r : min (nearestOver (m * up e) (down e)) most ≡ roundOf (fin false m e) = unfold roundOf in refl in
     rw (half-exact m e f l) (half-law (m * up e) (down e) d ∙ held-back _ (2 ^ 53) (omega arith) (lit< tt) ∙ r)
 

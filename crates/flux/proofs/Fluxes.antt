@@ -64,7 +64,8 @@ flux-same s s′ slab (suc t) e f =
     ap (λ (r : List Float). sumOf (rises r (row s′ b (suc t)))) e′ ∙ ap (λ (r : List Float). sumOf (rises (row s b t) r)) f
 
 -- k rows from row a on are replaced: a slot outside a up to and with a + k stays
-module _ (s new : List Float) (slab : Slab) (a k : ℕ) (whole : length s ≡ slabSlots slab) (rows : length new ≡ k * slab .bins) (inside : a + k ≤ slab .rows) where
+module _ (s new : List Float) (slab : Slab) (a k : ℕ) (whole : length s ≡ slabSlots slab) (rows : length new ≡ k * slab .bins)
+    (inside : a + k ≤ slab .rows) where
   other-row : (t : ℕ) → (t < a) ⊎ (a + k ≤ t) → slabRow (over s (a * slab .bins) new) slab t ≡ slabRow s slab t
   other-row t h = row-over s new (slab .rows) (slab .bins) a k nan whole rows inside t h
 

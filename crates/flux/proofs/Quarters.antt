@@ -12,7 +12,8 @@ use Rattle.numbers.specs.Lists.{filled}
 
 module _ {A : Type 0} (f : ℕ → A) (z : A) where
   -- a store outside the slots that are written may be made before them
-  set-outside : (d : List A) (a t : ℕ) → a ≤ t → t ≤ length d → (i : ℕ) (x : A) → i < length d → (i < a) ⊎ (t ≤ i) → set (filled f d a t) i x ≡ filled f (set d i x) a t
+  set-outside : (d : List A) (a t : ℕ) → a ≤ t → t ≤ length d → (i : ℕ) (x : A) → i < length d → (i < a) ⊎ (t ≤ i)
+      → set (filled f d a t) i x ≡ filled f (set d i x) a t
   set-outside d a t h k i x b o =
       let l : length (filled f d a t) ≡ length d = length-filled f d a t h k in
       let m : length (set d i x) ≡ length d = length-set d i x in
@@ -26,7 +27,8 @@ module _ {A : Type 0} (f : ℕ → A) (z : A) where
       (λ (w : i < j). elsewhere j (λ (e : j ≡ i). absurd (omega arith)))
       (λ (w : j ≤ i).
       let e : j ≡ i = omega arith in
-      ap (λ (p : ℕ). getD (set (filled f d a t) i x) p z) e ∙ getD-set-same (filled f d a t) i x z (omega (arith, l)) ∙ sym (ap (λ (p : ℕ). getD (filled f (set d i x) a t) p z) e ∙ at-i))
+      ap (λ (p : ℕ). getD (set (filled f d a t) i x) p z) e ∙ getD-set-same (filled f d a t) i x z (omega (arith, l))
+      ∙ sym (ap (λ (p : ℕ). getD (filled f (set d i x) a t) p z) e ∙ at-i))
       (lt-or-le i j))
       (lt-or-le j i))
     where
@@ -111,7 +113,8 @@ module _ {A : Type 0} (f : ℕ → A) (z : A) where
     in-four e l = next-slot (length d) e (a + 3 * q) k (a + k + 3 * q) l (omega arith) (omega arith)
 
     -- one slot more of each run
-    pub quartered-more : set (set (set (set (quartered d a q k) (a + k) (f (a + k))) (a + k + q) (f (a + k + q))) (a + k + 2 * q) (f (a + k + 2 * q))) (a + k + 3 * q) (f (a + k + 3 * q))
+    pub quartered-more : set (set (set (set (quartered d a q k) (a + k) (f (a + k))) (a + k + q) (f (a + k + q))) (a + k + 2 * q) (f (a + k + 2 * q)))
+        (a + k + 3 * q) (f (a + k + 3 * q))
         ≡ quartered d a q (k + 1)
     quartered-more =
         let l1 = as-long (length d) d a (k + 1) refl (omega arith) in

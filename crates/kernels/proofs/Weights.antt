@@ -49,9 +49,12 @@ weightBits =
     ∷ (0x3FE8_27A5_6188_9716 ∷ 0x3FE7_6965_2DF2_2F7E ∷ 0x3FE5_510C_67CD_2590 ∷ 0x3FE2_3BA9_30C1_568B ∷ [])
     ∷ (0x3FE3_68B2_FC6F_960A ∷ 0x3FE2_CFD4_0F8B_DCAE ∷ 0x3FE1_20DC_9349_93E8 ∷ 0x3FDD_4D24_4CF4_EA9E ∷ 0x3FD7_8B56_362C_EF38 ∷ [])
     ∷ (0x3FDD_4D24_4CF4_EA9E ∷ 0x3FDC_665B_1E1F_1E0D ∷ 0x3FD9_DBBC_01E1_8268 ∷ 0x3FD6_1E28_AD07_8F7F ∷ 0x3FD1_C5AC_27EB_1E31 ∷ 0x3FCA_D48B_C257_71C8 ∷ [])
-    ∷ (0x3FD4_C71B_2477_AB20 ∷ 0x3FD4_2374_4F73_7662 ∷ 0x3FD2_5618_372A_584F ∷ 0x3FCF_5E24_CCCC_C19A ∷ 0x3FC9_3466_DA99_EE64 ∷ 0x3FC3_0687_4452_A30B ∷ 0x3FBA_FB71_8E84_57F7 ∷ [])
-    ∷ (0x3FCB_AE93_B566_3054 ∷ 0x3FCA_D48B_C257_71C8 ∷ 0x3FC8_6DE1_DA86_59AD ∷ 0x3FC4_E53A_9C9A_B086 ∷ 0x3FC0_CA39_E937_2C68 ∷ 0x3FB9_58F1_56C9_C2AE ∷ 0x3FB1_F959_72C8_7E29 ∷ 0x3FA7_F251_AB1A_F77C ∷ [])
-    ∷ (0x3FC1_52AA_A3BF_81CC ∷ 0x3FC0_CA39_E937_2C68 ∷ 0x3FBE_9328_B4C5_0F6C ∷ 0x3FBA_26EC_83A7_2AE4 ∷ 0x3FB5_0385_C094_F425 ∷ 0x3FAF_B95A_6B50_EA89 ∷ 0x3FA6_7EE6_D9FF_847C ∷ 0x3F9D_F882_DFED_7BCA ∷ 0x3F92_C155_B821_3CF4 ∷ [])
+    ∷ (0x3FD4_C71B_2477_AB20 ∷ 0x3FD4_2374_4F73_7662 ∷ 0x3FD2_5618_372A_584F ∷ 0x3FCF_5E24_CCCC_C19A ∷ 0x3FC9_3466_DA99_EE64 ∷ 0x3FC3_0687_4452_A30B ∷
+    0x3FBA_FB71_8E84_57F7 ∷ [])
+    ∷ (0x3FCB_AE93_B566_3054 ∷ 0x3FCA_D48B_C257_71C8 ∷ 0x3FC8_6DE1_DA86_59AD ∷ 0x3FC4_E53A_9C9A_B086 ∷ 0x3FC0_CA39_E937_2C68 ∷ 0x3FB9_58F1_56C9_C2AE ∷
+    0x3FB1_F959_72C8_7E29 ∷ 0x3FA7_F251_AB1A_F77C ∷ [])
+    ∷ (0x3FC1_52AA_A3BF_81CC ∷ 0x3FC0_CA39_E937_2C68 ∷ 0x3FBE_9328_B4C5_0F6C ∷ 0x3FBA_26EC_83A7_2AE4 ∷ 0x3FB5_0385_C094_F425 ∷ 0x3FAF_B95A_6B50_EA89 ∷
+    0x3FA6_7EE6_D9FF_847C ∷ 0x3F9D_F882_DFED_7BCA ∷ 0x3F92_C155_B821_3CF4 ∷ [])
     ∷ []
 
 unfoldable pub known : (a b : ℕ) → Float
@@ -66,7 +69,8 @@ tested b a =
     && (sameFloat (one ⊗ known a b) (known a b) && (sameFloat (neg one ⊗ known a b) (neg (known a b)) && similarityFine (known a b)))
 
 all-tested : every (λ b. every (tested b) (curve (λ a. a) (b + 1))) (curve (λ b. b) 9) ≡ true
-unfolding every tested similarityFine weightOf expOf expAt expSized foldsOf expBy expLess expNear scaleUp scaleDown timesUp timesDown ofBits toBits ofInt toUnsigned add sub mul div neg le lt ne sum round units size span climb odd ofFields
+unfolding every tested similarityFine weightOf expOf expAt expSized foldsOf expBy expLess expNear scaleUp scaleDown timesUp timesDown ofBits toBits
+    ofInt toUnsigned add sub mul div neg le lt ne sum round units size span climb odd ofFields
 all-tested = refl
 
 every-below : (p : ℕ → Bool) (n k : ℕ) → every p (curve (λ i. i) n) ≡ true → k < n → p k ≡ true
@@ -83,7 +87,8 @@ record Known (w x : Float) : Type 0 where
 known-at : (a b : ℕ) → a ≤ b → b < 9 → Known (weightOf (a * a + b * b)) (known a b)
 unfolding tested
 known-at a b h k =
-    let t : tested b a ≡ true = every-below (tested b) (b + 1) a (every-below (λ b. every (tested b) (curve (λ a. a) (b + 1))) 9 b all-tested k) (omega arith) in
+    let t : tested b a ≡ true = every-below (tested b) (b + 1) a (every-below (λ b. every (tested b) (curve (λ a. a) (b + 1))) 9 b all-tested k)
+    (omega arith) in
     let x = known a b in
     let w = weightOf (a * a + b * b) in
     let t2 = and-right (sameFloat w x) _ t in

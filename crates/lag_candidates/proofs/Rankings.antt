@@ -12,12 +12,11 @@ use lib.Dec.{eqb}
 use lib.ListN.{length, getD}
 use lib.Ieee.{Float, nan, lt, le}
 use Rattle.numbers.specs.Rounded.{nought, pick}
-use Rattle.numbers.proofs.Tests.{pick-true, pick-false, and-right}
+use Rattle.numbers.proofs.Tests.{pick-true, pick-false, and-right, by-pick}
 use Rattle.sizes.specs.Sizes.{Each, none, more}
 use Rattle.sizes.proofs.Lists.{each-map}
 use Rattle.sizes.proofs.Order.{lt-is-le, lt-right, not-lt, le-then-lt}
 use Rattle.lag_candidates.specs.Candidates.{leftFine, rightFine, maximumAt, ahead, inserted, rankedTo, ranked, firstPassing}
-use Rattle.lag_candidates.proofs.Choices.{by-pick}
 
 -- what the first that passes is: none does, or it has what each has
 pub first-cases : (P : ℕ → Type 0) (p : ℕ → Bool) (js : List ℕ) (n : ℕ) → Each P js → (firstPassing p js n ≡ n) ⊎ P (firstPassing p js n)
@@ -62,7 +61,8 @@ module _ (ws : List Float) where
     not-less j q h b = not-lt (at j) (at t) (lt-right nought (at j) q) (lt-right nought (at t) pos) (sym (ahead-later t j h) ∙ b)
 
     -- slot t stands before slots j and js
-    all-below : (j : ℕ) (js : List ℕ) → j < t → lt nought (at j) ≡ true → ahead ws t j ≡ true → Each (λ k. le (at k) (at j) ≡ true) js → Each (λ k. lt (at k) (at t) ≡ true) (j ∷ js)
+    all-below : (j : ℕ) (js : List ℕ) → j < t → lt nought (at j) ≡ true → ahead ws t j ≡ true → Each (λ k. le (at k) (at j) ≡ true) js
+        → Each (λ k. lt (at k) (at t) ≡ true) (j ∷ js)
     all-below j js h q b e =
         let above : lt (at j) (at t) ≡ true = sym (ahead-later t j h) ∙ b in
         more above (each-map (λ k l. le-then-lt (at k) (at j) (at t) l above) e)

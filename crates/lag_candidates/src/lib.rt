@@ -71,8 +71,14 @@ fn is_apart(min_lag: usize, a: usize, b: usize, i: usize) -> bool
 // The best slot among those up to i, where `best` is that of those before i.
 fn next_best(weight: &[f64], min_lag: usize, a: usize, b: usize, i: usize, best: usize) -> usize
     requires { ⌜ («min_lag» + a ≤ mostPeriod) × («min_lag» + b ≤ mostPeriod) × («min_lag» + i ≤ mostPeriod) ⌝ }
-    requires { ⌜ (i < length (now weight)) × (best ≡ firstPassing (standsApart «min_lag» (a ∷ b ∷ [])) (rankedTo (now weight) i) (length (now weight))) ⌝ }
-    ensures { λ r. ⌜ r ≡ firstPassing (standsApart «min_lag» (a ∷ b ∷ [])) (rankedTo (now (weight .entry)) (i + 1)) (length (now (weight .entry))) ⌝ }
+    requires { ⌜
+        (i < length (now weight))
+        × (best ≡ firstPassing (standsApart «min_lag» (a ∷ b ∷ [])) (rankedTo (now weight) i) (length (now weight)))
+        ⌝ }
+    ensures { λ r. ⌜
+        r
+        ≡ firstPassing (standsApart «min_lag» (a ∷ b ∷ [])) (rankedTo (now (weight .entry)) (i + 1)) (length (now (weight .entry)))
+        ⌝ }
 {
     if !is_maximum(weight, i) {
         return best;

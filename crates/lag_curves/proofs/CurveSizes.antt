@@ -85,7 +85,8 @@ module _ (env : List Float) (fine : every valueFine env ≡ true) (few : length 
           let k : 1 ≤ 1 * (length env - lag) = omega arith in
           div-within binary64 (rowBits + 302 + rowBits) 52 (lit≤ tt)
           (mul-within binary64 (rowBits + 302) rowBits (lit≤ tt) (lag-sum-within lag) (real-most (length env) short rows))
-          (mul-least {p = 1} {q = 2 ^ 52} {p' = 1} {q' = 1} {r = 1} {w = 2 ^ 52} (lit< tt) (lit< tt) (lit< tt) (held-part 52 (lit≤ tt)) (lit≤ tt) energy-least (real-least (length env - lag) l k))
+          (mul-least {p = 1} {q = 2 ^ 52} {p' = 1} {q' = 1} {r = 1} {w = 2 ^ 52} (lit< tt) (lit< tt) (lit< tt) (held-part 52 (lit≤ tt))
+          (lit≤ tt) energy-least (real-least (length env - lag) l k))
 
       pub clarity-low : le nought (clarityAt env mean ac0 lag) ≡ true
       unfolding clarityAt

@@ -8,7 +8,8 @@ use lib.Ieee.{Float, nan}
 use Rattle.numbers.specs.Lists.{filled}
 use Rattle.numbers.proofs.Tabs.{filled-join, length-filled}
 
-module _ (rule : ℕ → Float) (d x y : List Float) (a t u w : ℕ) (h : a ≤ t) (k : t ≤ w) (e : u ≡ w) (l : w ≤ length d) (p : x ≡ filled rule d a t) (q : y ≡ filled rule x t w) where
+module _ (rule : ℕ → Float) (d x y : List Float) (a t u w : ℕ) (h : a ≤ t) (k : t ≤ w) (e : u ≡ w) (l : w ≤ length d) (p : x ≡ filled rule d a t)
+    (q : y ≡ filled rule x t w) where
   pub joined : y ≡ filled rule d a u
   joined = q ∙ ap (λ (z : List Float). filled rule z t w) p ∙ filled-join rule d a t w h k nan l ∙ ap (filled rule d a) (sym e)
 

@@ -9,7 +9,8 @@ use Rattle.numbers.specs.Lists.{filled}
 use Rattle.numbers.proofs.Tabs.{filled-ext, getD-filled-in}
 use Rattle.lag_curves.specs.Curves.{priorAt, weightAt, clarityFrom, priorFrom, weightFrom, weighted, weightedBy}
 
-module _ (env : List Float) (mean ac0 : Float) (rate minLag room : ℕ) (cs c ws : List Float) (fits : room ≤ length c) (made : cs ≡ filled (clarityFrom env mean ac0 minLag) c 0 room) where
+module _ (env : List Float) (mean ac0 : Float) (rate minLag room : ℕ) (cs c ws : List Float) (fits : room ≤ length c)
+    (made : cs ≡ filled (clarityFrom env mean ac0 minLag) c 0 room) where
   clarity-at : (i : ℕ) → 0 ≤ i → i < room → getD cs i nan ≡ clarityFrom env mean ac0 minLag i
   clarity-at i p q = rw made (getD-filled-in (clarityFrom env mean ac0 minLag) c 0 room zero-le fits i nan p q)
 
@@ -22,4 +23,5 @@ module _ (env : List Float) (mean ac0 : Float) (rate minLag room : ℕ) (cs c ws
   unfolding weightAt
   weighted-by-is ps b h e =
       filled-ext _ _ ws 0 room
-      (λ i p q. rw (clarity-at i p q) (ap (λ (x : Float). clarityFrom env mean ac0 minLag i ⊗ x) (rw e (getD-filled-in (priorFrom rate minLag) b 0 room zero-le h i nan p q))))
+      (λ i p q. rw (clarity-at i p q) (ap (λ (x : Float). clarityFrom env mean ac0 minLag i ⊗ x)
+      (rw e (getD-filled-in (priorFrom rate minLag) b 0 room zero-le h i nan p q))))

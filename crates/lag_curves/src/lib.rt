@@ -61,7 +61,11 @@ fn fill_eight(
     below: Eight,
     clarity: &mut [f64],
 )
-    requires { ⌜ («min_lag» + from + 7 < length (now envelope)) × (t + («min_lag» + from) + 7 ≤ length (now envelope)) × (from + 8 ≤ length (now clarity)) ⌝ }
+    requires { ⌜
+        («min_lag» + from + 7 < length (now envelope))
+        × (t + («min_lag» + from) + 7 ≤ length (now envelope))
+        × (from + 8 ≤ length (now clarity))
+        ⌝ }
     requires { ⌜ below ≡ eightSums (now envelope) mean («min_lag» + from) t ⌝ }
     ensures { λ _. ⌜ now (clarity .exit) ≡ filled (clarityFrom (now (envelope .entry)) mean ac0 «min_lag») (now (clarity .entry)) from (from + 8) ⌝ }
 {
@@ -218,7 +222,10 @@ pub fn fill_weight(clarity: &[f64], rate: u32, min_lag: usize, max_lag: usize, w
         («min_lag» ≤ «max_lag») × («max_lag» ≤ mostPeriod)
         × (lagRoom «min_lag» «max_lag» ≤ length (now clarity)) × (lagRoom «min_lag» «max_lag» ≤ length (now weight))
         ⌝ }
-    ensures { λ _. ⌜ now (weight .exit) ≡ filled (weighted (now (clarity .entry)) rate «min_lag») (now (weight .entry)) 0 (lagRoom «min_lag» «max_lag») ⌝ }
+    ensures { λ _. ⌜
+        now (weight .exit)
+        ≡ filled (weighted (now (clarity .entry)) rate «min_lag») (now (weight .entry)) 0 (lagRoom «min_lag» «max_lag»)
+        ⌝ }
 {
     let count = max_lag - min_lag + 1;
     let mut i = 0;

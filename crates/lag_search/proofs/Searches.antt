@@ -46,10 +46,12 @@ module _ (env : List Float) (rate minLag maxLag : ℕ) (mean ac0 : Float) (m : m
       (c : clarity′ ≡ filled (clarityFrom env mean ac0 minLag) clarity 0 (lagRoom minLag maxLag))
       (w : weight′ ≡ filled (weightFrom env mean ac0 rate minLag) weight 0 (lagRoom minLag maxLag)) where
     clarity-is : clarity′ ≡ filled (clarityRule env minLag) clarity 0 (lagRoom minLag maxLag)
-    clarity-is = c ∙ ap (λ (x : Float). filled (clarityFrom env x ac0 minLag) clarity 0 (lagRoom minLag maxLag)) m ∙ ap (λ (x : Float). filled (clarityFrom env (meanOf env) x minLag) clarity 0 (lagRoom minLag maxLag)) ac0-is
+    clarity-is = c ∙ ap (λ (x : Float). filled (clarityFrom env x ac0 minLag) clarity 0 (lagRoom minLag maxLag)) m
+        ∙ ap (λ (x : Float). filled (clarityFrom env (meanOf env) x minLag) clarity 0 (lagRoom minLag maxLag)) ac0-is
 
     weight-is : weight′ ≡ filled (weightRule env rate minLag) weight 0 (lagRoom minLag maxLag)
-    weight-is = w ∙ ap (λ (x : Float). filled (weightFrom env x ac0 rate minLag) weight 0 (lagRoom minLag maxLag)) m ∙ ap (λ (x : Float). filled (weightFrom env (meanOf env) x rate minLag) weight 0 (lagRoom minLag maxLag)) ac0-is
+    weight-is = w ∙ ap (λ (x : Float). filled (weightFrom env x ac0 rate minLag) weight 0 (lagRoom minLag maxLag)) m
+        ∙ ap (λ (x : Float). filled (weightFrom env (meanOf env) x rate minLag) weight 0 (lagRoom minLag maxLag)) ac0-is
 
     pub searched-written : (room : ℕ) → room ≡ lagRoom minLag maxLag → lag ≡ winnerLag minLag (take (room - 0) (drop 0 weight′))
         → Searched env rate minLag maxLag clarity weight lag clarity′ weight′

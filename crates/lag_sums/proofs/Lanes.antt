@@ -68,7 +68,8 @@ module _ (env : List Float) (mean : Float) where
   unfolding thirtyTwoSums sumFrom
   thirty-two-none lag z e = rw e
 
-  pub eight-next : (lag t : ℕ) → eightMore (eightSums env mean lag t) (centred env mean t) (eightBy (centred env mean) (t + lag)) ≡ eightSums env mean lag (t + 1)
+  pub eight-next : (lag t : ℕ) → eightMore (eightSums env mean lag t) (centred env mean t) (eightBy (centred env mean) (t + lag)) ≡ eightSums env mean
+      lag (t + 1)
   unfolding eightSums
   eight-next lag t =
       rw (
@@ -87,8 +88,10 @@ module _ (env : List Float) (mean : Float) where
       → q ≡ eightMore r (centred env mean (t + 1)) (eightBy (centred env mean) (t + 1 + lag)) → q ≡ eightSums env mean lag (t + 2)
   eight-two lag t s r q e h k =
       let two : t + 1 + 1 ≡ t + 2 = omega arith in
-      let one : r ≡ eightSums env mean lag (t + 1) = h ∙ ap (λ (x : Eight). eightMore x (centred env mean t) (eightBy (centred env mean) (t + lag))) e ∙ eight-next lag t in
-      k ∙ ap (λ (x : Eight). eightMore x (centred env mean (t + 1)) (eightBy (centred env mean) (t + 1 + lag))) one ∙ eight-next lag (t + 1) ∙ ap (eightSums env mean lag) two
+      let one : r ≡ eightSums env mean lag (t + 1) = h ∙ ap (λ (x : Eight). eightMore x (centred env mean t) (eightBy (centred env mean) (t + lag))) e
+      ∙ eight-next lag t in
+      k ∙ ap (λ (x : Eight). eightMore x (centred env mean (t + 1)) (eightBy (centred env mean) (t + 1 + lag))) one ∙ eight-next lag (t + 1)
+      ∙ ap (eightSums env mean lag) two
 
   -- entry j of the eight
   pub eight-at : (lag t : ℕ) (s : Eight) → s ≡ eightSums env mean lag t → (j : ℕ) → j < 8
@@ -99,7 +102,8 @@ module _ (env : List Float) (mean : Float) where
       r : ℕ → Float
       r l = sumTo env mean l t
 
-      go : (j : ℕ) → j < 8 → getD (r lag ∷ r (lag + 1) ∷ r (lag + 2) ∷ r (lag + 3) ∷ r (lag + 4) ∷ r (lag + 5) ∷ r (lag + 6) ∷ r (lag + 7) ∷ []) j nan ≡ r (lag + j)
+      go : (j : ℕ) → j < 8 → getD (r lag ∷ r (lag + 1) ∷ r (lag + 2) ∷ r (lag + 3) ∷ r (lag + 4) ∷ r (lag + 5) ∷ r (lag + 6) ∷ r (lag + 7) ∷ []) j
+          nan ≡ r (lag + j)
       go zero h = ap r (sym (add-zero lag))
       go (suc zero) h = refl
       go (suc (suc zero)) h = refl
@@ -138,7 +142,8 @@ module _ (env : List Float) (mean : Float) where
         let e : t + k + 1 ≡ t + suc k = omega arith in
         let i : g + k + 1 ≡ g + suc k = omega arith in
         let n : t + (suc k + m) ≡ t + (k + suc m) = omega arith in
-        let one : eightMore (eightSums env mean (lag + g) (t + k)) (centred env mean (t + k)) (eightBy (entry later) (g + k)) ≡ eightSums env mean (lag + g) (t + suc k) =
+        let one : eightMore (eightSums env mean (lag + g) (t + k)) (centred env mean (t + k)) (eightBy (entry later) (g + k)) ≡ eightSums env mean
+        (lag + g) (t + suc k) =
         ap (eightMore (eightSums env mean (lag + g) (t + k)) (centred env mean (t + k))) (later-eight k (omega arith))
         ∙ eight-next (lag + g) (t + k) ∙ ap (eightSums env mean (lag + g)) e in
         ap (λ (s : Eight). eightRun s (tab (centredFrom env mean t) (suc k) m) later (g + k + 1)) one

@@ -18,7 +18,7 @@ use Rattle.sizes.proofs.Order.{le-right, lt-is-le, le-self, le-then-le}
 use Rattle.sizes.proofs.Ranges.{le-least}
 use Rattle.sizes.proofs.Monotone.{add-mono-left}
 use Rattle.floats.specs.Wholes.{roundOf}
-use Rattle.floats.proofs.WholeNumbers.{round-most}
+use Rattle.float_sizes.proofs.WholeSizes.{round-at-most}
 use Rattle.options.specs.declared.TempoOpts.{TempoOpts}
 use Rattle.lags.specs.declared.LagRange.{LagRange}
 use Rattle.lags.specs.Lags.{sixty, upperBound, lowerBound, noLess, lowBpm, highBpm, framesPerMinute, minuteOver, minLag, maxLag, boundsFine, lagRange}
@@ -79,22 +79,21 @@ minute-most : (rate p R : ℕ) (bpm : Float) → rate ≤ mostRate → 0 < p →
 unfolding minuteOver
 minute-most rate p R bpm h P r l k = div-most {N = 45000} {p = p} {q = 1} {R = R} P (held-short r) l (frames-most rate h) k
 
-rounded-of : (N : ℕ) (x : Float) → sizeUpTo N x → roundOf x ≤ N
-rounded-of N nan h = absurd h
-rounded-of N (inf s) h = absurd h
-rounded-of N (fin s m e) h = round-most N s m e h
-
 pub min-lag-most : (rate : ℕ) (o : TempoOpts) → rate ≤ mostRate → minLag rate o ≤ 22500
 unfolding minLag
 min-lag-most rate o h =
     let k : AtLeast 2 1 (highBpm o) = le-least (highBpm o) (two-size .0) (two-size .1) (high-from o) in
-    omega (arith, rounded-of 22500 (minuteOver rate (highBpm o)) (minute-most rate 2 22500 (highBpm o) h (lit< tt) (lit< tt) (lit≤ tt) k .size))
+    omega (arith, round-at-most (minute-most rate 2 22500 (highBpm o) h (lit< tt) (lit< tt) (lit≤ tt) k))
 
 pub max-lag-most : (rate : ℕ) (o : TempoOpts) → rate ≤ mostRate → maxLag rate o ≤ mostPeriod
 unfolding maxLag
 max-lag-most rate o h =
     let k : AtLeast 1 1 (lowBpm o) = le-least (lowBpm o) (one-size .0) (one-size .1) (low-from o) in
-    omega (arith, min-lag-most rate o h, rounded-of 45000 (minuteOver rate (lowBpm o)) (minute-most rate 1 45000 (lowBpm o) h (lit< tt) (lit< tt) (lit≤ tt) k .size))
+    omega (
+      arith,
+      min-lag-most rate o h,
+      round-at-most (minute-most rate 1 mostPeriod (lowBpm o) h (lit< tt) (lit< tt) (lit≤ tt) k),
+    )
 
 pub min-lag-least : (rate : ℕ) (o : TempoOpts) → 1 ≤ minLag rate o
 unfolding minLag

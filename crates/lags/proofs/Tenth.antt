@@ -35,7 +35,8 @@ sum-whole a b A B C h p q l k =
     let short : a - b ≤ 2 ^ 53 = omega arith in
     let times : (a - b) * C ≡ A - B = mul-comm (a - b) C ∙ mul-sub C a b ∙ rw (p, q, mul-comm C a, mul-comm C b) in
     rw (le-ltb A B ordered)
-    (subst (λ (x : Float). HasValue x false (a - b) 1) (round-same binary64 false (a - b) 1 (A - B) C (zero-lt-suc 0) h (times ∙ sym (mul-one (A - B)))) (round-whole binary64 false (a - b) short))
+    (subst (λ (x : Float). HasValue x false (a - b) 1) (round-same binary64 false (a - b) 1 (A - B) C (zero-lt-suc 0) h
+    (times ∙ sym (mul-one (A - B)))) (round-whole binary64 false (a - b) short))
 
 less-whole : (x y : Float) (a b : ℕ) → b ≤ a → a ≤ 2 ^ 53 → HasValue x false a 1 → HasValue y false b 1 → HasValue (x ⊖ y) false (a - b) 1
 unfolding sub add neg
@@ -92,7 +93,8 @@ over-whole (fin false m e) (fin false n d) a b B p q = go (eqb n 0) (eqb→eq n 
         ∙ turn a (down e) (down d) b
         ∙ ap (λ (z : ℕ). a * (z * down e)) (sym (q .1) ∙ mul-one (n * up d))
 
-    go : (t : Bool) → (T t → n ≡ 0) → cond t (cond (eqb m 0) nan (inf false)) (round binary64 false (m * up e * down d) (n * up d * down e)) ≡ round binary64 false a b
+    go : (t : Bool) → (T t → n ≡ 0) → cond t (cond (eqb m 0) nan (inf false)) (round binary64 false (m * up e * down d) (n * up d * down e)) ≡ round
+        binary64 false a b
     go true z = absurd (gone n (up d) divisor (z tt))
     go false z = round-same binary64 false (m * up e * down d) (n * up d * down e) a b (mul-pos divisor (down-pos e)) B cross
 
@@ -117,7 +119,8 @@ tenth-round d a h k = go (ltb a (10 * d)) refl
         (is-true _ (round-mono binary64 3602879701896398 36028797018963968 d a (lit< tt) h g))
     go false e =
         let g : d * 10 ≤ 1 * a = omega (arith, ltb-false a (10 * d) e) in
-        le-back (round binary64 false d a) tenth (is-true _ (subst (λ (x : Float). T (le (round binary64 false d a) x)) tenth-is (round-mono binary64 d a 1 10 h (lit< tt) g)))
+        le-back (round binary64 false d a) tenth (is-true _ (subst (λ (x : Float). T (le (round binary64 false d a) x)) tenth-is
+        (round-mono binary64 d a 1 10 h (lit< tt) g)))
 
 -- the float test is the whole-number test
 pub apart-is : (lag a : ℕ) → 1 ≤ a → lag ≤ mostPeriod → a ≤ mostPeriod → apart lag a ≡ ltb a (10 * gap lag a)

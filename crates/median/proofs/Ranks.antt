@@ -186,7 +186,8 @@ split-is-sort xs ys i fx fy e l s =
     (split-same ys (sort xs) i ls (same-trans e (same-sym (same-sort xs))) s (split-ordered (sort xs) i (sort-ordered xs) ls))
 
 -- a list with the same entries, split at the middle, has the median there
-pub split-is-median : (xs ys : List Float) → AllFit xs → AllFit ys → Same ys xs → 0 < length xs → Split ys (length xs / 2) → getD ys (length xs / 2) nan ≡ medianOf xs
+pub split-is-median : (xs ys : List Float) → AllFit xs → AllFit ys → Same ys xs → 0 < length xs → Split ys (length xs / 2)
+    → getD ys (length xs / 2) nan ≡ medianOf xs
 unfolding medianOf
 split-is-median xs ys fx fy e l s = split-is-sort xs ys (length xs / 2) fx fy e (omega arith) s
 

@@ -10,5 +10,6 @@ use Rattle.novelties.specs.Novelty.{slotOf, likeness, addTerm, turns, ad
 
 -- one row, like itself: its novelty is 1
 one-row : noveltyAt (one ∷ replicate 16 nought) 1 0 ≡ one
-unfolding noveltyAt addRow addTerm turns likeness slotOf kernelAt signAt weightOf expOf expAt expSized foldsOf expBy expLess expNear scaleUp scaleDown timesUp timesDown ofBits toBits ofInt toUnsigned add sub mul div neg lt ne sum round units size span climb odd ofFields
+unfolding noveltyAt addRow addTerm turns likeness slotOf kernelAt signAt weightOf expOf expAt expSized foldsOf expBy expLess expNear scaleUp scaleDown
+    timesUp timesDown ofBits toBits ofInt toUnsigned add sub mul div neg lt ne sum round units size span climb odd ofFields
 one-row = refl

@@ -79,7 +79,8 @@ near-value similarity near first u v j g h k l =
 
 -- ---- rows i to i + 23, whose kernels lie inside
 
-module _ (similarity near : List Float) (rows i j : ℕ) (low : 8 ≤ i) (high : i + 31 ≤ rows) (lane : j < 24) (g : Gathered similarity ((i - 8) * 17) 16 near) where
+module _ (similarity near : List Float) (rows i j : ℕ) (low : 8 ≤ i) (high : i + 31 ≤ rows) (lane : j < 24)
+    (g : Gathered similarity ((i - 8) * 17) 16 near) where
   -- the slot of a pair, seventeen slots after that of the lane before
   lane-slot : (u v : ℕ) → u < 16 → v < 16 → slotOf (i + j + u - 8) (i + j + v - 8) ≡ (i - 8) * 17 + slotOf u v + 17 * j
   lane-slot u v at-u at-v =

@@ -66,7 +66,8 @@ module _ (s t : List Float) (rows a k : ℕ)
   pub novelty-kept : (i : ℕ) → (i + 8 ≤ a) ⊎ (a + k + 8 ≤ i) → noveltyAt t rows i ≡ noveltyAt s rows i
   novelty-kept i far =
       novelty-same s t rows i
-      (λ p q near-p near-q. likeness-kept p q (near-p .in-rows) (near-q .in-rows) (apart p q near-p near-q) (apart q p near-q near-p) (outside p near-p far) (outside q near-q far))
+      (λ p q near-p near-q. likeness-kept p q (near-p .in-rows) (near-q .in-rows) (apart p q near-p near-q) (apart q p near-q near-p)
+      (outside p near-p far) (outside q near-q far))
     where
       apart : (p q : ℕ) → Near rows i p → Near rows i q → p < q + 17
       apart p q x y = omega arith

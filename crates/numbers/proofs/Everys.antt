@@ -22,7 +22,8 @@ module _ {A : Type 0} (p : A → Bool) where
   every-end s i h = rw drop-of-length-le
 
   -- what is left from slot i on, and what was found before it: the entry goes to what was found
-  pub every-step-1 : (s : List A) (i : ℕ) (z : A) (fine : Bool) → i < length s → (every p (drop i s) && fine) ≡ (every p (drop (i + 1) s) && (p (getD s i z) && fine))
+  pub every-step-1 : (s : List A) (i : ℕ) (z : A) (fine : Bool) → i < length s
+      → (every p (drop i s) && fine) ≡ (every p (drop (i + 1) s) && (p (getD s i z) && fine))
   every-step-1 s i z fine h = ap (λ (b : Bool). b && fine) (every-step s i z h) ∙ and-push (p (getD s i z)) (every p (drop (i + 1) s)) fine
 
   -- what is left of four lists from slot i on, and what was found before it
@@ -30,11 +31,13 @@ module _ {A : Type 0} (p : A → Bool) where
   every-4 a b c d i fine = every p (drop i a) && (every p (drop i b) && (every p (drop i c) && (every p (drop i d) && fine)))
 
   module _ (a b c d : List A) (i : ℕ) (fine : Bool) where
-    pub every-step-4 : (z : A) → i < length a → i < length b → i < length c → i < length d → every-4 a b c d i fine ≡ every-4 a b c d (i + 1) (p (getD a i z) && (p (getD b i z) && (p (getD c i z) && (p (getD d i z) && fine))))
+    pub every-step-4 : (z : A) → i < length a → i < length b → i < length c → i < length d
+        → every-4 a b c d i fine ≡ every-4 a b c d (i + 1) (p (getD a i z) && (p (getD b i z) && (p (getD c i z) && (p (getD d i z) && fine))))
     every-step-4 z ha hb hc hd =
         let at : List A → Bool = λ s. p (getD s i z) in
         let rest : List A → Bool = λ s. every p (drop (i + 1) s) in
-        rw (every-step a i z ha, every-step b i z hb, every-step c i z hc, every-step d i z hd) (and-push-4 (at a) (at b) (at c) (at d) (rest a) (rest b) (rest c) (rest d) fine)
+        rw (every-step a i z ha, every-step b i z hb, every-step c i z hc, every-step d i z hd)
+        (and-push-4 (at a) (at b) (at c) (at d) (rest a) (rest b) (rest c) (rest d) fine)
 
     pub every-end-4 : length a ≤ i → length b ≤ i → length c ≤ i → length d ≤ i → every-4 a b c d i fine ≡ fine
     every-end-4 ha hb hc hd = rw (every-end a i ha, every-end b i hb, every-end c i hc, every-end d i hd)
@@ -75,14 +78,16 @@ module _ {A : Type 0} (p : A → Bool) where
   every-last s a = ap (every p) (sym (take-length (drop a s)) ∙ ap (λ (n : ℕ). take n (drop a s)) (length-drop a s))
 
   -- four quarters, and what is left
-  pub every-quarters : (s : List A) (q : ℕ) → every p s ≡ ((every-part s 0 q && (every-part s q (2 * q) && (every-part s (2 * q) (3 * q) && every-part s (3 * q) (4 * q)))) && every-part s (4 * q) (length s))
+  pub every-quarters : (s : List A) (q : ℕ) → every p s ≡ ((every-part s 0 q
+      && (every-part s q (2 * q) && (every-part s (2 * q) (3 * q) && every-part s (3 * q) (4 * q)))) && every-part s (4 * q) (length s))
   every-quarters s q =
       let e₁ = every-next s q 0 q (omega arith) in
       let e₂ = every-next s q q (2 * q) (omega arith) in
       let e₃ = every-next s q (2 * q) (3 * q) (omega arith) in
       let e₄ = every-next s q (3 * q) (4 * q) (omega arith) in
       let e₅ = every-last s (4 * q) in
-      let a = and-assoc-4 (every-part s 0 q) (every-part s q (2 * q)) (every-part s (2 * q) (3 * q)) (every-part s (3 * q) (4 * q)) (every-part s (4 * q) (length s)) in
+      let a = and-assoc-4 (every-part s 0 q) (every-part s q (2 * q)) (every-part s (2 * q) (3 * q)) (every-part s (3 * q) (4 * q))
+      (every-part s (4 * q) (length s)) in
       cc
 
   pub every-take : (s : List A) (i : ℕ) → every p s ≡ true → every p (take i s) ≡ true

@@ -92,7 +92,8 @@ module _ {A : Type 0} where
     unfolding over
     written-in i h =
         let l : length (take (a * b) s) ≡ a * b = length-take-le (a * b) s (omega (arith, patch-fits)) in
-        let e : length (take (a * b) s ++ take (length new) new) ≡ a * b + length new = length-paste-head s (a * b) new (length new) (omega (arith, patch-fits)) (omega arith) in
+        let e : length (take (a * b) s ++ take (length new) new) ≡ a * b + length new =
+        length-paste-head s (a * b) new (length new) (omega (arith, patch-fits)) (omega arith) in
         List·getD-append (take (a * b) s ++ take (length new) new) (drop (a * b + length new) s) z (a * b + i) (omega arith)
         ∙ ap (λ (m : ℕ). getD (take (a * b) s ++ take (length new) new) (m + i) z) (sym l)
         ∙ getD-append-add (take (a * b) s) (take (length new) new) i z ∙ getD-take (length new) new i z h

@@ -178,7 +178,8 @@ module _ {A : Type 0} where
       (λ (p : s ≤ i).
       ⊎-elim
       (λ (q : i < u). getD-filled-in f x s u (omega arith) (omega arith) i z p q ∙ sym (getD-filled-in f d a u (omega arith) l i z (omega arith) q))
-      (λ (q : u ≤ i). getD-filled-high f x s u (omega arith) (omega arith) i z q ∙ getD-filled-high f d a t (omega arith) (omega arith) i z (omega arith) ∙ sym (getD-filled-high f d a u (omega arith) l i z q))
+      (λ (q : u ≤ i). getD-filled-high f x s u (omega arith) (omega arith) i z q
+      ∙ getD-filled-high f d a t (omega arith) (omega arith) i z (omega arith) ∙ sym (getD-filled-high f d a u (omega arith) l i z q))
       (lt-or-le i u))
       (lt-or-le i s))
 

@@ -89,7 +89,8 @@ and-push true rest fine = refl
 and-push false rest fine = sym (and-false rest)
 
 -- the same of four lists side by side
-pub and-push-4 : (ha hb hc hd a b c d fine : Bool) → ((ha && a) && ((hb && b) && ((hc && c) && ((hd && d) && fine)))) ≡ (a && (b && (c && (d && (ha && (hb && (hc && (hd && fine))))))))
+pub and-push-4 : (ha hb hc hd a b c d fine : Bool) → ((ha && a) && ((hb && b) && ((hc && c) && ((hd && d) && fine)))) ≡ (a
+    && (b && (c && (d && (ha && (hb && (hc && (hd && fine))))))))
 and-push-4 ha hb hc hd a b c d fine =
     let f₁ = hd && fine in
     let f₂ = hc && f₁ in
@@ -165,3 +166,12 @@ refused-keeps (suc k) done was h = refl
 -- number 0 leaves what is done
 pub passed-does : {A : Type 0} (k : ℕ) (done was : A) → k ≡ 0 → unlessRefused k done was ≡ done
 passed-does k done was e = rw e
+
+-- what holds of both holds of the one that is picked; and what holds of each where it is picked
+pub pick-both : {A : Type 0} (P : A → Type 0) (b : Bool) {x y : A} → P x → P y → P (pick b x y)
+pick-both P true h k = h
+pick-both P false h k = k
+
+pub by-pick : {A : Type 0} (P : A → Type 0) (b : Bool) (x y : A) → (b ≡ true → P x) → (b ≡ false → P y) → P (pick b x y)
+by-pick P true x y f g = f refl
+by-pick P false x y f g = g refl

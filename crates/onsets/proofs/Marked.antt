@@ -40,5 +40,6 @@ pub example-onsets :
     let s = map real (0 ∷ 0 ∷ 5 ∷ 0 ∷ []) in
     let flux = curve (fluxAt s (slabOf 4 1)) 4 in
     onsetsOf flux (curve (thresholdAt flux) 4) 48000 ≡ 2 ∷ []
-unfolding onsetsOf peaksOf those isPeak suppressed bests gapOf ceilOf thresholdAt thresholdOf around medianOf madOf sort insert distance absolute key turned fluxAt rises row sumFrom positivePart ofInt ofBits toBits add sub mul div neg lt le
+unfolding onsetsOf peaksOf those isPeak suppressed bests gapOf ceilOf thresholdAt thresholdOf around medianOf madOf sort insert distance absolute key
+    turned fluxAt rises row sumFrom positivePart ofInt ofBits toBits add sub mul div neg lt le
 example-onsets = refl

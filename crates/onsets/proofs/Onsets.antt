@@ -119,14 +119,16 @@ times-told frames rate room e =
 
 -- the flux of magnitudes that `spectral_flux` took
 module _ (s : List Float) (slab : Slab) (had : ℕ) (f : FluxFine s slab had) where
-  pub threshold-takes : (room work : ℕ) → slab .rows ≤ room → windowRoom (slab .rows) ≤ work → thresholdRefusal (curve (fluxAt s slab) (slab .rows)) room work ≡ 0
+  pub threshold-takes : (room work : ℕ) → slab .rows ≤ room → windowRoom (slab .rows) ≤ work
+      → thresholdRefusal (curve (fluxAt s slab) (slab .rows)) room work ≡ 0
   unfolding thresholdRefusal
   threshold-takes room work r w =
       let l : length (curve (fluxAt s slab) (slab .rows)) ≡ slab .rows = length-tab (fluxAt s slab) 0 (slab .rows) in
       let n : length (curve (fluxAt s slab) (slab .rows)) ≤ mostRows = omega (arith, slab-fits slab (f .shape) .rows-fit) in
       let r′ : length (curve (fluxAt s slab) (slab .rows)) ≤ room = omega arith in
       let w′ : windowRoom (length (curve (fluxAt s slab) (slab .rows))) ≤ work = rw l w in
-      lowest-0 _ _ _ _ (le-leb _ _ n) refl (and-both _ _ (le-leb _ _ r′) (le-leb _ _ w′)) (flux-curve-fine s slab (f .fine) (slab-fits slab (f .shape) .bins-fit))
+      lowest-0 _ _ _ _ (le-leb _ _ n) refl (and-both _ _ (le-leb _ _ r′) (le-leb _ _ w′))
+      (flux-curve-fine s slab (f .fine) (slab-fits slab (f .shape) .bins-fit))
 
   -- and its threshold
   pub onsets-take : (rate room : ℕ) → rateFine rate ≡ true → slab .rows ≤ room
@@ -139,7 +141,8 @@ module _ (s : List Float) (slab : Slab) (had : ℕ) (f : FluxFine s slab had) wh
       let n : length (curve (fluxAt s slab) (slab .rows)) ≤ mostRows = omega (arith, slab-fits slab (f .shape) .rows-fit) in
       let r′ : length (curve (fluxAt s slab) (slab .rows)) ≤ room = omega arith in
       let t : every valueFine (curve (thresholdAt c) (slab .rows)) ≡ true =
-      ap (λ (k : ℕ). every valueFine (curve (thresholdAt c) k)) (sym l) ∙ threshold-curve-fine c (flux-curve-within s slab (f .fine) (slab-fits slab (f .shape) .bins-fit)) in
+      ap (λ (k : ℕ). every valueFine (curve (thresholdAt c) k)) (sym l)
+      ∙ threshold-curve-fine c (flux-curve-within s slab (f .fine) (slab-fits slab (f .shape) .bins-fit)) in
       lowest-0 _ _ _ _ (and-both _ _ (le-leb _ _ n) ok) (eq-eqb _ _ m) (le-leb _ _ r′)
       (and-both _ _ (flux-curve-fine s slab (f .fine) (slab-fits slab (f .shape) .bins-fit)) t)
 

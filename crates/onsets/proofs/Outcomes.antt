@@ -26,7 +26,8 @@ module _ (number : ℕ) (entries was : List ℕ) where
         frames-are = sym (refused-keeps number (listed entries was) was no);
       }
 
-  pub lists-done : (answer : Listing) (after : List ℕ) → number ≡ 0 → answer .number ≡ 0 → Picked entries was (answer .count) after → ListWritten number entries was answer after
+  pub lists-done : (answer : Listing) (after : List ℕ) → number ≡ 0 → answer .number ≡ 0 → Picked entries was (answer .count) after
+      → ListWritten number entries was answer after
   lists-done answer after z e p =
       record {
         number-is = e ∙ sym z;

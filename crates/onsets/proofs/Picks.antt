@@ -13,16 +13,11 @@ use lib.ListN.{length, getD, drop, drop-of-length-le}
 use lib.Seq.{drop-cons}
 use Rattle.numbers.proofs.Everys.{every-tab}
 use Rattle.numbers.proofs.Tabs.{length-tab}
-use Rattle.numbers.proofs.Tests.{and-left, and-right, and-both, lowest-zero}
+use Rattle.numbers.proofs.Tests.{and-left, and-right, and-both, lowest-zero, pick-both}
 use Rattle.numbers.specs.Limits.{mostRows, valueFine}
 use Rattle.numbers.specs.Lists.{tab, every, ascending}
 use Rattle.numbers.specs.Rounded.{pick}
 use Rattle.onsets.specs.Peaks.{at, isPeak, those, peaksOf, joins, better, bests, suppressed, pointInto, suppressionRefusal}
-
--- what holds of both holds of the one that is picked
-by-pick : {A : Type 0} (P : A → Type 0) (b : Bool) {x y : A} → P x → P y → P (pick b x y)
-by-pick P true h k = h
-by-pick P false h k = k
 
 -- ---- a strictly ascending list
 
@@ -76,14 +71,14 @@ pub those-length : (p : ℕ → Bool) (xs : List ℕ) → length (those p xs) �
 unfolding those
 those-length p [] = le-refl 0
 those-length p (x ∷ xs) =
-    by-pick (λ (r : List ℕ). length r ≤ length (x ∷ xs)) (p x) (omega (arith, those-length p xs)) (omega (arith, those-length p xs))
+    pick-both (λ (r : List ℕ). length r ≤ length (x ∷ xs)) (p x) (omega (arith, those-length p xs)) (omega (arith, those-length p xs))
 
 pub those-every : (p q : ℕ → Bool) (xs : List ℕ) → every q xs ≡ true → every q (those p xs) ≡ true
 unfolding those every
 those-every p q [] e = refl
 those-every p q (x ∷ xs) e =
     let rest = those-every p q xs (and-right (q x) _ e) in
-    by-pick (λ (r : List ℕ). every q r ≡ true) (p x) (and-both (q x) _ (and-left (q x) _ e) rest) rest
+    pick-both (λ (r : List ℕ). every q r ≡ true) (p x) (and-both (q x) _ (and-left (q x) _ e) rest) rest
 
 pub those-ascending : (p : ℕ → Bool) (low : ℕ) (xs : List ℕ) → ascending low xs ≡ true → ascending low (those p xs) ≡ true
 unfolding those ascending
@@ -91,7 +86,7 @@ those-ascending p low [] e = refl
 those-ascending p low (x ∷ xs) e =
     let here = and-left (leb low x) _ e in
     let rest = those-ascending p (x + 1) xs (and-right (leb low x) _ e) in
-    by-pick (λ (r : List ℕ). ascending low r ≡ true) (p x)
+    pick-both (λ (r : List ℕ). ascending low r ≡ true) (p x)
     (and-both (leb low x) _ here rest)
     (ascending-weaken (x + 1) low (those p xs) (omega (arith, leb-true low x here)) rest)
 
@@ -116,7 +111,12 @@ module _ (curve : List Float) (threshold : ℕ → Float) where
 
   pub peaks-length : length (peaksOf curve threshold) ≤ length curve - 2
   unfolding peaksOf
-  peaks-length = omega (arith, those-length (λ t. isPeak curve (threshold t) t) (tab (λ t. t) 1 (length curve - 2)), length-tab (λ (t : ℕ). t) 1 (length curve - 2))
+  peaks-length = omega (
+    arith,
+    those-length (λ t. isPeak curve (threshold t) t) (tab (λ t. t) 1 (length curve - 2)),
+    length-tab (λ (t : ℕ). t) 1
+        (length curve - 2),
+  )
 
 -- ---- suppression
 
@@ -125,7 +125,7 @@ module _ (curve : List Float) (gap : ℕ) where
   unfolding bests
   bests-length best [] = omega arith
   bests-length best (p ∷ ps) =
-      by-pick (λ (r : List ℕ). length r ≤ length (p ∷ ps) + 1) (joins gap best p)
+      pick-both (λ (r : List ℕ). length r ≤ length (p ∷ ps) + 1) (joins gap best p)
       (omega (arith, bests-length (better curve best p) ps)) (omega (arith, bests-length p ps))
 
   pub suppressed-length : (ps : List ℕ) → length (suppressed curve gap ps) ≤ length ps
@@ -139,8 +139,8 @@ module _ (curve : List Float) (gap : ℕ) where
   bests-every q best (p ∷ ps) e f =
       let here = and-left (q p) _ f in
       let rest = and-right (q p) _ f in
-      by-pick (λ (r : List ℕ). every q r ≡ true) (joins gap best p)
-      (bests-every q (better curve best p) ps (by-pick (λ (b : ℕ). q b ≡ true) (lt (at curve best) (at curve p)) here e) rest)
+      pick-both (λ (r : List ℕ). every q r ≡ true) (joins gap best p)
+      (bests-every q (better curve best p) ps (pick-both (λ (b : ℕ). q b ≡ true) (lt (at curve best) (at curve p)) here e) rest)
       (and-both (q best) _ e (bests-every q p ps here rest))
 
   -- what holds of every peak holds of those that are kept
@@ -151,7 +151,7 @@ module _ (curve : List Float) (gap : ℕ) where
 
   -- the better of a best and a peak past it lies between the two
   better-between : (best p : ℕ) → best ≤ p → (best ≤ better curve best p) × (better curve best p ≤ p)
-  better-between best p h = by-pick (λ (b : ℕ). (best ≤ b) × (b ≤ p)) (lt (at curve best) (at curve p)) (h, le-refl p) (le-refl best, h)
+  better-between best p h = pick-both (λ (b : ℕ). (best ≤ b) × (b ≤ p)) (lt (at curve best) (at curve p)) (h, le-refl p) (le-refl best, h)
 
   bests-ascend : (low best : ℕ) (ps : List ℕ) → low ≤ best → ascending (best + 1) ps ≡ true → ascending low (bests curve gap best ps) ≡ true
   unfolding bests ascending
@@ -160,7 +160,7 @@ module _ (curve : List Float) (gap : ℕ) where
       let above = leb-true (best + 1) p (and-left (leb (best + 1) p) _ e) in
       let rest = and-right (leb (best + 1) p) _ e in
       let m = better-between best p (omega (arith, above)) in
-      by-pick (λ (r : List ℕ). ascending low r ≡ true) (joins gap best p)
+      pick-both (λ (r : List ℕ). ascending low r ≡ true) (joins gap best p)
       (bests-ascend low (better curve best p) ps (omega (arith, m .0))
       (ascending-weaken (p + 1) (better curve best p + 1) ps (omega (arith, m .1)) rest))
       (and-both (leb low best) _ (le-leb low best h) (bests-ascend (best + 1) p ps above rest))

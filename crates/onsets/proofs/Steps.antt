@@ -48,7 +48,8 @@ module _ (curve : List Float) (gap : ℕ) where
   follow-close g t ps o j = rw (o, j)
 
   -- the group that follows a step is open, with this best
-  opened-as : (g : Group) (best : ℕ) (ps : List ℕ) → g .opened ≡ true → g .best ≡ best → following curve gap true best ps ≡ following curve gap (g .opened) (g .best) ps
+  opened-as : (g : Group) (best : ℕ) (ps : List ℕ) → g .opened ≡ true → g .best ≡ best
+      → following curve gap true best ps ≡ following curve gap (g .opened) (g .best) ps
   opened-as g best ps o e = rw (o, e)
 
   -- no group is closed: the best is b

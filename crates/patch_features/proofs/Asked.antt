@@ -55,7 +55,9 @@ pub record Asked (rows : ℕ) (was : FeatureTrack) (patch : Patch) : Type 0 wher
 pub asked : (rows : ℕ) (was : FeatureTrack) (patch : Patch) → featurePatchNumber rows was patch ≡ 0 → Asked rows was patch
 unfolding featurePatchNumber featurePatchValues
 asked rows was patch e =
-    let p = lowest-zero (featurePatchBounds rows (patch .start)) (wholeRows (length (was .features)) rows featureWidth (patch .start) (length (patch .new))) (featurePatchRoom rows (length (was .similarity)) (length (was .novelty))) (featurePatchValues rows was (patch .new)) e in
+    let p = lowest-zero (featurePatchBounds rows (patch .start))
+    (wholeRows (length (was .features)) rows featureWidth (patch .start) (length (patch .new)))
+    (featurePatchRoom rows (length (was .similarity)) (length (was .novelty))) (featurePatchValues rows was (patch .new)) e in
     record {
       bounds = bounds-told _ _ (p .bounds);
       lengths = whole-told _ _ _ _ _ (p .lengths);

@@ -112,4 +112,5 @@ module _ (rows : ℕ) (features : List Float) (whole : length features ≡ rows 
   novelties-are-fine =
       every-tab valueFine (noveltyAt (similarityCurve rows features) rows) 0 rows
       (λ i p q.
-      within-value (most-weaken (lit≤ tt) (novelty-most (similarityCurve rows features) rows (length-tab (similarityAt features rows) 0 (pairs rows)) similarities-are-fine i)))
+      within-value (most-weaken (lit≤ tt) (novelty-most (similarityCurve rows features) rows (length-tab (similarityAt features rows) 0 (pairs rows))
+      similarities-are-fine i)))

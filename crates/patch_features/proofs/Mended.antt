@@ -46,7 +46,8 @@ pub mended-more : (features : List Float) (rows a b : ℕ) (lent now : List Floa
 unfolding mendedAt
 mended-more features rows a b lent now from k v h l e w =
     let f = mendedAt features rows a b lent in
-    let found : getD now k nan ≡ getD lent k nan = ap (λ (c : List Float). getD c k nan) e ∙ getD-filled-high f lent from k h (omega arith) k nan (omega arith) in
+    let found : getD now k nan ≡ getD lent k nan = ap (λ (c : List Float). getD c k nan) e
+    ∙ getD-filled-high f lent from k h (omega arith) k nan (omega arith) in
     let value : v ≡ f k = w ∙ ap (pick (touched a b k) (similarityAt features rows k)) found in
     ap (λ (x : Float). set now k x) value ∙ ap (λ (c : List Float). set c k (f k)) e ∙ filled-more f lent from k h nan l
 
@@ -56,7 +57,8 @@ pub mended-whole : (features : List Float) (rows a b : ℕ) (lent : List Float) 
     ≡ filled (mendedAt features rows a b lent) lent (firstPair a) (b * 17)
 unfolding mendedAt
 mended-whole features rows a b lent h l =
-    filled-ext (similarityAt features rows) (mendedAt features rows a b lent) (filled (mendedAt features rows a b lent) lent (firstPair a) (a * 17)) (a * 17) (b * 17)
+    filled-ext (similarityAt features rows) (mendedAt features rows a b lent) (filled (mendedAt features rows a b lent) lent (firstPair a) (a * 17))
+    (a * 17) (b * 17)
     (λ k p q. sym (pick-true (touched a b k) (similarityAt features rows k) (getD lent k nan) (own-touched a b k p q)))
     ∙ filled-join (mendedAt features rows a b lent) lent (firstPair a) (a * 17) (b * 17) (omega arith) (omega arith) nan l
 
@@ -98,7 +100,8 @@ module _ (rows : ℕ) (was : FeatureTrack) (patch : Patch) (asked : Asked rows w
   slot-mends : take (pairs rows) (was .similarity) ≡ similarityCurve rows (was .features) → (k : ℕ) → k < pairs rows
       → mendedAt rowsNow rows a b (was .similarity) k ≡ similarityAt rowsNow rows k
   unfolding mendedAt similarityCurve
-  slot-mends e k h = ⊎-elim (λ (t : touched a b k ≡ true). pick-true _ _ _ t) (λ (t : touched a b k ≡ false). pick-false _ _ _ t ∙ kept t) (which (touched a b k))
+  slot-mends e k h = ⊎-elim (λ (t : touched a b k ≡ true). pick-true _ _ _ t) (λ (t : touched a b k ≡ false). pick-false _ _ _ t ∙ kept t)
+      (which (touched a b k))
     where
       kept : touched a b k ≡ false → getD (was .similarity) k nan ≡ similarityAt rowsNow rows k
       kept t =
@@ -143,9 +146,11 @@ module _ (rows : ℕ) (was : FeatureTrack) (patch : Patch) (asked : Asked rows w
   novelty-mends fresh =
       take-filled (noveltyAt (take (pairs rows) (mendedSimilarity rows was patch)) rows) (was .novelty) rows (noveltyFirst patch) (noveltyPast rows patch)
       novelty-order (omega arith) (asked .rooms .novelty-room)
-      ∙ ap (λ (c : List Float). filled (noveltyAt c rows) (take rows (was .novelty)) (noveltyFirst patch) (noveltyPast rows patch)) (similarity-mends (fresh .similarity))
+      ∙ ap (λ (c : List Float). filled (noveltyAt c rows) (take rows (was .novelty)) (noveltyFirst patch) (noveltyPast rows patch))
+      (similarity-mends (fresh .similarity))
       ∙ ap (λ (d : List Float). filled (noveltyAt (similarityCurve rows rowsNow) rows) d (noveltyFirst patch) (noveltyPast rows patch)) (fresh .novelty)
-      ∙ local-curve (noveltyAt (similarityCurve rows (was .features)) rows) (noveltyAt (similarityCurve rows rowsNow) rows) rows (noveltyFirst patch) (noveltyPast rows patch) nan
+      ∙ local-curve (noveltyAt (similarityCurve rows (was .features)) rows) (noveltyAt (similarityCurve rows rowsNow) rows) rows (noveltyFirst patch)
+      (noveltyPast rows patch) nan
       novelty-order (omega arith) novelty-stays
 
   -- what lies behind the curves stays

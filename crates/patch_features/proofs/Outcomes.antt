@@ -75,7 +75,8 @@ module _ (rows : ℕ) (was : FeatureTrack) (patch : Patch) where
     -- the slots and curves are given as the code finds them
     pub wrote : (length (patch .new) ≡ 0 → ⊥) → (sf nf np : ℕ) → sf ≡ similarityFirst patch → nf ≡ noveltyFirst patch → np ≡ noveltyPast rows patch
         → (f s n : List Float) → f ≡ edited featureWidth (was .features) patch
-        → s ≡ filled (mendedAt f rows (patch .start) (pastRow featureWidth patch) (was .similarity)) (was .similarity) (similarityFirst patch) (similarityPast patch)
+        → s ≡ filled (mendedAt f rows (patch .start) (pastRow featureWidth patch) (was .similarity)) (was .similarity) (similarityFirst patch)
+        (similarityPast patch)
         → n ≡ filled (noveltyAt (take (pairs rows) s) rows) (was .novelty) nf np
         → PatchFeaturesPromise rows was patch (Wrote sf (similarityPast patch) nf np) (featureTrack f s n)
     unfolding featuresAfter mendedFeatures mendedSimilarity mendedNovelty
@@ -86,5 +87,6 @@ module _ (rows : ℕ) (was : FeatureTrack) (patch : Patch) where
         }
 
   -- any two outcomes coincide
-  pub unique : {a b : PatchedFeatures} {x y : FeatureTrack} → PatchFeaturesPromise rows was patch a x → PatchFeaturesPromise rows was patch b y → (a ≡ b) × (x ≡ y)
+  pub unique : {a b : PatchedFeatures} {x y : FeatureTrack} → PatchFeaturesPromise rows was patch a x → PatchFeaturesPromise rows was patch b y
+      → (a ≡ b) × (x ≡ y)
   unique p q = (says-one _ _ (p .answer-is ∙ sym (q .answer-is)), p .track-is ∙ sym (q .track-is))

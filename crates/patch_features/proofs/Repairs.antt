@@ -44,7 +44,20 @@ use Rattle.patch_features.specs.Features.{
   featuresAfter,
   PatchFeaturesPromise,
 }
-use Rattle.patch_features.specs.Runs.{similarityCurve, noveltyCurve, FreshFeatures, KeptFeatures, SoundFeatures, GoodFeatures, analysedFeatures, RanFeatures, stays, patches, refuses, empties}
+use Rattle.patch_features.specs.Runs.{
+  similarityCurve,
+  noveltyCurve,
+  FreshFeatures,
+  KeptFeatures,
+  SoundFeatures,
+  GoodFeatures,
+  analysedFeatures,
+  RanFeatures,
+  stays,
+  patches,
+  refuses,
+  empties,
+}
 use Rattle.patch_features.proofs.Asked.{Asked, asked, bounds-asked, room-asked}
 use Rattle.patch_features.proofs.Fine.{similarities-are-fine, novelties-are-fine}
 use Rattle.patch_features.proofs.Outcomes.{is-answered}
@@ -88,7 +101,8 @@ module _ (rows : ℕ) (was : FeatureTrack) (f g t u : ℕ) (now : FeatureTrack) 
   accepted-passes (suc n) patch h = let z : _≡_ {A = ℕ} 0 1 = cc in absurd (omega arith)
 
   edited-by : (n start : ℕ) (new : List Float) → Wrote f g t u ≡ featuresAnswered n rows (patchOf start new)
-      → now ≡ unlessRefused n (unlessEmpty new (mendedFeatures rows was (patchOf start new)) was) was → now .features ≡ edited featureWidth (was .features) (patchOf start new)
+      → now ≡ unlessRefused n (unlessEmpty new (mendedFeatures rows was (patchOf start new)) was) was
+      → now .features ≡ edited featureWidth (was .features) (patchOf start new)
   unfolding featuresAnswered mendedFeatures edited
   edited-by (suc n) start new h k = let z : _≡_ {A = ℕ} 0 1 = cc in absurd (omega arith)
   edited-by zero start [] h k = ap (λ (s : FeatureTrack). s .features) k ∙ sym (over-none (was .features) (start * featureWidth))
@@ -101,13 +115,15 @@ accepted-is-edited rows was patch f g t u now done =
     edited-by rows was f g t u now (featurePatchNumber rows was patch) (patch .start) (patch .new) (is-answered done) (done .track-is)
 
 -- row a + j is then the patch's row j
-pub replaced-are-new : (rows : ℕ) (was : FeatureTrack) (patch : Patch) (f g t u : ℕ) (now : FeatureTrack) → PatchFeaturesPromise rows was patch (Wrote f g t u) now
+pub replaced-are-new : (rows : ℕ) (was : FeatureTrack) (patch : Patch) (f g t u : ℕ) (now : FeatureTrack)
+    → PatchFeaturesPromise rows was patch (Wrote f g t u) now
     → (j : ℕ) → j < length (patch .new) / featureWidth → row (now .features) featureWidth (patch .start + j) ≡ row (patch .new) featureWidth j
 unfolding edited
 replaced-are-new rows was patch f g t u now done j h =
     let w = asked rows was patch (accepted-passes rows was f g t u now (featurePatchNumber rows was patch) patch (is-answered done)) .lengths in
     ap (λ (m : List Float). row m featureWidth (patch .start + j)) (accepted-is-edited rows was patch f g t u now done)
-    ∙ row-over-in (was .features) (patch .new) rows featureWidth (patch .start) (length (patch .new) / featureWidth) nan (w .whole) (w .new-whole) (w .inside) j h
+    ∙ row-over-in (was .features) (patch .new) rows featureWidth (patch .start) (length (patch .new) / featureWidth) nan (w .whole) (w .new-whole)
+    (w .inside) j h
 
 unmoved : (patch : Patch) (f g t u : ℕ) (was : FeatureTrack) → KeptFeatures patch f g t u was was
 unmoved patch f g t u was =
@@ -165,7 +181,8 @@ module _ (rows : ℕ) (was : FeatureTrack) (f g t u : ℕ) (now : FeatureTrack) 
       let s : u ≡ noveltyPast rows patch = cc in
       rw (k, p, q, r, s) (mended-keeps rows was patch (asked rows was patch e))
 
-pub outside-stays : (rows : ℕ) (was : FeatureTrack) (patch : Patch) (f g t u : ℕ) (now : FeatureTrack) → PatchFeaturesPromise rows was patch (Wrote f g t u) now → KeptFeatures patch f g t u was now
+pub outside-stays : (rows : ℕ) (was : FeatureTrack) (patch : Patch) (f g t u : ℕ) (now : FeatureTrack)
+    → PatchFeaturesPromise rows was patch (Wrote f g t u) now → KeptFeatures patch f g t u was now
 unfolding featuresAfter
 outside-stays rows was patch f g t u now done =
     kept-by rows was f g t u now (featurePatchNumber rows was patch) (patch .start) (patch .new) refl (is-answered done) (done .track-is)
@@ -189,7 +206,8 @@ module _ (rows : ℕ) (was now : FeatureTrack) (k : ℕ) where
   refused-keeps-all zero start [] e h = let z : _≡_ {A = ℕ} 0 1 = cc in absurd (omega arith)
   refused-keeps-all zero start (x ∷ xs) e h = let z : _≡_ {A = ℕ} 0 1 = cc in absurd (omega arith)
 
-pub refused-changes-nothing : (rows : ℕ) (was : FeatureTrack) (patch : Patch) (k : ℕ) (now : FeatureTrack) → PatchFeaturesPromise rows was patch (Refused k) now → now ≡ was
+pub refused-changes-nothing : (rows : ℕ) (was : FeatureTrack) (patch : Patch) (k : ℕ) (now : FeatureTrack)
+    → PatchFeaturesPromise rows was patch (Refused k) now → now ≡ was
 unfolding featuresAfter
 refused-changes-nothing rows was patch k now done =
     refused-keeps-all rows was now k (featurePatchNumber rows was patch) (patch .start) (patch .new) (is-answered done) (done .track-is)
@@ -283,7 +301,8 @@ sound-is-analysed rows lent similarity novelty n m s done next =
 
 -- ---- (6) A good patch on fresh curves is accepted, at any place of a run.
 
-pub good-is-accepted : (rows : ℕ) (was : FeatureTrack) (patch : Patch) → SoundFeatures rows was → FreshFeatures rows was → GoodFeatures rows patch → featurePatchNumber rows was patch ≡ 0
+pub good-is-accepted : (rows : ℕ) (was : FeatureTrack) (patch : Patch) → SoundFeatures rows was → FreshFeatures rows was → GoodFeatures rows patch
+    → featurePatchNumber rows was patch ≡ 0
 unfolding featurePatchNumber featurePatchValues
 good-is-accepted rows was patch sound fresh good =
     let k : patch .start ≤ rows = let h : patch .start + good .count ≤ rows = good .inside in omega arith in
@@ -300,7 +319,8 @@ good-is-accepted rows was patch sound fresh good =
     (and-both (every valueFine (patch .new)) _ (good .fine) (and-both (every similarityFine (take (pairs rows) (was .similarity))) _ similarity novelty)))
 
 -- a patch leaves a sound track sound
-mended-sound : (rows : ℕ) (was : FeatureTrack) (patch : Patch) → SoundFeatures rows was → Asked rows was patch → SoundFeatures rows (mendedFeatures rows was patch)
+mended-sound : (rows : ℕ) (was : FeatureTrack) (patch : Patch) → SoundFeatures rows was → Asked rows was patch
+    → SoundFeatures rows (mendedFeatures rows was patch)
 unfolding mendedFeatures edited
 mended-sound rows was patch s a =
     let kept = mended-keeps rows was patch a in

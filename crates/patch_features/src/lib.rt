@@ -221,7 +221,10 @@ fn values_fine(
     novelty: &[f64],
 ) -> bool
     requires { ⌜ (rows ≤ mostFeatures) × (rows * bandWidth ≤ length (now similarity)) × (rows ≤ length (now novelty)) ⌝ }
-    ensures { λ r. ⌜ r ≡ featurePatchValues rows (featureTrack (now (features .entry)) (now (similarity .entry)) (now (novelty .entry))) (now (new .entry)) ⌝ }
+    ensures { λ r. ⌜
+        r
+        ≡ featurePatchValues rows (featureTrack (now (features .entry)) (now (similarity .entry)) (now (novelty .entry))) (now (new .entry))
+        ⌝ }
 {
     if !numbers::values_fine(features) {
         return false;

@@ -77,7 +77,8 @@ module _ (slab : Slab) (was : MagnitudeTrack) (patch : Patch) (room : ℕ) (a : 
       let m : min (fluxPast slab patch + reach) (slab .rows) ≡ thresholdPast slab patch = omega arith in
       take-filled (thresholdAt (take (slab .rows) (mendedFlux slab was patch))) (was .threshold) (slab .rows) (thresholdFirst patch) (thresholdPast slab patch)
       threshold-order (omega arith) (a .rooms .threshold-room)
-      ∙ ap (λ (c : List Float). filled (thresholdAt c) (take (slab .rows) (was .threshold)) (thresholdFirst patch) (thresholdPast slab patch)) (flux-mends (fresh .flux))
+      ∙ ap (λ (c : List Float). filled (thresholdAt c) (take (slab .rows) (was .threshold)) (thresholdFirst patch) (thresholdPast slab patch))
+      (flux-mends (fresh .flux))
       ∙ ap (λ (d : List Float). filled (thresholdAt (fluxCurve slab rowsNow)) d (thresholdFirst patch) (thresholdPast slab patch)) (fresh .threshold)
       ∙ ap (filled (thresholdAt (fluxCurve slab rowsNow)) (curve (thresholdAt (fluxCurve slab (was .magnitudes))) (slab .rows)) (thresholdFirst patch)) (sym m)
       ∙ threshold-local (fluxCurve slab (was .magnitudes)) (fluxCurve slab rowsNow) (slab .rows) (fluxFirst patch) (fluxPast slab patch)

@@ -77,7 +77,8 @@ module _ (slab : Slab) (was : MagnitudeTrack) (patch : Patch) (work : List Float
     -- the slots and curves are given as the code finds them
     pub wrote : (length (patch .new) ≡ 0 → ⊥) → (fp tf tp : ℕ) → fp ≡ fluxPast slab patch → tf ≡ thresholdFirst patch → tp ≡ thresholdPast slab patch
         → (m f t work′ : List Float) → m ≡ edited (slab .bins) (was .magnitudes) patch → f ≡ filled (fluxAt m slab) (was .flux) (patch .start) fp
-        → t ≡ filled (thresholdAt (take (slab .rows) f)) (was .threshold) tf tp → length work′ ≡ length work → drop (windowRoom (slab .rows)) work′ ≡ drop (windowRoom (slab .rows)) work
+        → t ≡ filled (thresholdAt (take (slab .rows) f)) (was .threshold) tf tp → length work′ ≡ length work
+        → drop (windowRoom (slab .rows)) work′ ≡ drop (windowRoom (slab .rows)) work
         → PatchMagnitudesPromise slab was patch work (Wrote (patch .start) fp tf tp) (magnitudeTrack m f t) work′
     unfolding after mended mendedFlux mendedThreshold patchSortedIn
     wrote some fp tf tp a b c m f t work′ em ef et l k =
@@ -88,7 +89,8 @@ module _ (slab : Slab) (was : MagnitudeTrack) (patch : Patch) (work : List Float
         }
 
   -- any two outcomes coincide, but for the slots that are sorted in
-  pub unique : {a b : Patched} {x y : MagnitudeTrack} {v w : List Float} → PatchMagnitudesPromise slab was patch work a x v → PatchMagnitudesPromise slab was patch work b y w
+  pub unique : {a b : Patched} {x y : MagnitudeTrack} {v w : List Float} → PatchMagnitudesPromise slab was patch work a x v
+      → PatchMagnitudesPromise slab was patch work b y w
       → (a ≡ b) × (x ≡ y) × (length v ≡ length w) × (drop (patchSortedIn number (slab .rows) patch) v ≡ drop (patchSortedIn number (slab .rows) patch) w)
   unique p q = (
     says-one _ _ (p .answer-is ∙ sym (q .answer-is)),

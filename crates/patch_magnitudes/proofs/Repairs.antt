@@ -83,7 +83,8 @@ module _ (slab : Slab) (was : MagnitudeTrack) (f g t u : ℕ) (now : MagnitudeTr
   accepted-passes (suc n) patch h = let z : _≡_ {A = ℕ} 0 1 = cc in absurd (omega arith)
 
   edited-by : (n start : ℕ) (new : List Float) → Wrote f g t u ≡ patchAnswered n slab (patchOf start new)
-      → now ≡ unlessRefused n (unlessEmpty new (mended slab was (patchOf start new)) was) was → now .magnitudes ≡ edited (slab .bins) (was .magnitudes) (patchOf start new)
+      → now ≡ unlessRefused n (unlessEmpty new (mended slab was (patchOf start new)) was) was
+      → now .magnitudes ≡ edited (slab .bins) (was .magnitudes) (patchOf start new)
   unfolding patchAnswered mended edited
   edited-by (suc n) start new h k = let z : _≡_ {A = ℕ} 0 1 = cc in absurd (omega arith)
   edited-by zero start [] h k = ap (λ (s : MagnitudeTrack). s .magnitudes) k ∙ sym (over-none (was .magnitudes) (start * slab .bins))
@@ -104,7 +105,8 @@ replaced-are-new slab was patch work f g t u now work′ done j h =
     let z = accepted-passes slab was f g t u now (patchNumber slab was patch (length work)) patch (is-answered done) in
     let w = asked slab was patch (length work) z .lengths in
     ap (λ (m : List Float). row m (slab .bins) (patch .start + j)) (accepted-is-edited slab was patch work f g t u now work′ done)
-    ∙ row-over-in (was .magnitudes) (patch .new) (slab .rows) (slab .bins) (patch .start) (length (patch .new) / slab .bins) nan (w .whole) (w .new-whole) (w .inside) j h
+    ∙ row-over-in (was .magnitudes) (patch .new) (slab .rows) (slab .bins) (patch .start) (length (patch .new) / slab .bins) nan (w .whole)
+    (w .new-whole) (w .inside) j h
 
 unmoved : (slab : Slab) (patch : Patch) (f g t u : ℕ) (was : MagnitudeTrack) → Kept slab patch f g t u was was
 unmoved slab patch f g t u was =
@@ -125,7 +127,8 @@ mended-keeps slab was patch room a =
     let r = a .rooms in
     let k = length (patch .new) / slab .bins in
     record {
-      magnitudes-length = length-over _ _ _ (patch-fits (was .magnitudes) (patch .new) (slab .rows) (slab .bins) (patch .start) k nan (w .whole) (w .new-whole) (w .inside));
+      magnitudes-length = length-over _ _ _ (patch-fits (was .magnitudes) (patch .new) (slab .rows) (slab .bins) (patch .start) k nan (w .whole)
+          (w .new-whole) (w .inside));
       flux-length = length-filled _ (was .flux) _ _ (omega arith) (omega arith);
       threshold-length = length-filled _ (was .threshold) _ _ (omega arith) (omega arith);
       rows-stay = row-over (was .magnitudes) (patch .new) (slab .rows) (slab .bins) (patch .start) k nan (w .whole) (w .new-whole) (w .inside);
@@ -171,7 +174,8 @@ empty-changes-nothing slab was start work answer now work′ done =
 module _ (slab : Slab) (was now : MagnitudeTrack) (work work′ : List Float) (k : ℕ) where
   refused-keeps-all : (n start : ℕ) (new : List Float) → Refused k ≡ patchAnswered n slab (patchOf start new)
       → now ≡ unlessRefused n (unlessEmpty new (mended slab was (patchOf start new)) was) was
-      → drop (patchSortedIn n (slab .rows) (patchOf start new)) work′ ≡ drop (patchSortedIn n (slab .rows) (patchOf start new)) work → (now ≡ was) × (work′ ≡ work)
+      → drop (patchSortedIn n (slab .rows) (patchOf start new)) work′ ≡ drop (patchSortedIn n (slab .rows) (patchOf start new)) work
+      → (now ≡ was) × (work′ ≡ work)
   unfolding patchAnswered patchSortedIn
   refused-keeps-all (suc n) start new e h w = (h, w)
   refused-keeps-all zero start [] e h w = let z : _≡_ {A = ℕ} 0 1 = cc in absurd (omega arith)
@@ -219,7 +223,12 @@ module _ (slab : Slab) (lent : MagnitudeTrack) where
 
   analysed-going : Going slab lent (analysed slab lent)
   unfolding analysed
-  analysed-going = record { fresh = analysed-is-fresh; flux-rest = filled-rest _ (lent .flux) (slab .rows); threshold-rest = filled-rest _ (lent .threshold) (slab .rows) }
+  analysed-going = record {
+    fresh = analysed-is-fresh;
+    flux-rest = filled-rest _ (lent .flux) (slab .rows);
+    threshold-rest = filled-rest _
+        (lent .threshold) (slab .rows);
+  }
 
   going-is-analysed : (st : MagnitudeTrack) → Going slab lent st → st ≡ analysed slab (magnitudeTrack (st .magnitudes) (lent .flux) (lent .threshold))
   unfolding analysed fluxCurve thresholdCurve
@@ -245,12 +254,14 @@ module _ (slab : Slab) (lent : MagnitudeTrack) (flux threshold work work′ : Li
       → flux ≡ filled (fluxAt (lent .magnitudes) slab) (lent .flux) 0 (slab .rows)
   flux-written w = w .slots-are ∙ passed-does _ _ _ (sym (w .number-is))
 
-  curve-written : flux ≡ filled (fluxAt (lent .magnitudes) slab) (lent .flux) 0 (slab .rows) → take (slab .rows) flux ≡ curve (fluxAt (lent .magnitudes) slab) (slab .rows)
+  curve-written : flux ≡ filled (fluxAt (lent .magnitudes) slab) (lent .flux) 0 (slab .rows)
+      → take (slab .rows) flux ≡ curve (fluxAt (lent .magnitudes) slab) (slab .rows)
   curve-written f = ap (take (slab .rows)) f ∙ filled-first (fluxAt (lent .magnitudes) slab) (lent .flux) (slab .rows)
 
   pub calls-analyse :
       FluxPromise (lent .magnitudes) slab (lent .flux) 0 flux
-      → ThresholdPromise (take (slab .rows) flux) (lent .threshold) work 0 threshold work′ → magnitudeTrack (lent .magnitudes) flux threshold ≡ analysed slab lent
+      → ThresholdPromise (take (slab .rows) flux) (lent .threshold) work 0 threshold work′
+      → magnitudeTrack (lent .magnitudes) flux threshold ≡ analysed slab lent
   unfolding analysed fluxCurve
   calls-analyse w t =
       let f = flux-written w in
@@ -260,7 +271,8 @@ module _ (slab : Slab) (lent : MagnitudeTrack) (flux threshold work work′ : Li
       t .curve .slots-are ∙ passed-does _ _ _ (sym (t .curve .number-is)) in
       ap (λ (x : List Float). magnitudeTrack (lent .magnitudes) x threshold) f
       ∙ ap (magnitudeTrack (lent .magnitudes) (filled (fluxAt (lent .magnitudes) slab) (lent .flux) 0 (slab .rows)))
-      (e ∙ ap (filled (thresholdAt (take (slab .rows) flux)) (lent .threshold) 0) l ∙ ap (λ (x : List Float). filled (thresholdAt x) (lent .threshold) 0 (slab .rows)) c)
+      (e ∙ ap (filled (thresholdAt (take (slab .rows) flux)) (lent .threshold) 0) l
+      ∙ ap (λ (x : List Float). filled (thresholdAt x) (lent .threshold) 0 (slab .rows)) c)
 
   -- and neither refuses a sound track with room to sort in: there is one fresh analysis of it
   pub sound-is-analysed : (n m : ℕ) → Sound slab lent → windowRoom (slab .rows) ≤ length work

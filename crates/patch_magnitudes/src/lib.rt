@@ -43,15 +43,7 @@ pub fn patch_magnitudes(
         ⌝ }
 {
     let slab = Slab { rows, bins };
-    let number = refusal::refusal(
-        magnitudes,
-        slab,
-        start,
-        new,
-        flux,
-        threshold,
-        work.len(),
-    );
+    let number = refusal::refusal(magnitudes, slab, start, new, flux, threshold, work.len());
     if number != 0 {
         return Patched::Refused(number);
     }

@@ -1,5 +1,6 @@
 -- Document 01, "For each input, refused or not, a promise determines the result and each lent slot afterwards; prove that any two outcomes it
--- permits coincide." One statement for each promise, named by its call or by the record that several calls share. Slots that are sorted in, and stability's lag curves, are the
+-- permits coincide." One statement for each promise, named by its call or by the record that several calls share. Slots that are sorted in, and
+-- stability's lag curves, are the
 -- exceptions: of those slices two outcomes have one length and agree past the slots that the formula names, or in all where a call refuses.
 -- Assumes nothing.
 use mathlib.Core.List.{List}
@@ -142,7 +143,8 @@ pub median : {number : ℕ} {value : Float} {xs work : List Float} {a b : Answer
 median = answered-unique
 
 -- `adaptive_threshold`
-pub adaptive-threshold : {flux threshold work : List Float} {a b : ℕ} {x y v w : List Float} → ThresholdPromise flux threshold work a x v → ThresholdPromise flux threshold work b y w
+pub adaptive-threshold : {flux threshold work : List Float} {a b : ℕ} {x y v w : List Float} → ThresholdPromise flux threshold work a x v
+    → ThresholdPromise flux threshold work b y w
     → let sorted = unlessRefused (thresholdRefusal flux (length threshold) (length work)) (sortingRoom flux) 0 in
     (a ≡ b) × (x ≡ y) × (length v ≡ length w) × (drop sorted v ≡ drop sorted w)
 adaptive-threshold = thresholds-unique
@@ -196,7 +198,8 @@ pub boundaries : (number : ℕ) (curve : List Float) (bounds rows : List ℕ) (w
 boundaries number curve bounds rows work p q = (found-unique number curve bounds rows work p q, open-unique (p .works) (q .works) .0)
 
 -- `patch_magnitudes`: both ranges, the rows and both curves; and the work slice past the slots that are sorted in
-pub patch-magnitudes : (slab : Slab) (was : tracks.MagnitudeTrack) (patch : Patch) (work : List Float) {a b : Patched} {x y : tracks.MagnitudeTrack} {v w : List Float}
+pub patch-magnitudes : (slab : Slab) (was : tracks.MagnitudeTrack) (patch : Patch) (work : List Float) {a b : Patched} {x y : tracks.MagnitudeTrack}
+    {v w : List Float}
     → magnitudes.PatchMagnitudesPromise slab was patch work a x v → magnitudes.PatchMagnitudesPromise slab was patch work b y w
     → let sorted = magnitudes.patchSortedIn (tracks.patchNumber slab was patch (length work)) (slab .rows) patch in
     (a ≡ b) × (x ≡ y) × (length v ≡ length w) × (drop sorted v ≡ drop sorted w)
@@ -211,8 +214,10 @@ patch-features rows was patch p q = feature-outcomes.unique rows was patch p q
 pub analysis : {number : ℕ} {env : List Float} {rate : ℕ} {o : TempoOpts} {was : Results} {lent : Spare} {a b : Analysis} {x y : Results} {s t : Spare}
     → Analysed number env rate o was lent a x s → Analysed number env rate o was lent b y t
     → (a ≡ b) × (x ≡ y)
-    × ((length (s .windowClarity) ≡ length (t .windowClarity)) × (drop (openLags number env rate o) (s .windowClarity) ≡ drop (openLags number env rate o) (t .windowClarity)))
-    × ((length (s .windowWeight) ≡ length (t .windowWeight)) × (drop (openLags number env rate o) (s .windowWeight) ≡ drop (openLags number env rate o) (t .windowWeight)))
+    × ((length (s .windowClarity) ≡ length (t .windowClarity))
+    × (drop (openLags number env rate o) (s .windowClarity) ≡ drop (openLags number env rate o) (t .windowClarity)))
+    × ((length (s .windowWeight) ≡ length (t .windowWeight))
+    × (drop (openLags number env rate o) (s .windowWeight) ≡ drop (openLags number env rate o) (t .windowWeight)))
     × ((length (s .work) ≡ length (t .work)) × (drop (openWork number env rate o) (s .work) ≡ drop (openWork number env rate o) (t .work)))
 analysis p q =
     let one = analyses.coincide p q in (
@@ -230,7 +235,9 @@ pub analysis-of-magnitudes : {m : List Float} {slab : Slab} {rate : ℕ} {o : Te
     → let number = magnitudesNumber m slab rate o flux was lent in
     let env = curve (fluxAt m slab) (slab .rows) in
     (a ≡ b) × (f ≡ g) × (x ≡ y)
-    × ((length (s .windowClarity) ≡ length (t .windowClarity)) × (drop (openLags number env rate o) (s .windowClarity) ≡ drop (openLags number env rate o) (t .windowClarity)))
-    × ((length (s .windowWeight) ≡ length (t .windowWeight)) × (drop (openLags number env rate o) (s .windowWeight) ≡ drop (openLags number env rate o) (t .windowWeight)))
+    × ((length (s .windowClarity) ≡ length (t .windowClarity))
+    × (drop (openLags number env rate o) (s .windowClarity) ≡ drop (openLags number env rate o) (t .windowClarity)))
+    × ((length (s .windowWeight) ≡ length (t .windowWeight))
+    × (drop (openLags number env rate o) (s .windowWeight) ≡ drop (openLags number env rate o) (t .windowWeight)))
     × ((length (s .work) ≡ length (t .work)) × (drop (openWork number env rate o) (s .work) ≡ drop (openWork number env rate o) (t .work)))
 analysis-of-magnitudes p q = let one = analysis (p .analysed) (q .analysed) in (one .0, p .fluxes ∙ sym (q .fluxes), one .1, one .2, one .3, one .4)

@@ -202,7 +202,8 @@ used-keeps slab (analyses {was} t more) f s =
 module _
     (slab : Slab) {was last : MagnitudeTrack} (sound : Sound slab was) (ran : Ran slab was last)
     (rate : ℕ) (o : TempoOpts) (flux : List Float) (results : Results) (lent : Spare)
-    (fine : analysisNumbersFine (slab .rows) rate o ≡ true) (flux-room : slab .rows ≤ length flux) (room : Enough (roomOf (slab .rows) rate o) results lent) where
+    (fine : analysisNumbersFine (slab .rows) rate o ≡ true) (flux-room : slab .rows ≤ length flux)
+    (room : Enough (roomOf (slab .rows) rate o) results lent) where
   -- a full run on the last rows isn't refused
   pub full-run-is-accepted : magnitudesNumber (last .magnitudes) slab rate o flux results lent ≡ 0
   full-run-is-accepted =

@@ -14,7 +14,8 @@ use Rattle.bars.specs.Downbeats.{beatFlux, inPhase, phaseSum, downbeatPhase, do
 use Rattle.promises.specs.Marked.{valued, Holds, marked}
 
 pub all-hold : Each Holds marked
-unfolding medianOf sort insert key turned toBits ofInt valued suppressed bests lagRange ofBits div mul add sub neg lt le apart agrees gridOf sumFrom downbeatsOf downbeatPhase firstGreatest greatest phaseSum inPhase beatFlux
+unfolding medianOf sort insert key turned toBits ofInt valued suppressed bests lagRange ofBits div mul add sub neg lt le apart agrees gridOf sumFrom
+    downbeatsOf downbeatPhase firstGreatest greatest phaseSum inPhase beatFlux
 all-hold =
     more refl
     (more refl (more refl (more refl

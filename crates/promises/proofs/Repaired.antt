@@ -63,7 +63,8 @@ pub repaired-is-a-full-run :
     → SameRun slab patched answer results fullAnswer fullFlux fullResults
 repaired-is-a-full-run slab begun used rate opts fine flux flux-room lent spare room again full =
     let now = used-keeps slab used (begun-is-fresh slab begun) (begun-is-sound slab begun) in
-    same-as-full-run slab (now .1) stays rate opts flux lent spare (by-bounds (slab .rows) rate opts (slab-fits slab (now .1 .shape) .rows-fit) ∙ fine) flux-room room
+    same-as-full-run slab (now .1) stays rate opts flux lent spare
+    (by-bounds (slab .rows) rate opts (slab-fits slab (now .1 .shape) .rows-fit) ∙ fine) flux-room room
     (now .0) again full
 
 -- The same where the two are lent different slices, as a grid that is kept and one that is made to compare it with.
@@ -90,7 +91,8 @@ repaired-is-a-full-run-elsewhere slab begun used rate opts fine lent spare room 
 -- ---- one patch
 
 -- Where the lent curves were those of the rows, they are those of the edited rows afterwards, bit for bit, whatever the call answers.
-pub patching-equals-starting-over : (slab : Slab) (was : MagnitudeTrack) (patch : Patch) (work : List Float) (answer : Patched) (now : MagnitudeTrack) (work′ : List Float)
+pub patching-equals-starting-over : (slab : Slab) (was : MagnitudeTrack) (patch : Patch) (work : List Float) (answer : Patched) (now : MagnitudeTrack)
+    (work′ : List Float)
     → Fresh slab was → PatchMagnitudesPromise slab was patch work answer now work′ → Fresh slab now
 patching-equals-starting-over = repairs.call-is-fresh
 
@@ -100,7 +102,8 @@ pub rows-are-edited : (slab : Slab) (was : MagnitudeTrack) (patch : Patch) (work
 rows-are-edited = repairs.accepted-is-edited
 
 named : (slab : Slab) (start : ℕ) (x : Float) (xs : List Float) (n f g t u : ℕ) → Wrote f g t u ≡ patchAnswered n slab (patchOf start (x ∷ xs))
-    → let past = pastRow (slab .bins) (patchOf start (x ∷ xs)) in (f ≡ start) × (g ≡ min (past + 1) (slab .rows)) × (t ≡ start - 10) × (u ≡ min (past + 10 + 1) (slab .rows))
+    → let past = pastRow (slab .bins) (patchOf start (x ∷ xs)) in (f ≡ start) × (g ≡ min (past + 1) (slab .rows)) × (t ≡ start - 10)
+    × (u ≡ min (past + 10 + 1) (slab .rows))
 unfolding patchAnswered
 named slab start x xs (suc n) f g t u e = let z : _≡_ {A = ℕ} 0 1 = cc in absurd (omega arith)
 named slab start x xs zero f g t u e =
@@ -112,9 +115,11 @@ named slab start x xs zero f g t u e =
     (p, q, r, s)
 
 -- The slots that it names are demand 3's: flux a to b, threshold a-10 to b+10, cut at the ends.
-pub names-its-slots : (slab : Slab) (was : MagnitudeTrack) (start : ℕ) (x : Float) (xs work : List Float) (f g t u : ℕ) (now : MagnitudeTrack) (work′ : List Float)
+pub names-its-slots : (slab : Slab) (was : MagnitudeTrack) (start : ℕ) (x : Float) (xs work : List Float) (f g t u : ℕ) (now : MagnitudeTrack)
+    (work′ : List Float)
     → PatchMagnitudesPromise slab was (patchOf start (x ∷ xs)) work (Wrote f g t u) now work′
-    → let past = pastRow (slab .bins) (patchOf start (x ∷ xs)) in (f ≡ start) × (g ≡ min (past + 1) (slab .rows)) × (t ≡ start - 10) × (u ≡ min (past + 10 + 1) (slab .rows))
+    → let past = pastRow (slab .bins) (patchOf start (x ∷ xs)) in (f ≡ start) × (g ≡ min (past + 1) (slab .rows)) × (t ≡ start - 10)
+    × (u ≡ min (past + 10 + 1) (slab .rows))
 names-its-slots slab was start x xs work f g t u now work′ done =
     named slab start x xs (patchNumber slab was (patchOf start (x ∷ xs)) (length work)) f g t u (is-answered done)
 

@@ -18,7 +18,18 @@ use Rattle.sections.specs.declared.Sections.{Sections}
 use Rattle.patches.specs.Patches.{Patch, patchOf, pastRow, edited}
 use Rattle.patch_features.specs.declared.PatchedFeatures.{PatchedFeatures}
 use Rattle.patch_features.specs.declared.PatchedFeatures.the-variants.{Refused, Wrote}
-use Rattle.patch_features.specs.Features.{FeatureTrack, featureTrack, pairs, similarityFirst, similarityPast, noveltyFirst, noveltyPast, featurePatchNumber, featuresAnswered, PatchFeaturesPromise}
+use Rattle.patch_features.specs.Features.{
+  FeatureTrack,
+  featureTrack,
+  pairs,
+  similarityFirst,
+  similarityPast,
+  noveltyFirst,
+  noveltyPast,
+  featurePatchNumber,
+  featuresAnswered,
+  PatchFeaturesPromise,
+}
 use Rattle.patch_features.specs.Runs.{noveltyCurve, FreshFeatures, KeptFeatures, SoundFeatures, GoodFeatures, analysedFeatures, RanFeatures, stays}
 use Rattle.patch_features.proofs.Outcomes.{is-answered}
 use Rattle.patch_features.proofs.Repairs as repairs
@@ -88,7 +99,8 @@ pub patching-equals-starting-over : (rows : ℕ) (was : FeatureTrack) (patch : P
 patching-equals-starting-over = repairs.call-is-fresh
 
 -- The rows are then the edited ones.
-pub rows-are-edited : (rows : ℕ) (was : FeatureTrack) (patch : Patch) (f g t u : ℕ) (now : FeatureTrack) → PatchFeaturesPromise rows was patch (Wrote f g t u) now
+pub rows-are-edited : (rows : ℕ) (was : FeatureTrack) (patch : Patch) (f g t u : ℕ) (now : FeatureTrack)
+    → PatchFeaturesPromise rows was patch (Wrote f g t u) now
     → now .features ≡ edited featureWidth (was .features) patch
 rows-are-edited = repairs.accepted-is-edited
 
@@ -122,7 +134,8 @@ pub empty-changes-nothing : (rows : ℕ) (was : FeatureTrack) (start : ℕ) (ans
     → PatchFeaturesPromise rows was (patchOf start []) answer now → now ≡ was
 empty-changes-nothing = repairs.empty-changes-nothing
 
-pub refused-changes-nothing : (rows : ℕ) (was : FeatureTrack) (patch : Patch) (k : ℕ) (now : FeatureTrack) → PatchFeaturesPromise rows was patch (Refused k) now → now ≡ was
+pub refused-changes-nothing : (rows : ℕ) (was : FeatureTrack) (patch : Patch) (k : ℕ) (now : FeatureTrack)
+    → PatchFeaturesPromise rows was patch (Refused k) now → now ≡ was
 refused-changes-nothing = repairs.refused-changes-nothing
 
 -- ---- any run of patches
@@ -133,7 +146,8 @@ pub any-run-is-one-analysis : (rows : ℕ) (lent : FeatureTrack) {now : FeatureT
 any-run-is-one-analysis rows lent ran = repairs.calls-are-one-analysis rows lent ran
 
 -- A patch that is no one's mistake is accepted at any place of a run.
-pub good-is-accepted : (rows : ℕ) (lent : FeatureTrack) {now : FeatureTrack} (patch : Patch) → SoundFeatures rows lent → RanFeatures rows (analysedFeatures rows lent) now → GoodFeatures rows patch
+pub good-is-accepted : (rows : ℕ) (lent : FeatureTrack) {now : FeatureTrack} (patch : Patch) → SoundFeatures rows lent
+    → RanFeatures rows (analysedFeatures rows lent) now → GoodFeatures rows patch
     → featurePatchNumber rows now patch ≡ 0
 good-is-accepted = repairs.good-is-accepted-after-calls
 

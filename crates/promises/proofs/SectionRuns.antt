@@ -1,6 +1,8 @@
 -- The parts of the first two theorems of RepairedSections, for feature rows. A full run is `similarity`, then `novelty` of the similarity that it wrote,
--- then `boundaries` of that novelty. The first two leave what one analysis from nothing does (`analysedFeatures`), so the curves are those of the rows (`FreshFeatures`)
--- and the rows are rows that a full run accepts (`SoundFeatures`). Each step of `UsedFeatures` keeps both: patches do, other slices hold the same first slots, and a
+-- then `boundaries` of that novelty. The first two leave what one analysis from nothing does (`analysedFeatures`), so the curves are those of the
+-- rows (`FreshFeatures`)
+-- and the rows are rows that a full run accepts (`SoundFeatures`). Each step of `UsedFeatures` keeps both: patches do, other slices hold the same
+-- first slots, and a
 -- novelty written anew is again that of the rows, since the similarity is theirs. A novelty of accepted rows is at most 256 in size, so that `boundaries`
 -- accepts it, and what it lists doesn't depend on the slices. What a theorem asks is written in it or at the head of its section; no axiom stands
 -- behind one.
@@ -55,7 +57,8 @@ module _
 -- ---- what is done with a track
 
 -- each step keeps both
-relent-keeps : (rows : ℕ) {was now : FeatureTrack} → RelentFeatures rows was now → FreshFeatures rows was → SoundFeatures rows was → FreshFeatures rows now × SoundFeatures rows now
+relent-keeps : (rows : ℕ) {was now : FeatureTrack} → RelentFeatures rows was now → FreshFeatures rows was → SoundFeatures rows was
+    → FreshFeatures rows now × SoundFeatures rows now
 relent-keeps rows r f s = (
   record {
     similarity = r .same-similarity ∙ f .similarity ∙ ap (similarityCurve rows) (sym (r .same-rows));
@@ -82,7 +85,8 @@ novelty-is rows features similarity lent {novelty} is done =
     let l : length novelty ≡ length lent = ap length f ∙ length-filled rule lent 0 rows (omega arith) room in
     (ap (take rows) f ∙ filled-first rule lent rows, omega arith)
 
-pub used-keeps : (rows : ℕ) {was now : FeatureTrack} → UsedFeatures rows was now → FreshFeatures rows was → SoundFeatures rows was → FreshFeatures rows now × SoundFeatures rows now
+pub used-keeps : (rows : ℕ) {was now : FeatureTrack} → UsedFeatures rows was now → FreshFeatures rows was → SoundFeatures rows was
+    → FreshFeatures rows now × SoundFeatures rows now
 used-keeps rows ends f s = (f, s)
 used-keeps rows (runs ran more) f s = used-keeps rows more (calls-end-fresh rows f ran) (calls-keep-sound rows s ran)
 used-keeps rows (relends r more) f s = let k = relent-keeps rows r f s in used-keeps rows more (k .0) (k .1)
@@ -95,7 +99,8 @@ used-keeps rows (analyses {was} {lent = lent} done more) f s =
 -- ---- after any run of patches
 
 -- `boundaries` accepts the novelty of sound rows
-novelty-accepted : (rows : ℕ) (lent : FeatureTrack) → SoundFeatures rows lent → (samples rate room work : ℕ) → gridFine samples rate ≡ true → rows ≤ room → rows ≤ work
+novelty-accepted : (rows : ℕ) (lent : FeatureTrack) → SoundFeatures rows lent → (samples rate room work : ℕ) → gridFine samples rate ≡ true
+    → rows ≤ room → rows ≤ work
     → boundariesRefusal (noveltyCurve rows (lent .features)) samples rate room work ≡ 0
 unfolding boundariesRefusal noveltyCurve
 novelty-accepted rows lent s samples rate room work grid h k =
@@ -117,7 +122,8 @@ module _
     (first : SimilarityPromise (last .features) rows similarity₀ m similarity)
     (second : NoveltyPromise (take (pairs rows) similarity) rows novelty₀ n novelty)
     (third : BoundariesPromise (take rows novelty) samples rate maxSections begins₀ work₀ answer begins work) where
-  curves-accepted : (m ≡ 0) × (n ≡ 0) × (featureTrack (last .features) similarity novelty ≡ analysedFeatures rows (featureTrack (last .features) similarity₀ novelty₀))
+  curves-accepted : (m ≡ 0) × (n ≡ 0) × (featureTrack (last .features) similarity novelty ≡ analysedFeatures rows
+      (featureTrack (last .features) similarity₀ novelty₀))
   curves-accepted =
       let s = calls-keep-sound rows sound ran in
       sound-is-analysed rows (featureTrack (last .features) similarity₀ novelty₀) similarity novelty m n

@@ -54,7 +54,8 @@ kept-put kept whole ys bytes bins e h w y =
     let n : length whole - bins ≡ bins = omega (arith, ap length w ∙ length-append d d) in
     let back : drop bins whole ≡ d = ap (drop bins) w ∙ drop-at d d bins l in
     let part : take (length whole - bins) (drop bins whole) ≡ d = ap (take (length whole - bins)) back ∙ take-all (length whole - bins) d (omega arith) in
-    let rest : drop (length whole - bins) (drop bins whole) ≡ [] = ap (drop (length whole - bins)) back ∙ drop-of-length-le d {i = length whole - bins} (omega arith) in
+    let rest : drop (length whole - bins) (drop bins whole) ≡ [] = ap (drop (length whole - bins)) back
+    ∙ drop-of-length-le d {i = length whole - bins} (omega arith) in
     let row : ys ≡ valuesOf bytes = y ∙ ap (rowRead bytes) part ∙ row-values bytes d bins h l in
     ap (λ (x : List Float). x ++ (ys ++ drop (length whole - bins) (drop bins whole))) (ap (take bins) w ∙ take-at d d bins l)
     ∙ ap (λ (x : List Float). d ++ (ys ++ x)) rest

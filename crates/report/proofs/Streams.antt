@@ -55,13 +55,16 @@ streamed-more {body} {bytes} {bins} {t} {fine} {fine′} {kept} {kept′} {was} 
     record {
       rows-are = length-append body bytes ∙ omega (arith, s .rows-are, more-rows t bins);
       kept-length = ap length (r .kept-is) ∙ length-append d v ∙ omega arith;
-      last-is = λ p. ap (drop bins) (r .kept-is) ∙ drop-at d v bins ld ∙ sym (last-row slab v bins t ls lv) ∙ ap (λ (x : List Float). row x bins (t + 1 - 1)) (sym whole);
+      last-is = λ p. ap (drop bins) (r .kept-is) ∙ drop-at d v bins ld ∙ sym (last-row slab v bins t ls lv)
+          ∙ ap (λ (x : List Float). row x bins (t + 1 - 1)) (sym whole);
       fine-is = r .fine-is ∙ every-more magnitudeFine slab v fine (s .fine-is) ∙ ap (every magnitudeFine) (sym whole);
-      kept-fine = λ p. ap (every magnitudeFine) (r .kept-is) ∙ every-append magnitudeFine d v (every-drop magnitudeFine kept bins (s .kept-fine (before p))) (here p);
+      kept-fine = λ p. ap (every magnitudeFine) (r .kept-is)
+          ∙ every-append magnitudeFine d v (every-drop magnitudeFine kept bins (s .kept-fine (before p))) (here p);
       room-is = ap length (r .flux-is) ∙ pick-length fine′ _ flux (length was) (length-set flux t _ ∙ s .room-is) (s .room-is);
       flux-is = λ p. r .flux-is ∙ pick-true fine′ _ flux p
           ∙ ap (set flux t) (kept-flux slab d v bins t ls ld lv (s .last-is))
-          ∙ ap (λ (x : List Float). set x t (fluxAt (slab ++ v) (slabOf (t + 1) bins) t)) (s .flux-is (before p) ∙ filled-ext _ _ was 0 t (λ i a b. sym (flux-before slab v bins t ls i b)))
+          ∙ ap (λ (x : List Float). set x t (fluxAt (slab ++ v) (slabOf (t + 1) bins) t))
+          (s .flux-is (before p) ∙ filled-ext _ _ was 0 t (λ i a b. sym (flux-before slab v bins t ls i b)))
           ∙ filled-more (fluxAt (slab ++ v) (slabOf (t + 1) bins)) was 0 t (omega arith) nan (omega (arith, s .room-is))
           ∙ ap (λ (x : List Float). filled (fluxAt x (slabOf (t + 1) bins)) was 0 (t + 1)) (sym whole);
     }

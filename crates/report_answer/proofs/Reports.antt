@@ -60,14 +60,16 @@ share-small : (b : Bool) (x : Float) (agreeing windows : ℕ) → agreeing ≤ w
 share-small true x agreeing windows h k = (omega arith, omega arith)
 share-small false x agreeing windows h k = (omega arith, omega arith)
 
-shares-small : (env : List Float) (rate least most whole : ℕ) → (agreeingIn (shareOf env rate least most whole) ≤ 4) × (windowsIn (shareOf env rate least most whole) ≤ 4)
+shares-small : (env : List Float) (rate least most whole : ℕ) → (agreeingIn (shareOf env rate least most whole) ≤ 4)
+    × (windowsIn (shareOf env rate least most whole) ≤ 4)
 unfolding shareOf
 shares-small env rate least most whole =
     let w = windowsOf (length env) most in
     let agreeing = agreeingTo env rate least most whole w w in
     share-small (eqb whole 0 || ltb w 2) (real agreeing ⊘ real w) agreeing w (agreeing-most env rate least most whole w w) (windows-most (length env) most)
 
-module _ (env : List Float) (rate : ℕ) (o : TempoOpts) (few : length env ≤ mostRows) (bounds : boundsFine rate o ≡ true) (fine : every valueFine env ≡ true) where
+module _ (env : List Float) (rate : ℕ) (o : TempoOpts) (few : length env ≤ mostRows) (bounds : boundsFine rate o ≡ true)
+    (fine : every valueFine env ≡ true) where
   search-passed : searchRefusal env rate o (lagsOf rate o) (lagsOf rate o) (lagsOf rate o) ≡ 0
   unfolding searchRefusal
   search-passed =
@@ -88,13 +90,21 @@ module _ (env : List Float) (rate : ℕ) (o : TempoOpts) (few : length env ≤ m
       (lt-or-le i (estimateIn env rate o .count))
 
   module _ (r : Results) (onsets beats downbeats : List ℕ)
-      (o-are : onsets ≡ writtenIn env rate o r .onsets) (b-are : beats ≡ writtenIn env rate o r .beats) (d-are : downbeats ≡ writtenIn env rate o r .downbeats) where
+      (o-are : onsets ≡ writtenIn env rate o r .onsets) (b-are : beats ≡ writtenIn env rate o r .beats)
+      (d-are : downbeats ≡ writtenIn env rate o r .downbeats) where
     answer-lines : linesOf (analysisOf env rate o) onsets beats downbeats
         ≡ reportText (onsetsIn env rate) (lagsIn (estimateIn env rate o)) (beatsIn env rate o) (downbeatsIn env rate o)
         (agreeingIn (analysisOf env rate o .stability)) (windowsIn (analysisOf env rate o .stability))
     unfolding analysisOf writtenIn
     answer-lines =
-        rw (o-are, b-are, d-are, listed-first (onsetsIn env rate) (r .onsets), listed-first (beatsIn env rate o) (r .beats), listed-first (downbeatsIn env rate o) (r .downbeats)) refl
+        rw (
+          o-are,
+          b-are,
+          d-are,
+          listed-first (onsetsIn env rate) (r .onsets),
+          listed-first (beatsIn env rate o) (r .beats),
+          listed-first (downbeatsIn env rate o) (r .downbeats),
+        ) refl
 
     answer-listable : length onsets ≡ length (r .onsets) → length beats ≡ length (r .beats) → length downbeats ≡ length (r .downbeats)
         → length (r .onsets) ≡ mostReported → length (r .beats) ≡ mostReported → length (r .downbeats) ≡ mostReported
@@ -151,7 +161,8 @@ module _ (env : List Float) (r : Results) (s : Spare) (answer : Analysis) (after
   not-refused =
       let n = by-bounds (length env) reportRate defaultOptions (omega arith) ∙ bounds in
       let q = enough-suffices (inBounds (length env) reportRate defaultOptions) r s enough in
-      lowest-0 (analysisNumbersFine (length env) reportRate defaultOptions) true (suffices (roomOf (length env) reportRate defaultOptions) (frameSlots r) (lagSlots r s) (length (s .work))) (every valueFine env)
+      lowest-0 (analysisNumbersFine (length env) reportRate defaultOptions) true
+      (suffices (roomOf (length env) reportRate defaultOptions) (frameSlots r) (lagSlots r s) (length (s .work))) (every valueFine env)
       n refl
       (ap (λ (x : Room). suffices x (frameSlots r) (lagSlots r s) (length (s .work))) (room-inside (length env) reportRate defaultOptions n) ∙ q)
       fine
@@ -179,10 +190,13 @@ module _ (env : List Float) (r : Results) (s : Spare) (answer : Analysis) (after
   unfolding reportOf analysisOf
   lines-are =
       ap (λ (a : Analysis). linesOf a (after .onsets) (after .beats) (after .downbeats)) answer-is
-      ∙ answer-lines env reportRate defaultOptions (omega arith) bounds fine r (after .onsets) (after .beats) (after .downbeats) onsets-are beats-are downbeats-are
+      ∙ answer-lines env reportRate defaultOptions (omega arith) bounds fine r (after .onsets) (after .beats) (after .downbeats) onsets-are beats-are
+      downbeats-are
 
   -- and the text has room for them
-  pub listable : length (after .onsets) ≡ length (r .onsets) → length (after .beats) ≡ length (r .beats) → length (after .downbeats) ≡ length (r .downbeats) → Listable answer (after .onsets) (after .beats) (after .downbeats)
+  pub listable : length (after .onsets) ≡ length (r .onsets) → length (after .beats) ≡ length (r .beats)
+      → length (after .downbeats) ≡ length (r .downbeats) → Listable answer (after .onsets) (after .beats) (after .downbeats)
   listable p q t =
       rw answer-is
-      (answer-listable env reportRate defaultOptions (omega arith) bounds fine r (after .onsets) (after .beats) (after .downbeats) onsets-are beats-are downbeats-are p q t (lists .onset-lists) (lists .beat-lists) (lists .downbeat-lists))
+      (answer-listable env reportRate defaultOptions (omega arith) bounds fine r (after .onsets) (after .beats)
+      (after .downbeats) onsets-are beats-are downbeats-are p q t (lists .onset-lists) (lists .beat-lists) (lists .downbeat-lists))

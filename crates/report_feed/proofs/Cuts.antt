@@ -34,7 +34,8 @@ run-state (more {bytes = bytes} {parts = rest} s rs) = run-state rs ∙ ap (byte
 
 pub cuts-same : {feed a b : Feed} {held ha hb : List ℕ} {kept ka kb flux fa fb : List Float} {parts others : List (List ℕ)} → joined parts ≡ joined others
     → Run feed held kept flux parts a ha ka fa → Run feed held kept flux others b hb kb fb → state a ha ka fa ≡ state b hb kb fb
-cuts-same {feed} {held = held} {kept = kept} {flux = flux} e p q = run-state p ∙ ap (λ (x : List ℕ). bytesTaken x (state feed held kept flux)) e ∙ sym (run-state q)
+cuts-same {feed} {held = held} {kept = kept} {flux = flux} e p q = run-state p ∙ ap (λ (x : List ℕ). bytesTaken x (state feed held kept flux)) e
+    ∙ sym (run-state q)
 
 -- ---- what is told is true of the whole input
 
@@ -70,7 +71,8 @@ whole-of {input} {answer} {was} {flux} room told =
       flux-is = λ z. accepted told z .flux-is;
     }
 
-cut-fed : {parts : List (List ℕ)} {answer : Reading} {flux : List Float} (r : Cut parts answer flux) → Fed (joined parts) (r .ended) (r .held′) (r .kept′) (r .was) flux
+cut-fed : {parts : List (List ℕ)} {answer : Reading} {flux : List Float} (r : Cut parts answer flux)
+    → Fed (joined parts) (r .ended) (r .held′) (r .kept′) (r .was) flux
 cut-fed r = run-fed [] (r .run) (r .begins .fed (r .held) (r .kept) (r .was) (r .held-room) (r .kept-room) (r .flux-room) (r .kept-fine))
 
 pub however-cut : {parts : List (List ℕ)} {answer : Reading} {flux : List Float} → Cut parts answer flux → Whole (joined parts) answer flux
@@ -93,7 +95,8 @@ agree-of {input} {other} {a} {b} {f} {g} e x y =
       flux-is = λ z. x .flux-is z ∙ ap reportFlux e ∙ sym (y .flux-is (sym n ∙ z));
     }
 
-pub cuts-agree : {parts others : List (List ℕ)} {a b : Reading} {f g : List Float} → joined parts ≡ joined others → Cut parts a f → Cut others b g → Agree a b f g
+pub cuts-agree : {parts others : List (List ℕ)} {a b : Reading} {f g : List Float} → joined parts ≡ joined others → Cut parts a f → Cut others b g
+    → Agree a b f g
 cuts-agree e p q = agree-of e (however-cut p) (however-cut q)
 
 -- ---- a run that stops where the input is decided

@@ -30,8 +30,39 @@ use Rattle.report.proofs.Streams.{streamed-none, streamed-more}
 use Rattle.report_head.specs.declared.Feed.{Feed}
 use Rattle.report_head.specs.declared.Feed.the-variants as come
 use Rattle.report_head.specs.Heads.{behindFirst, behindText, FirstTaken, TextTaken}
-use Rattle.report_feed.specs.Feeds.{Fed, State, state, rowTaken, byteTaken, bytesTaken, readingOf, isDecided, RowsWithin, PartWithin, FeedReady, InRows, Parts, Begins, Step, InputFound, Told, Decides, Closes}
-use Rattle.report_feed.proofs.Inputs.{rows-fit, bins-some, bins-fit, number-short, number-malformed, number-text-short, number-text-malformed, number-data, number-shape, number-length}
+use Rattle.report_feed.specs.Feeds.{
+  Fed,
+  State,
+  state,
+  rowTaken,
+  byteTaken,
+  bytesTaken,
+  readingOf,
+  isDecided,
+  RowsWithin,
+  PartWithin,
+  FeedReady,
+  InRows,
+  Parts,
+  Begins,
+  Step,
+  InputFound,
+  Told,
+  Decides,
+  Closes,
+}
+use Rattle.report_feed.proofs.Inputs.{
+  rows-fit,
+  bins-some,
+  bins-fit,
+  number-short,
+  number-malformed,
+  number-text-short,
+  number-text-malformed,
+  number-data,
+  number-shape,
+  number-length,
+}
 
 -- ---- nothing has come
 
@@ -63,12 +94,14 @@ moved-of : {byte : ℕ} {feed feed′ : Feed} {held held′ : List ℕ} {kept ke
     → Moved byte feed held kept flux feed′ held′ kept′ flux′
 moved-of r f = record { ready = r; fed = λ input was x. record { ready = r; parts = f input was (x .parts) } }
 
-step-of : {byte : ℕ} {feed feed′ : Feed} {held held′ : List ℕ} {kept kept′ flux flux′ : List Float} → state feed′ held′ kept′ flux′ ≡ byteTaken byte (state feed held kept flux)
+step-of : {byte : ℕ} {feed feed′ : Feed} {held held′ : List ℕ} {kept kept′ flux flux′ : List Float}
+    → state feed′ held′ kept′ flux′ ≡ byteTaken byte (state feed held kept flux)
     → Moved byte feed held kept flux feed′ held′ kept′ flux′ → Step (byte ∷ []) feed held kept flux feed′ held′ kept′ flux′
 unfolding bytesTaken
 step-of e m = record { state-is = e; ready = m .ready; fed = m .fed }
 
-ready-as : {feed feed′ : Feed} {held held′ : List ℕ} {kept flux : List Float} → FeedReady feed held kept flux → length held′ ≡ length held → PartWithin feed′ kept
+ready-as : {feed feed′ : Feed} {held held′ : List ℕ} {kept flux : List Float} → FeedReady feed held kept flux → length held′ ≡ length held
+    → PartWithin feed′ kept
     → FeedReady feed′ held′ kept flux
 ready-as r e w = record { held-room = omega (arith, r .held-room); kept-room = r .kept-room; flux-room = r .flux-room; within = w }
 
@@ -94,7 +127,8 @@ step-refused {number} {byte} r =
 
 -- ---- the ten bytes
 
-pub first-fits : {have : ℕ} {held : List ℕ} {kept flux : List Float} → FeedReady (come.First have) held kept flux → (have < preambleLength) × (preambleLength ≤ length held)
+pub first-fits : {have : ℕ} {held : List ℕ} {kept flux : List Float} → FeedReady (come.First have) held kept flux
+    → (have < preambleLength) × (preambleLength ≤ length held)
 unfolding PartWithin
 first-fits r = (r .within .0, omega (arith, r .held-room))
 
@@ -180,7 +214,8 @@ step-text {byte} {size} {have} {feed′} {held} {held′} {kept} {flux} r t =
     more = grown held held′ have byte (t .held-is) (omega (arith, r .within .0, r .within .1, r .held-room))
 
     behind : (first input : List ℕ) → input ≡ first ++ take have held → input ++ (byte ∷ []) ≡ first ++ take (have + 1) held′
-    behind first input e = ap (λ (x : List ℕ). x ++ (byte ∷ [])) e ∙ append-assoc first (take have held) (byte ∷ []) ∙ ap (λ (x : List ℕ). first ++ x) (sym more)
+    behind first input e = ap (λ (x : List ℕ). x ++ (byte ∷ [])) e ∙ append-assoc first (take have held) (byte ∷ [])
+        ∙ ap (λ (x : List ℕ). first ++ x) (sym more)
 
     text : List ℕ
     text = take size held′
@@ -194,15 +229,23 @@ step-text {byte} {size} {have} {feed′} {held} {held′} {kept} {flux} r t =
     whole : have + 1 ≡ size → (first input : List ℕ) → input ≡ first ++ take have held → input ++ (byte ∷ []) ≡ first ++ text
     whole full first input e = behind first input e ∙ ap (λ (k : ℕ). first ++ take k held′) full
 
-    on : have + 1 ≡ size → (first input rest : List ℕ) → input ≡ first ++ take have held → reportNumber ((input ++ (byte ∷ [])) ++ rest) ≡ reportNumber (first ++ (text ++ rest))
+    on : have + 1 ≡ size → (first input rest : List ℕ) → input ≡ first ++ take have held
+        → reportNumber ((input ++ (byte ∷ [])) ++ rest) ≡ reportNumber (first ++ (text ++ rest))
     on full first input rest e = ap (λ (x : List ℕ). reportNumber (x ++ rest)) (whole full first input e) ∙ ap reportNumber (append-assoc first text rest)
 
-    shaped : have + 1 ≡ size → (rows bins : ℕ) → headerOf text ≡ header.Shape rows bins → (b : Bool) → shapeFine rows bins ≡ b → To (pick b (come.Rows rows bins 0 0 true) (come.Refused 1))
+    shaped : have + 1 ≡ size → (rows bins : ℕ) → headerOf text ≡ header.Shape rows bins → (b : Bool) → shapeFine rows bins ≡ b
+        → To (pick b (come.Rows rows bins 0 0 true) (come.Refused 1))
     shaped full rows bins s true e =
         let room : 2 * bins ≤ length kept = omega (arith, r .kept-room, bins-fit rows bins e) in
         let fine : every magnitudeFine (take (2 * bins) kept) ≡ true = every-take magnitudeFine kept (2 * bins) (r .within .2) in
         moved-of
-        (ready-as r same (record { shape-is = e; row-is = omega arith; have-is = omega (arith, bins-some rows bins e); none-behind = λ z. refl; kept-fine = λ z. fine }))
+        (ready-as r same (record {
+          shape-is = e;
+          row-is = omega arith;
+          have-is = omega (arith, bins-some rows bins e);
+          none-behind = λ z. refl;
+          kept-fine = λ z. fine;
+        }))
         (λ input was p.
         record {
           first = p .first;
@@ -218,7 +261,8 @@ step-text {byte} {size} {have} {feed′} {held} {held′} {kept} {flux} r t =
         moved-of (ready-as r same tt) (λ input was p.
         record {
           some = λ z. absurd (omega arith);
-          whatever = λ rest. on full (p .first) input rest (p .input-is) ∙ number-shape (p .first) (p .first-is) text (stated (p .first) (p .stated-is)) rows bins s e rest;
+          whatever = λ rest. on full (p .first) input rest (p .input-is)
+              ∙ number-shape (p .first) (p .first-is) text (stated (p .first) (p .stated-is)) rows bins s e rest;
         })
 
     told : have + 1 ≡ size → (x : Header) → headerOf text ≡ x → To (behindText x)
@@ -226,7 +270,8 @@ step-text {byte} {size} {have} {feed′} {held} {held′} {kept} {flux} r t =
         moved-of (ready-as r same tt) (λ input was p.
         record {
           some = λ z. absurd (omega arith);
-          whatever = λ rest. on full (p .first) input rest (p .input-is) ∙ number-text-malformed (p .first) (p .first-is) text (stated (p .first) (p .stated-is)) s rest;
+          whatever = λ rest. on full (p .first) input rest (p .input-is)
+              ∙ number-text-malformed (p .first) (p .first-is) text (stated (p .first) (p .stated-is)) s rest;
         })
     told full (header.Shape rows bins) s = shaped full rows bins s (shapeFine rows bins) refl
 
@@ -280,7 +325,14 @@ module _ {rows bins t have : ℕ} {fine : Bool} {held : List ℕ} {kept flux : L
             = ap (λ (x : List ℕ). (x ++ (byte ∷ [])) ++ rest) (p .input-is) ∙ simp append-assoc in
             ap reportNumber parts
             ∙ number-length (p .first) (p .first-is) (p .text) (p .stated-is) rows bins (p .header-is) (rows-within .shape-is) (p .body ++ tail) (λ z.
-            omega (arith, z, length-append (p .body) tail, length-append (take have held) ((byte ∷ []) ++ rest), p .streamed .rows-are ∙ ap (λ (k : ℕ). k * bins * 4) e));
+            omega (
+              arith,
+              z,
+              length-append (p .body) tail,
+              length-append (take have held) ((byte ∷ []) ++ rest),
+              p .streamed .rows-are
+                  ∙ ap (λ (k : ℕ). k * bins * 4) e,
+            ));
       }))
 
   -- a byte within a row
@@ -291,7 +343,14 @@ module _ {rows bins t have : ℕ} {fine : Bool} {held : List ℕ} {kept flux : L
       let w = rows-within in
       let more = grown held (set held have byte) have byte refl have-fits in
       step-of (sym (pick-false _ _ _ (ne-eqb t rows (λ e. omega arith)) ∙ pick-true _ _ _ (lt-ltb _ _ k))) (moved-of
-      (ready-as r (length-set held have byte) (record { shape-is = w .shape-is; row-is = w .row-is; have-is = k; none-behind = λ z. absurd (omega arith); kept-fine = w .kept-fine }))
+      (ready-as r (length-set held have byte) (record {
+        shape-is = w .shape-is;
+        row-is = w .row-is;
+        have-is = k;
+        none-behind = λ z. absurd
+            (omega arith);
+        kept-fine = w .kept-fine;
+      }))
       (λ input was p.
       record {
         first = p .first;
@@ -305,8 +364,10 @@ module _ {rows bins t have : ℕ} {fine : Bool} {held : List ℕ} {kept flux : L
       }))
 
   -- the last byte of a row
-  pub step-row : {byte : ℕ} {still : Bool} {bytes : List ℕ} {pair pair′ kept′ flux′ : List Float} → t < rows → have + 1 ≡ bins * 4 → bytes ≡ take (bins * 4) (set held have byte)
-      → pair ≡ take (2 * bins) kept → RowTaken bytes bins t fine pair flux still pair′ flux′ → kept′ ≡ pair′ ++ drop (2 * bins) kept → length pair′ ≡ 2 * bins → length kept′ ≡ length kept → length flux′ ≡ length flux
+  pub step-row : {byte : ℕ} {still : Bool} {bytes : List ℕ} {pair pair′ kept′ flux′ : List Float} → t < rows → have + 1 ≡ bins * 4
+      → bytes ≡ take (bins * 4) (set held have byte)
+      → pair ≡ take (2 * bins) kept → RowTaken bytes bins t fine pair flux still pair′ flux′ → kept′ ≡ pair′ ++ drop (2 * bins) kept
+      → length pair′ ≡ 2 * bins → length kept′ ≡ length kept → length flux′ ≡ length flux
       → Step (byte ∷ []) (come.Rows rows bins t have fine) held kept flux (come.Rows rows bins (t + 1) 0 still) (set held have byte) kept′ flux′
   unfolding PartWithin Parts byteTaken rowTaken
   step-row {byte} {still} {bytes} {pair} {pair′} {kept′} {flux′} h k b q taken k′ lp lk lf =
@@ -316,14 +377,17 @@ module _ {rows bins t have : ℕ} {fine : Bool} {held : List ℕ} {kept flux : L
       let new = valuesOf (take (bins * 4) (set held have byte)) in
       let pair″ = drop bins (take (2 * bins) kept) ++ new in
       let is : state (come.Rows rows bins (t + 1) 0 still) (set held have byte) kept′ flux′ ≡ rowTaken rows bins t fine (set held have byte) kept flux
-      = ap (λ (x : List Float). state (come.Rows rows bins (t + 1) 0 still) (set held have byte) x flux′) (k′ ∙ ap (λ (x : List Float). x ++ drop (2 * bins) kept) (now .kept-is))
+      = ap (λ (x : List Float). state (come.Rows rows bins (t + 1) 0 still) (set held have byte) x flux′)
+      (k′ ∙ ap (λ (x : List Float). x ++ drop (2 * bins) kept) (now .kept-is))
       ∙ ap (λ (x : List Float). state (come.Rows rows bins (t + 1) 0 still) (set held have byte) (pair″ ++ drop (2 * bins) kept) x) (now .flux-is)
       ∙ ap
-      (λ (y : Bool). state (come.Rows rows bins (t + 1) 0 y) (set held have byte) (pair″ ++ drop (2 * bins) kept) (pick y (set flux t (fluxAt pair″ (slabOf 2 bins) (min t 1))) flux))
+      (λ (y : Bool). state (come.Rows rows bins (t + 1) 0 y) (set held have byte) (pair″ ++ drop (2 * bins) kept)
+      (pick y (set flux t (fluxAt pair″ (slabOf 2 bins) (min t 1))) flux))
       (now .fine-is) in
       let lb : length bytes ≡ bins * 4 = ap length b ∙ length-take-le (bins * 4) (set held have byte) (omega (arith, length-set held have byte, have-fits)) in
       let room : t < length flux = omega (arith, r .flux-room, rows-fit rows bins (w .shape-is)) in
-      let more : bytes ≡ take have held ++ (byte ∷ []) = b ∙ ap (λ (n : ℕ). take n (set held have byte)) (sym k) ∙ grown held (set held have byte) have byte refl have-fits in
+      let more : bytes ≡ take have held ++ (byte ∷ []) = b ∙ ap (λ (n : ℕ). take n (set held have byte)) (sym k)
+      ∙ grown held (set held have byte) have byte refl have-fits in
       let ready : FeedReady (come.Rows rows bins (t + 1) 0 still) (set held have byte) kept′ flux′
       = record {
         held-room = omega (arith, r .held-room, length-set held have byte);
@@ -337,7 +401,8 @@ module _ {rows bins t have : ℕ} {fine : Bool} {held : List ℕ} {kept flux : L
           kept-fine = λ z. ap (every magnitudeFine) q′ ∙ pair-fine taken (λ f. ap (every magnitudeFine) q ∙ w .kept-fine f) z;
         };
       } in
-      step-of (sym (pick-false _ _ _ (ne-eqb t rows (λ e. omega arith)) ∙ pick-false _ _ _ (le-ltb (have + 1) (bins * 4) (omega arith)) ∙ sym is)) (moved-of ready (λ input was p.
+      step-of (sym (pick-false _ _ _ (ne-eqb t rows (λ e. omega arith)) ∙ pick-false _ _ _ (le-ltb (have + 1) (bins * 4) (omega arith)) ∙ sym is))
+      (moved-of ready (λ input was p.
       record {
         first = p .first;
         text = p .text;
@@ -371,7 +436,8 @@ step-on {a} {b} s u =
     }
 
 -- one byte more of those that are lent
-pub step-next : (bytes : List ℕ) (i : ℕ) {feed feed′ feed″ : Feed} {held held′ held″ : List ℕ} {kept kept′ kept″ flux flux′ flux″ : List Float} → i < length bytes
+pub step-next : (bytes : List ℕ) (i : ℕ) {feed feed′ feed″ : Feed} {held held′ held″ : List ℕ} {kept kept′ kept″ flux flux′ flux″ : List Float}
+    → i < length bytes
     → Step (take i bytes) feed held kept flux feed′ held′ kept′ flux′ → Step (getD bytes i 0 ∷ []) feed′ held′ kept′ flux′ feed″ held″ kept″ flux″
     → Step (take (i + 1) bytes) feed held kept flux feed″ held″ kept″ flux″
 step-next bytes i h s u = rw (add-one i, take-suc bytes i 0 h) (step-on s u)
@@ -424,7 +490,8 @@ closes-text {size} {have} =
           let p = x .parts in
           let l : length (take have held) ≡ have = length-take-le have held (omega (arith, x .ready .held-room, x .ready .within .0, x .ready .within .1)) in
           record {
-            number-is = sym (ap reportNumber (p .input-is) ∙ number-text-short (p .first) (p .first-is) size (p .stated-is) (take have held) (omega (arith, x .ready .within .0)));
+            number-is = sym (ap reportNumber (p .input-is) ∙ number-text-short (p .first) (p .first-is) size (p .stated-is) (take have held)
+                (omega (arith, x .ready .within .0)));
             found = refused-found (λ z. absurd (omega arith));
           };
     }
@@ -448,7 +515,8 @@ closes-rows {rows} {bins} {t} {have} {number} {fine} n =
     }
   where
     by : (input held : List ℕ) (kept was flux : List Float) → RowsWithin rows bins t have fine kept → InRows input rows bins t have fine held kept was flux
-        → FeedReady (come.Rows rows bins t have fine) held kept flux → (b : Bool) → eqb t rows ≡ b → Told input (record { number = number; rows = rows }) was flux
+        → FeedReady (come.Rows rows bins t have fine) held kept flux → (b : Bool) → eqb t rows ≡ b
+        → Told input (record { number = number; rows = rows }) was flux
     by input held kept was flux w p r false e =
         let fewer : t < rows = let d : t ≡ rows → ⊥ = eqb-false t rows e in omega (arith, w .row-is) in
         let l : length (take have held) ≡ have = length-take-le have held (omega (arith, have-fits r)) in
@@ -462,7 +530,8 @@ closes-rows {rows} {bins} {t} {have} {number} {fine} n =
     by input held kept was flux w p r true e =
         let all : t ≡ rows = eqb-true t rows e in
         let none : take have held ≡ [] = ap (λ (k : ℕ). take k held) (w .none-behind all) in
-        let parts : input ≡ p .first ++ (p .text ++ p .body) = p .input-is ∙ ap (λ (x : List ℕ). p .first ++ (p .text ++ x)) (ap (λ (x : List ℕ). p .body ++ x) none ∙ append-nil (p .body)) in
+        let parts : input ≡ p .first ++ (p .text ++ p .body) =
+        p .input-is ∙ ap (λ (x : List ℕ). p .first ++ (p .text ++ x)) (ap (λ (x : List ℕ). p .body ++ x) none ∙ append-nil (p .body)) in
         let whole : length (p .body) ≡ rows * bins * 4 = p .streamed .rows-are ∙ ap (λ (k : ℕ). k * bins * 4) all in
         record {
           number-is = n

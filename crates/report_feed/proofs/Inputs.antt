@@ -22,7 +22,19 @@ use Rattle.texts.specs.Texts.{starts}
 use Rattle.report_npy.specs.Header.{magic, headerOf, preambleOf}
 use Rattle.flux.specs.Flux.{fluxAt}
 use Rattle.flux.proofs.Fluxes.{flux-curve-fine}
-use Rattle.report.specs.Input.{mostReported, preambleLength, valuesOf, shapeFine, dataNumber, headerNumber, preambleNumber, reportNumber, headerFlux, preambleFlux, reportFlux}
+use Rattle.report.specs.Input.{
+  mostReported,
+  preambleLength,
+  valuesOf,
+  shapeFine,
+  dataNumber,
+  headerNumber,
+  preambleNumber,
+  reportNumber,
+  headerFlux,
+  preambleFlux,
+  reportFlux,
+}
 use Rattle.report_feed.specs.declared.Reading.{Reading}
 use Rattle.report_feed.specs.Feeds.{Told}
 
@@ -111,7 +123,8 @@ pub record Accepted (input : List ℕ) (rows : ℕ) (flux : List Float) : Type 0
   pub flux-is : take rows flux ≡ reportFlux input
   pub fine-is : every valueFine (take rows flux) ≡ true
 
-flux-of : (first text body : List ℕ) (rows bins : ℕ) → length first ≡ preambleLength → preambleOf first ≡ preamble.Length (length text) → headerOf text ≡ header.Shape rows bins
+flux-of : (first text body : List ℕ) (rows bins : ℕ) → length first ≡ preambleLength → preambleOf first ≡ preamble.Length (length text)
+    → headerOf text ≡ header.Shape rows bins
     → reportFlux (first ++ (text ++ body)) ≡ curve (fluxAt (valuesOf body) (slabOf rows bins)) rows
 unfolding reportFlux
 flux-of first text body rows bins l p h =
@@ -123,12 +136,14 @@ flux-of first text body rows bins l p h =
     ∙ ap (headerFlux (headerOf text)) (drop-append-seam text body)
     ∙ ap (λ (x : Header). headerFlux x body) h
 
-pub accepted : {input : List ℕ} {was flux : List Float} {answer : Reading} → Told input answer was flux → answer .number ≡ 0 → Accepted input (answer .rows) flux
+pub accepted : {input : List ℕ} {was flux : List Float} {answer : Reading} → Told input answer was flux → answer .number ≡ 0
+    → Accepted input (answer .rows) flux
 accepted {input} {was} {flux} {answer} r z =
     let f = r .found z in
     let rows = answer .rows in
     let rule = fluxAt (valuesOf (f .body)) (slabOf rows (f .bins)) in
-    let e : take rows flux ≡ curve rule rows = ap (take rows) (f .flux-is ∙ filled-whole rule was rows) ∙ take-at (curve rule rows) (drop rows was) rows (length-tab rule 0 rows) in
+    let e : take rows flux ≡ curve rule rows = ap (take rows) (f .flux-is ∙ filled-whole rule was rows)
+    ∙ take-at (curve rule rows) (drop rows was) rows (length-tab rule 0 rows) in
     record {
       rows-fit = f .rows-fit;
       flux-is = e ∙ sym (flux-of (f .first) (f .text) (f .body) rows (f .bins) (f .first-is) (f .stated-is) (f .header-is)) ∙ ap reportFlux (sym (f .input-is));

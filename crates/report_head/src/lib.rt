@@ -1,10 +1,10 @@
 // The head of an input of the reporting program that comes byte by byte: its first ten bytes, and the header's text behind them.
 //
 // Document 01, The reporting program. Inner calls all: report_feed calls them, which takes the rows too.
-use report_npy::Header;
-use report_npy::Preamble;
 use numbers::MALFORMED;
 use numbers::OUT_OF_BOUNDS;
+use report_npy::Header;
+use report_npy::Preamble;
 ghost use mathlib.Core.Path.{_≡_};
 ghost use Prim.Native.Nat.{ℕ, _≤_, _<_};
 ghost use lib.ListN.{length};

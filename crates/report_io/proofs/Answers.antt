@@ -49,7 +49,8 @@ module _ {was flux : List Float} {reading : Reading} (r : InputRead was reading 
   unfolding textOf answerOf
   read-text = by (reading .number) refl ∙ ap (λ (n : ℕ). unlessRefused n (reportOf (reportFlux (r .input))) (refusalText n)) (r .told .number-is)
     where
-      by : (n : ℕ) → reading .number ≡ n → unlessRefused n (reportOf (take (reading .rows) flux)) (refusalText n) ≡ unlessRefused n (reportOf (reportFlux (r .input))) (refusalText n)
+      by : (n : ℕ) → reading .number ≡ n → unlessRefused n (reportOf (take (reading .rows) flux)) (refusalText n) ≡ unlessRefused n
+          (reportOf (reportFlux (r .input))) (refusalText n)
       by zero e = ap reportOf (accepted (r .told) e .flux-is)
       by (suc k) e = refl
 

@@ -23,11 +23,20 @@ three-lags (a ∷ b ∷ c ∷ d ∷ cs) z e = absurd (omega arith)
 pub lines-put : (a : Analysis) (onsets beats downbeats lags : List ℕ) (share : Counts) {bytes bytes′ : List ℕ} {end : ℕ} → lags ≡ candidateLags (a .candidates)
     → share ≡ record { agreeing = agreeingIn (a .stability); windows = windowsIn (a .stability) } → Listable a onsets beats downbeats
     → PutWithin bytes 0
-    (reportText (take (a .onsets - 0) onsets) (take (a .count - 0) lags) (take (a .beats - 0) beats) (take (a .downbeats - 0) downbeats) (share .agreeing) (share .windows))
+    (reportText (take (a .onsets - 0) onsets) (take (a .count - 0) lags) (take (a .beats - 0) beats) (take (a .downbeats - 0) downbeats)
+    (share .agreeing) (share .windows))
     (reportRoom (length (take (a .onsets - 0) onsets)) (length (take (a .beats - 0) beats)) (length (take (a .downbeats - 0) downbeats)))
     end bytes′
     → PutWithin bytes 0 (linesOf a onsets beats downbeats) textRoom end bytes′
 lines-put a onsets beats downbeats lags share l s q p =
     put-as (rw (sub-zero (a .onsets), sub-zero (a .count), sub-zero (a .beats), sub-zero (a .downbeats), l, s) refl)
-    (omega (arith, length-take (a .onsets - 0) onsets, length-take (a .beats - 0) beats, length-take (a .downbeats - 0) downbeats, q .onset-lists, q .beat-lists, q .downbeat-lists))
+    (omega (
+      arith,
+      length-take (a .onsets - 0) onsets,
+      length-take (a .beats - 0) beats,
+      length-take (a .downbeats - 0) downbeats,
+      q .onset-lists,
+      q .beat-lists,
+      q .downbeat-lists,
+    ))
     p

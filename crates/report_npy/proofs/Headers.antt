@@ -92,7 +92,8 @@ module _ (n : ℕ) (text : List ℕ) (at : ℕ) where
       columns-at-end k =
           columns-malformed n (drop at text) (sym (and-held _ _ p) ∙ sym (and-held _ _ closed) ∙ ap ended (behind-more text at end e 4) ∙ k)
 
-      pub columns-at : ended (drop (end + 4) text) ≡ true → columnsOf n (drop at text) ≡ Shape (heldNumber n) (heldNumber (numberFrom 0 (leading (drop at text))))
+      pub columns-at : ended (drop (end + 4) text) ≡ true → columnsOf n (drop at text) ≡ Shape (heldNumber n)
+          (heldNumber (numberFrom 0 (leading (drop at text))))
       columns-at k = columns-shape n (drop at text) p closed (ap ended (behind-more text at end e 4) ∙ k)
 
 -- ---- what is written is read
@@ -184,7 +185,8 @@ record Columns (n : ℕ) (text : List ℕ) (p q : ℕ) : Type 0 where
 columns-written : (n : ℕ) (text : List ℕ) (p q : ℕ) → columnsOf n text ≡ Shape p q → Columns n text p q
 unfolding columnsOf
 columns-written n text p q e =
-    let w = shape-passed (plain (leading text) && (starts closing (behind text) && ended (drop 4 (behind text)))) (Shape (heldNumber n) (heldNumber (numberFrom 0 (leading text)))) p q e in
+    let w = shape-passed (plain (leading text) && (starts closing (behind text) && ended (drop 4 (behind text))))
+    (Shape (heldNumber n) (heldNumber (numberFrom 0 (leading text)))) p q e in
     let good = and-left (plain (leading text)) _ (w .0) in
     let rest = and-right (plain (leading text)) _ (w .0) in
     let shut = starts-split closing (behind text) (and-left (starts closing (behind text)) _ rest) in

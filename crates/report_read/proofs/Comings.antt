@@ -29,9 +29,11 @@ pub coming-none : {feed : Feed} {held : List ℕ} {kept was : List Float} → Be
     → (heldRoom ≤ length held) × (2 * mostBins ≤ length kept) × (mostReported ≤ length was) × (every magnitudeFine kept ≡ true) → Coming feed held kept was was
 coming-none {feed} {held} {kept} {was} b h = record { input = []; fed = b .fed held kept was (h .0) (h .1) (h .2) (h .3) }
 
-pub coming-more : {bytes : List ℕ} {feed feed′ : Feed} {held held′ : List ℕ} {kept kept′ was flux flux′ : List Float} → Step bytes feed held kept flux feed′ held′ kept′ flux′
+pub coming-more : {bytes : List ℕ} {feed feed′ : Feed} {held held′ : List ℕ} {kept kept′ was flux flux′ : List Float}
+    → Step bytes feed held kept flux feed′ held′ kept′ flux′
     → Coming feed held kept was flux → Coming feed′ held′ kept′ was flux′
 coming-more {bytes} {was = was} s come = record { input = come .input ++ bytes; fed = s .fed (come .input) was (come .fed) }
 
-pub coming-told : {feed : Feed} {held : List ℕ} {kept was flux : List Float} {answer : Reading} → Closes feed answer → Coming feed held kept was flux → InputRead was answer flux
+pub coming-told : {feed : Feed} {held : List ℕ} {kept was flux : List Float} {answer : Reading} → Closes feed answer → Coming feed held kept was flux
+    → InputRead was answer flux
 coming-told {feed} {held} {kept} {was} {flux} c come = record { input = come .input; told = c .tells (come .input) held kept was flux (come .fed) }

@@ -13,7 +13,22 @@ use Rattle.numbers.specs.Limits.{mostRows, magnitudeFine, valueFine, slabFine, 
 use Rattle.numbers.specs.Lists.{every}
 use Rattle.numbers.specs.declared.Slab.{Slab}
 use Rattle.numbers.proofs.Slabs.{slab-fits}
-use Rattle.numbers.proofs.Tests.{which, and-left, and-right, and-both, and-held, and-failed, pick-true, pick-false, lowest-zero, lowest-0, lowest-1, lowest-2, lowest-3, lowest-4}
+use Rattle.numbers.proofs.Tests.{
+  which,
+  and-left,
+  and-right,
+  and-both,
+  and-held,
+  and-failed,
+  pick-true,
+  pick-false,
+  lowest-zero,
+  lowest-0,
+  lowest-1,
+  lowest-2,
+  lowest-3,
+  lowest-4,
+}
 use Rattle.flux.proofs.Fluxes.{FluxFine}
 use Rattle.threshold.specs.Threshold.{windowRoom}
 use Rattle.options.specs.declared.TempoOpts.{TempoOpts}
@@ -54,7 +69,8 @@ module _ (rows rate : ℕ) (o : TempoOpts) where
   room-outside e = pick-false (analysisNumbersFine rows rate o) (inBounds rows rate o) outside e
 
   -- the room that is computed
-  pub named-room : (lags sorting least : ℕ) → rows ≤ mostRows → boundsFine rate o ≡ true → lags ≡ lagsOf rate o → least ≡ windowRoom rows → sorting ≡ max lags least
+  pub named-room : (lags sorting least : ℕ) → rows ≤ mostRows → boundsFine rate o ≡ true → lags ≡ lagsOf rate o → least ≡ windowRoom rows
+      → sorting ≡ max lags least
       → _≡_ {A = Room} (record { number = 0; rows = rows; lags = lags; sorting = sorting }) (roomOf rows rate o)
   named-room lags sorting least h fine l m s =
       ap (λ (k : ℕ). record { number = 0; rows = rows; lags = lags; sorting = k }) (s ∙ ap (max lags) m)
@@ -86,7 +102,8 @@ module _ (room : Room) (frames lags : List ℕ) (work : ℕ) where
 -- the numbers are in bounds where the room was named
 module _ (rows rate : ℕ) (o : TempoOpts) (room : Room) (is : room ≡ roomOf rows rate o) where
   pub named : room .number ≡ 0 → analysisNumbersFine rows rate o ≡ true
-  named z = ⊎-elim (λ e. e) (λ e. let n : room .number ≡ 1 = ap (λ (r : Room). r .number) (is ∙ room-outside rows rate o e) in absurd (omega arith)) (which (analysisNumbersFine rows rate o))
+  named z = ⊎-elim (λ e. e) (λ e. let n : room .number ≡ 1 = ap (λ (r : Room). r .number) (is ∙ room-outside rows rate o e) in absurd (omega arith))
+      (which (analysisNumbersFine rows rate o))
 
   pub unnamed : (room .number ≡ 0 → ⊥) → analysisNumbersFine rows rate o ≡ false
   unnamed h = ⊎-elim (λ e. absurd (h (ap (λ (r : Room). r .number) (is ∙ room-inside rows rate o e)))) (λ e. e) (which (analysisNumbersFine rows rate o))
@@ -146,9 +163,9 @@ module _ (magnitudes : List Float) (slab : Slab) (rate : ℕ) (o : TempoOpts) (f
     pub magnitudes-1 : (room .number ≡ 0 → ⊥) → 1 ≡ magnitudesRefusal magnitudes slab rate o flux frames lags work
     magnitudes-1 h =
         refused-1 (
-          sym (and-held (slabFine slab) (boundsFine rate o) shape)
-          ∙ sym (by-bounds (slab .rows) rate o (slab-fits slab shape .rows-fit))
-          ∙ unnamed (slab .rows) rate o room is h
+        sym (and-held (slabFine slab) (boundsFine rate o) shape)
+        ∙ sym (by-bounds (slab .rows) rate o (slab-fits slab shape .rows-fit))
+        ∙ unnamed (slab .rows) rate o room is h
         )
 
     module _ (z : room .number ≡ 0) where
@@ -173,8 +190,8 @@ module _ (magnitudes : List Float) (slab : Slab) (rate : ℕ) (o : TempoOpts) (f
           wide-is : wide ≡ b
           wide-is =
               sym (
-                asked ∙ ap (λ (r : Room). suffices r frames lags work) is
-                ∙ and-held (leb (slab .rows) flux) (suffices (roomOf (slab .rows) rate o) frames lags work) (le-leb (slab .rows) flux f)
+              asked ∙ ap (λ (r : Room). suffices r frames lags work) is
+              ∙ and-held (leb (slab .rows) flux) (suffices (roomOf (slab .rows) rate o) frames lags work) (le-leb (slab .rows) flux f)
               )
 
           pub magnitudes-3 : b ≡ false → 3 ≡ magnitudesRefusal magnitudes slab rate o flux frames lags work

@@ -140,7 +140,8 @@ none-enough r s =
 -- a room with a slice too short for it has its numbers in bounds
 short-bounds : (rows rate : ℕ) (o : TempoOpts) (r : Results) (s : Spare) → Short (roomOf rows rate o) r s → analysisNumbersFine rows rate o ≡ true
 short-bounds rows rate o r s w =
-    ⊎-elim (λ e. e) (λ e. absurd (enough-not-short outside r s (none-enough r s) (subst (λ (x : Room). Short x r s) (room-outside rows rate o e) w))) (which (analysisNumbersFine rows rate o))
+    ⊎-elim (λ e. e) (λ e. absurd (enough-not-short outside r s (none-enough r s) (subst (λ (x : Room). Short x r s) (room-outside rows rate o e) w)))
+    (which (analysisNumbersFine rows rate o))
 
 -- ---- an envelope
 
@@ -177,7 +178,8 @@ module _ (env : List Float) (rate : ℕ) (o : TempoOpts) (r : Results) (s : Spar
   -- with each slice at least what `room_of` names, number 3 is never given
   pub exact-room : Enough (roomOf (length env) rate o) r s → envelopeNumber env rate o r s ≡ 3 → ⊥
   unfolding envelopeRefusal
-  exact-room e = never-3 (analysisNumbersFine (length env) rate o) true (enough? (roomOf (length env) rate o) r s) (every valueFine env) (enough-suffices (roomOf (length env) rate o) r s e)
+  exact-room e = never-3 (analysisNumbersFine (length env) rate o) true (enough? (roomOf (length env) rate o) r s) (every valueFine env)
+      (enough-suffices (roomOf (length env) rate o) r s e)
 
   -- with one slot fewer anywhere it is
   pub one-slot-fewer : Short (roomOf (length env) rate o) r s → envelopeNumber env rate o r s ≡ 3
@@ -193,7 +195,8 @@ module _ (env : List Float) (rate : ℕ) (o : TempoOpts) (r : Results) (s : Spar
   unfolding envelopeRefusal
   ready-of e =
       let p = lowest-zero (analysisNumbersFine (length env) rate o) true (enough? (roomOf (length env) rate o) r s) (every valueFine env) e in
-      room-ready env rate o r s (p .bounds) (suffices-enough (inBounds (length env) rate o) r s (sym (ap (λ (x : Room). enough? x r s) (room-inside (length env) rate o (p .bounds))) ∙ p .room)) (p .values)
+      room-ready env rate o r s (p .bounds) (suffices-enough (inBounds (length env) rate o) r s
+      (sym (ap (λ (x : Room). enough? x r s) (room-inside (length env) rate o (p .bounds))) ∙ p .room)) (p .values)
 
 -- ---- magnitudes
 

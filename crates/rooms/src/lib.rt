@@ -1,7 +1,6 @@
 // The room of one whole analysis, and the number that one is refused with.
 //
 // Document 01, its room and its numbers. Every refusal of an analysis is decided here, before any part of it is called.
-use options::TempoOpts;
 use lags::bounds_fine;
 use lags::lag_range;
 use numbers::MOST_ROWS;
@@ -12,6 +11,7 @@ use numbers::WRONG_LENGTH;
 use numbers::WRONG_VALUE;
 use numbers::greatest;
 use numbers::least;
+use options::TempoOpts;
 use threshold::MEDIAN_WINDOW;
 ghost use mathlib.Core.Path.{_≡_};
 ghost use lib.Dec.{leb};

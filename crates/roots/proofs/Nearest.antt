@@ -2,7 +2,18 @@
 -- pattern n whose square is a * 2 ^ 54 * (2 ^ p * 2 ^ p) / 4, and each n has such a and p. So `rootBits n` is nearest. Assumes nothing.
 use mathlib.Core.Path.{_≡_, refl, sym, ap, _∙_}
 use Prim.Native.Nat.{ℕ, zero, suc, _+_, _-_, _*_, _/_, _%_, _^_, _≤_, _<_}
-use native.Mathlib.Nat.{add-mul, mul-assoc, mul-comm, mul-left-comm, mul-pos, mul-le-mul-right, mul-lt-mul-of-pos-right, pow-suc, le-div-iff-mul-le, div-lt-iff-lt-mul}
+use native.Mathlib.Nat.{
+  add-mul,
+  mul-assoc,
+  mul-comm,
+  mul-left-comm,
+  mul-pos,
+  mul-le-mul-right,
+  mul-lt-mul-of-pos-right,
+  pow-suc,
+  le-div-iff-mul-le,
+  div-lt-iff-lt-mul,
+}
 use native.Mathlib.Decide.{decLt}
 use native.Mathlib.Omega.{arith}
 use mathlib.Core.Bool.{Bool, true, false, _&&_}
@@ -121,20 +132,24 @@ module _ (n a p y : ℕ) (lo : 2 ^ 52 ≤ a) (s : Split n a p) (t : Near a y) wh
   upper : a * 2 ^ 54 * (2 ^ p * 2 ^ p) < (sizeOf (y + p * 2 ^ 52) + sizeOf (y + p * 2 ^ 52 + 1)) * (sizeOf (y + p * 2 ^ 52) + sizeOf (y + p * 2 ^ 52 + 1))
   upper =
       let e : y + (y + 1) ≡ y * 2 + 1 = omega arith in
-      let f : sizeOf (y + p * 2 ^ 52) + sizeOf (y + p * 2 ^ 52 + 1) ≡ (y * 2 + 1) * 2 ^ p = rw (size-in p y y-low y-high, size-next p y y-low y-high, ← add-mul, e) in
+      let f : sizeOf (y + p * 2 ^ 52) + sizeOf (y + p * 2 ^ 52 + 1) ≡ (y * 2 + 1) * 2 ^ p =
+      rw (size-in p y y-low y-high, size-next p y y-low y-high, ← add-mul, e) in
       rw (f, sq-mul (y * 2 + 1) (2 ^ p)) (scaled-lt (a * 2 ^ 54) ((y * 2 + 1) * (y * 2 + 1)) (2 ^ p) (pow-pos p) (omega (arith, twice-one-sq y)))
 
-  lower-in : 2 ^ 52 < y → (sizeOf (y + p * 2 ^ 52 - 1) + sizeOf (y + p * 2 ^ 52)) * (sizeOf (y + p * 2 ^ 52 - 1) + sizeOf (y + p * 2 ^ 52)) < a * 2 ^ 54 * (2 ^ p * 2 ^ p)
+  lower-in : 2 ^ 52 < y → (sizeOf (y + p * 2 ^ 52 - 1) + sizeOf (y + p * 2 ^ 52)) * (sizeOf (y + p * 2 ^ 52 - 1) + sizeOf (y + p * 2 ^ 52)) < a * 2 ^
+      54 * (2 ^ p * 2 ^ p)
   lower-in h =
       let z = y - 1 in
       let e : z + y ≡ z * 2 + 1 = omega arith in
       let g : y ≡ z + 1 = omega arith in
       let k : y * y ≡ z * z + 2 * z + 1 = ap (λ (x : ℕ). x * x) g ∙ succ-sq z in
-      let f : sizeOf (y + p * 2 ^ 52 - 1) + sizeOf (y + p * 2 ^ 52) ≡ (z * 2 + 1) * 2 ^ p = rw (size-before p y h y-high, size-in p y y-low y-high, ← add-mul, e) in
+      let f : sizeOf (y + p * 2 ^ 52 - 1) + sizeOf (y + p * 2 ^ 52) ≡ (z * 2 + 1) * 2 ^ p =
+      rw (size-before p y h y-high, size-in p y y-low y-high, ← add-mul, e) in
       rw (f, sq-mul (z * 2 + 1) (2 ^ p)) (scaled-lt ((z * 2 + 1) * (z * 2 + 1)) (a * 2 ^ 54) (2 ^ p) (pow-pos p) (omega (arith, twice-one-sq z)))
 
   -- at the smallest digits the float below stands half as far off
-  lower-edge : y ≡ 2 ^ 52 → (sizeOf (y + p * 2 ^ 52 - 1) + sizeOf (y + p * 2 ^ 52)) * (sizeOf (y + p * 2 ^ 52 - 1) + sizeOf (y + p * 2 ^ 52)) < a * 2 ^ 54 * (2 ^ p * 2 ^ p)
+  lower-edge : y ≡ 2 ^ 52 → (sizeOf (y + p * 2 ^ 52 - 1) + sizeOf (y + p * 2 ^ 52)) * (sizeOf (y + p * 2 ^ 52 - 1) + sizeOf (y + p * 2 ^ 52)) < a * 2
+      ^ 54 * (2 ^ p * 2 ^ p)
   lower-edge h =
       let w : p ≡ p - 1 + 1 = omega arith in
       let d : 2 ^ p ≡ 2 * 2 ^ (p - 1) = ap (λ (x : ℕ). 2 ^ x) w ∙ pow-add 2 (p - 1) 1 ∙ mul-comm (2 ^ (p - 1)) 2 in
@@ -147,7 +162,8 @@ module _ (n a p y : ℕ) (lo : 2 ^ 52 ≤ a) (s : Split n a p) (t : Near a y) wh
   pub near-nearest : NearestRoot n (y + p * 2 ^ 52)
   near-nearest = record { above = rw (s .is) (go (decLt (2 ^ 52) y)); below = rw (s .is) upper }
     where
-      go : Dec (2 ^ 52 < y) → (sizeOf (y + p * 2 ^ 52 - 1) + sizeOf (y + p * 2 ^ 52)) * (sizeOf (y + p * 2 ^ 52 - 1) + sizeOf (y + p * 2 ^ 52)) < a * 2 ^ 54 * (2 ^ p * 2 ^ p)
+      go : Dec (2 ^ 52 < y) → (sizeOf (y + p * 2 ^ 52 - 1) + sizeOf (y + p * 2 ^ 52)) * (sizeOf (y + p * 2 ^ 52 - 1) + sizeOf (y + p * 2 ^ 52)) < a *
+          2 ^ 54 * (2 ^ p * 2 ^ p)
       go (yes h) = lower-in h
       go (no h) = lower-edge (omega (arith, y-low))
 

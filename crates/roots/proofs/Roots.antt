@@ -25,7 +25,20 @@ use Rattle.roots.proofs.Whole.{sq-mul}
 use Rattle.roots.proofs.Nearest.{size-small}
 use Rattle.roots.proofs.Unique.{size-mono, root-most, root-least, root-nearest, root-is, nearest-mono}
 use Rattle.roots.proofs.Floats.{above-bits, above-kinds, below-tests, plus-nought, nan-not-above, sqrt-cases, sqrt-above, sqrt-none, sqrt-nought}
-use Rattle.roots.proofs.Values.{size-value, bits-back, bits-under, bits-value, some-size, power-size, part-size, square-is, value-finite, value-above, most-value, least-value}
+use Rattle.roots.proofs.Values.{
+  size-value,
+  bits-back,
+  bits-under,
+  bits-value,
+  some-size,
+  power-size,
+  part-size,
+  square-is,
+  value-finite,
+  value-above,
+  most-value,
+  least-value,
+}
 
 -- ---- zeros, the infinity, and what has no root
 pub sqrt-of-nought : sqrtOf nought ≡ nought
@@ -67,7 +80,8 @@ module _ (x : Float) (f : T (fits binary64 x)) (h : lt nought x ≡ true) (l : T
   root-under : root x < infinite
   root-under =
       let a : sizeOf (own x) ≤ 2 ^ 1024 * 2 ^ 1074 = le-trans (size-mono (own x) infinite (le-of-lt (bits-under x f h l))) (le-of-eq (power-size 1024)) in
-      let b : squareOf (own x) ≤ sizeOf ((512 + 1023) * 2 ^ 52) * sizeOf ((512 + 1023) * 2 ^ 52) = rw (square-is (own x), power-size 512) (mul-le-mul-right (2 ^ 1074) a) in
+      let b : squareOf (own x) ≤ sizeOf ((512 + 1023) * 2 ^ 52) * sizeOf ((512 + 1023) * 2 ^ 52) =
+      rw (square-is (own x), power-size 512) (mul-le-mul-right (2 ^ 1074) a) in
       omega (arith, root-most (own x) (root x) ((512 + 1023) * 2 ^ 52) nearest b)
 
   root-some : 0 < root x
@@ -103,7 +117,8 @@ module _ (x : Float) (f : T (fits binary64 x)) (h : lt nought x ≡ true) (l : T
 pub rounded-unique : (x r : Float) → RoundedRoot x r → r ≡ sqrtOf x
 rounded-unique x r c =
     let e : toBits binary64 x ≡ c .n = ap (toBits binary64) (c .number) ∙ bits-back (c .n) (c .finite) in
-    let u : lt nought x ≡ true = rw (c .number) (value-above (bits (c .n)) (sizeOf (c .n)) (2 ^ 1074) (some-size (c .n) (c .above)) (pow-pos 1074) (size-value (c .n) (c .finite))) in
+    let u : lt nought x ≡ true = rw (c .number) (value-above (bits (c .n)) (sizeOf (c .n)) (2 ^ 1074) (some-size (c .n) (c .above)) (pow-pos 1074)
+    (size-value (c .n) (c .finite))) in
     c .root ∙ ap bits (root-is (c .n) (c .s) (c .above) (c .finite) (c .nearest)) ∙ rw (← e) (sym (sqrt-above x u (rw e (c .finite))))
 
 -- ---- every x
@@ -140,7 +155,8 @@ sqrt-within {x} k f h w =
     let l = most-finite w in
     let q = (k + 1023) * 2 ^ 52 in
     let a : sizeOf (own x) ≤ 2 ^ (k + k) * 2 ^ 1074 = most-value (2 ^ (k + k)) x (sizeOf (own x)) (2 ^ 1074) (bits-value x f h l) w in
-    let e : 2 ^ (k + k) * 2 ^ 1074 * 2 ^ 1074 ≡ sizeOf q * sizeOf q = rw (power-size k, sq-mul (2 ^ k) (2 ^ 1074), pow-add 2 k k) (mul-assoc (2 ^ k * 2 ^ k) (2 ^ 1074) (2 ^ 1074)) in
+    let e : 2 ^ (k + k) * 2 ^ 1074 * 2 ^ 1074 ≡ sizeOf q * sizeOf q =
+    rw (power-size k, sq-mul (2 ^ k) (2 ^ 1074), pow-add 2 k k) (mul-assoc (2 ^ k * 2 ^ k) (2 ^ 1074) (2 ^ 1074)) in
     let b : squareOf (own x) ≤ sizeOf q * sizeOf q = rw (square-is (own x)) (le-trans (mul-le-mul-right (2 ^ 1074) a) (le-of-eq e)) in
     let r : sizeOf (root x) ≤ 2 ^ k * 2 ^ 1074 = le-trans (size-mono (root x) q (root-most (own x) (root x) q (nearest x f h l) b)) (le-of-eq (power-size k)) in
     value-most false (sizeOf (root x)) (2 ^ 1074) (pow-pos 1074) (root-value x f h l) r
@@ -154,15 +170,18 @@ sqrt-within-plus {x} k f p w = go (lt nought x) refl
     go false h = let n = plus-nought x (p .sign) h in rw (sqrt-nought x h (n .0)) (n .1 (2 ^ k))
 
 -- of size at least 4 ^ -k: the root is at least 2 ^ -k
-least-finite : (x : Float) (k : ℕ) → k ≤ 1022 → T (fits binary64 x) → lt nought x ≡ true → T (finite x) → AtLeast 1 (2 ^ (k + k)) x → AtLeast 1 (2 ^ k) (sqrtOf x)
+least-finite : (x : Float) (k : ℕ) → k ≤ 1022 → T (fits binary64 x) → lt nought x ≡ true → T (finite x) → AtLeast 1 (2 ^ (k + k)) x
+    → AtLeast 1 (2 ^ k) (sqrtOf x)
 least-finite x k g f h l w =
     let q = (1023 - k) * 2 ^ 52 in
     let u = 2 ^ k in
     let d : sizeOf q * u ≡ 2 ^ 1074 = part-size k g in
     let a : 1 * 2 ^ 1074 ≤ 2 ^ (k + k) * sizeOf (own x) = least-value 1 (2 ^ (k + k)) x (sizeOf (own x)) (2 ^ 1074) (bits-value x f h l) w in
     let e : sizeOf q * sizeOf q * (u * u) ≡ 1 * 2 ^ 1074 * 2 ^ 1074 = sym (sq-mul (sizeOf q) u) ∙ ap (λ (z : ℕ). z * z) d in
-    let i : 2 ^ (k + k) * sizeOf (own x) * 2 ^ 1074 ≡ squareOf (own x) * (u * u) = rw (square-is (own x), pow-add 2 k k) (mul-assoc (u * u) (sizeOf (own x)) (2 ^ 1074) ∙ mul-comm (u * u) (sizeOf (own x) * 2 ^ 1074)) in
-    let b : sizeOf q * sizeOf q ≤ squareOf (own x) = le-of-mul-le-mul-right (le-trans (le-of-eq e) (le-trans (mul-le-mul-right (2 ^ 1074) a) (le-of-eq i))) (mul-pos (pow-pos k) (pow-pos k)) in
+    let i : 2 ^ (k + k) * sizeOf (own x) * 2 ^ 1074 ≡ squareOf (own x) * (u * u) =
+    rw (square-is (own x), pow-add 2 k k) (mul-assoc (u * u) (sizeOf (own x)) (2 ^ 1074) ∙ mul-comm (u * u) (sizeOf (own x) * 2 ^ 1074)) in
+    let b : sizeOf q * sizeOf q ≤ squareOf (own x) = le-of-mul-le-mul-right
+    (le-trans (le-of-eq e) (le-trans (mul-le-mul-right (2 ^ 1074) a) (le-of-eq i))) (mul-pos (pow-pos k) (pow-pos k)) in
     let r : sizeOf q ≤ sizeOf (root x) = size-mono q (root x) (root-least (own x) (root x) q (nearest x f h l) b) in
     let t : 1 * 2 ^ 1074 ≤ u * sizeOf (root x) = le-trans (le-of-eq (sym d)) (le-trans (mul-le-mul-right u r) (le-of-eq (mul-comm (sizeOf (root x)) u))) in
     value-least false (sizeOf (root x)) (2 ^ 1074) (pow-pos 1074) (root-value x f h l) t
@@ -175,7 +194,8 @@ pub sqrt-least-any : (x : Float) → T (fits binary64 x) → lt nought x ≡ tru
 sqrt-least-any x f h = sqrt-least 537 (lit≤ tt) f h (above-least binary64 x f h)
 
 -- ---- the root grows with x
-pub sqrt-mono : (x y : Float) → T (fits binary64 x) → T (fits binary64 y) → lt nought x ≡ true → T (finite x) → T (finite y) → le x y ≡ true → le (sqrtOf x) (sqrtOf y) ≡ true
+pub sqrt-mono : (x y : Float) → T (fits binary64 x) → T (fits binary64 y) → lt nought x ≡ true → T (finite x) → T (finite y) → le x y ≡ true
+    → le (sqrtOf x) (sqrtOf y) ≡ true
 sqrt-mono x y fx fy hx lx ly h =
     let u = 2 ^ 1074 in
     let hy = lt-then-le nought x y hx h in

@@ -23,7 +23,11 @@ size-step n = go (decLt (n + 1) (2 ^ 52)) (decLt n (2 ^ 52)) (decLt (n % 2 ^ 52 
         rw (size-at n d f (omega arith) refl refl, size-at (n + 1) (d + 1) f (omega arith) (omega arith) (omega arith)) (mul-lt-mul-of-pos-right l (pow-pos f))
     go (no a) (no b) (no c) =
         let f = n / 2 ^ 52 - 1 in
-        rw (size-at n (2 ^ 53 - 1) f (omega arith) (omega arith) refl, size-at (n + 1) (2 ^ 52) (f + 1) (omega arith) (omega arith) (omega arith), pow-add 2 f 1) (omega (arith, pow-pos f))
+        rw (
+          size-at n (2 ^ 53 - 1) f (omega arith) (omega arith) refl,
+          size-at (n + 1) (2 ^ 52) (f + 1) (omega arith) (omega arith) (omega arith),
+          pow-add 2 f 1,
+        ) (omega (arith, pow-pos f))
 
 climb : (n d : ℕ) → sizeOf n ≤ sizeOf (n + d)
 climb n zero = let e : n + 0 ≡ n = omega arith in rw e (le-refl (sizeOf n))
@@ -68,14 +72,16 @@ module _ (n r q : ℕ) (p : NearestRoot n r) where
   root-most h = go (decLt q r)
     where
       go : Dec (q < r) → r ≤ q
-      go (yes l) = absurd (round-trip _ _ _ (p .above) (mul-le-mul-left 4 h) (double-up (sizeOf (r - 1)) (sizeOf r) (sizeOf q) (size-mono q (r - 1) (omega arith)) (size-mono q r (omega arith))))
+      go (yes l) = absurd (round-trip _ _ _ (p .above) (mul-le-mul-left 4 h)
+          (double-up (sizeOf (r - 1)) (sizeOf r) (sizeOf q) (size-mono q (r - 1) (omega arith)) (size-mono q r (omega arith))))
       go (no l) = omega arith
 
   pub root-least : sizeOf q * sizeOf q ≤ squareOf n → q ≤ r
   root-least h = go (decLt r q)
     where
       go : Dec (r < q) → q ≤ r
-      go (yes l) = absurd (round-trip _ _ _ (p .below) (double (sizeOf r) (sizeOf (r + 1)) (sizeOf q) (size-mono r q (omega arith)) (size-mono (r + 1) q (omega arith))) (mul-le-mul-left 4 h))
+      go (yes l) = absurd (round-trip _ _ _ (p .below) (double (sizeOf r) (sizeOf (r + 1)) (sizeOf q) (size-mono r q (omega arith))
+          (size-mono (r + 1) q (omega arith))) (mul-le-mul-left 4 h))
       go (no l) = omega arith
 
 -- ---- the root of every finite float above zero

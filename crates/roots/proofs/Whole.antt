@@ -1,7 +1,24 @@
 -- The whole part of a root: `wholeRoot` is it, it may be cut with its number, and `root_by_digits` finds it. Assumes nothing.
 use mathlib.Core.Path.{_≡_, refl, _∙_}
 use Prim.Native.Nat.{ℕ, zero, suc, _+_, _-_, _*_, _/_, _%_, _^_, _≤_, _<_}
-use native.Mathlib.Nat.{add-mul, mul-add, mul-assoc, mul-comm, mul-left-comm, mul-one, one-mul, le-trans, lt-of-lt-of-le, mul-pos, mul-le-mul, div-mul-le-self, div-lt-iff-lt-mul, le-of-mul-le-mul-right, lt-of-mul-lt-mul-right, pow-suc}
+use native.Mathlib.Nat.{
+  add-mul,
+  mul-add,
+  mul-assoc,
+  mul-comm,
+  mul-left-comm,
+  mul-one,
+  one-mul,
+  le-trans,
+  lt-of-lt-of-le,
+  mul-pos,
+  mul-le-mul,
+  div-mul-le-self,
+  div-lt-iff-lt-mul,
+  le-of-mul-le-mul-right,
+  lt-of-mul-lt-mul-right,
+  pow-suc,
+}
 use native.Mathlib.Omega.{arith}
 use mathlib.Core.Bool.{Bool, true, false}
 use lib.Dec.{leb}

@@ -29,6 +29,7 @@ use Rattle.sizes.proofs.Monotone.{div-mono-left}
 use Rattle.sizes.proofs.Ranges.{held-low, held-high}
 use Rattle.roots.specs.Roots.{sqrtOf}
 use Rattle.roots.proofs.Roots.{sqrt-plus, sqrt-within, sqrt-least-any}
+use Rattle.roots.proofs.Floats.{sqrt-nought}
 use Rattle.row_pairs.specs.Pairs.{featureRow, products, dotOf, normOf, isZero, settled, slotAt, similarityAt}
 use Rattle.row_pairs.proofs.Slots.{slot-past, slot-of, norm-is}
 
@@ -83,11 +84,6 @@ own-plus h = sum-plus (squares-plus (values h))
 
 -- ---- norms
 
--- the root of a zero is that zero
-root-of-zero : (x : Float) → lt nought x ≡ false → eq x nought ≡ true → sqrtOf x ≡ x
-unfolding sqrtOf
-root-of-zero x h k = pick-false _ _ _ h ∙ pick-true _ _ _ k
-
 -- a row whose norm isn't 0 has squares above 0
 squares-above : {xs : List Float} → Row xs → isZero (normOf xs) ≡ false → lt nought (dotOf xs xs) ≡ true
 unfolding isZero
@@ -103,7 +99,7 @@ squares-above {xs} h z = go (which (lt nought (dotOf xs xs)))
         let from : le nought x ≡ true = plus-from-nought p in
         let to : le x nought ≡ true = not-lt nought x (le-left nought x from) (le-right nought x from) e in
         let zero-is : eq x nought ≡ true = le-both x nought to from in
-        let root-is : normOf xs ≡ x = sym (norm-is xs) ∙ root-of-zero x e zero-is in
+        let root-is : normOf xs ≡ x = sym (norm-is xs) ∙ sqrt-nought x e zero-is in
         true-not-false (eq (normOf xs) nought) (ap (λ (y : Float). eq y nought) root-is ∙ zero-is) z
 
 -- the norm of such a row
@@ -127,7 +123,8 @@ module _ {xs ys : List Float} (h : Row xs) (k : Row ys) (some : isZero (normOf x
   norms-above =
       let a = norm-of h some in
       let b = norm-of k some′ in
-      mul-above (lit< tt) (lit< tt) (le-of-eq (sym (pow-add 2 537 537) ∙ sym (one-mul (2 ^ 1074)))) (most-finite (a .most)) (most-finite (b .most)) (a .plus) (b .plus) (a .least) (b .least)
+      mul-above (lit< tt) (lit< tt) (le-of-eq (sym (pow-add 2 537 537) ∙ sym (one-mul (2 ^ 1074)))) (most-finite (a .most)) (most-finite (b .most))
+      (a .plus) (b .plus) (a .least) (b .least)
 
   -- so the quotient is no NaN
   pub quotient-not-nan : T (not (isNan (dotOf xs ys ⊘ (normOf xs ⊗ normOf ys))))

@@ -19,7 +19,8 @@ spelled-length (x ∷ xs) [] = refl
 spelled-length (x ∷ xs) (v ∷ vs) = ap suc (spelled-length xs vs)
 
 -- one byte more
-pub spelled-step : (xs : List ℕ) (vs : List Float) (i : ℕ) → i < length xs → i < length vs → set (spelledIn (take i xs) vs) i (caseValue (getD xs i 0)) ≡ spelledIn (take (suc i) xs) vs
+pub spelled-step : (xs : List ℕ) (vs : List Float) (i : ℕ) → i < length xs → i < length vs
+    → set (spelledIn (take i xs) vs) i (caseValue (getD xs i 0)) ≡ spelledIn (take (suc i) xs) vs
 unfolding spelledIn
 spelled-step [] vs i h k = absurd (omega arith)
 spelled-step (x ∷ xs) [] i h k = absurd (omega arith)
@@ -62,7 +63,8 @@ none-new first past i [] = refl
 none-new first past i (x ∷ xs) = refl
 
 module _ (first past : ℕ) (xs ys : List Float) (i : ℕ) where
-  pub differing-step : i < length xs → i < length ys → differing first past i (drop i xs) (drop i ys) ≡ differs first past i (getD xs i nan) (getD ys i nan) + differing first past (i + 1) (drop (i + 1) xs) (drop (i + 1) ys)
+  pub differing-step : i < length xs → i < length ys → differing first past i (drop i xs) (drop i ys) ≡ differs first past i (getD xs i nan)
+      (getD ys i nan) + differing first past (i + 1) (drop (i + 1) xs) (drop (i + 1) ys)
   unfolding differing
   differing-step h k = rw (add-one, drop-cons xs i nan, drop-cons ys i nan)
 

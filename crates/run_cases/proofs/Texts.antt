@@ -43,7 +43,8 @@ module _ (mark : ℕ) (s : List ℕ) (i : ℕ) where
     from-end h = rw drop-of-length-le
 
 -- the part that begins at a place: from there up to the first mark
-pub part-at : (mark : ℕ) (s : List ℕ) (k from end : ℕ) → drop from s ≡ partsFrom mark s k → end ≡ from + indexOf mark (slice from (length s) s) → take (end - from) (drop from s) ≡ casePart mark s k
+pub part-at : (mark : ℕ) (s : List ℕ) (k from end : ℕ) → drop from s ≡ partsFrom mark s k → end ≡ from + indexOf mark (slice from (length s) s)
+    → take (end - from) (drop from s) ≡ casePart mark s k
 unfolding casePart slice
 part-at mark s k from end e f =
     let n : end - from ≡ indexOf mark (drop from s) = omega (arith, rw take-length at f) in

@@ -330,7 +330,8 @@ chosen-most curve l s [] = zero-le
 chosen-most curve l s (x ∷ xs) = taken-most l s (f curve x) (above curve l xs) x (λ s′. chosen curve l s′ xs) (λ s′. chosen-most curve l s′ xs)
 
 -- where a cut takes them, they are no more than were asked for
-over-most : (curve : List Float) (most low : ℕ) (xs : List ℕ) → ascending low xs ≡ true → 0 < most → most < length (map (at curve) xs) → length (keptGreatest curve most xs) ≤ most
+over-most : (curve : List Float) (most low : ℕ) (xs : List ℕ) → ascending low xs ≡ true → 0 < most → most < length (map (at curve) xs)
+    → length (keptGreatest curve most xs) ≤ most
 over-most curve most low xs a some fit =
     let vs : List Float = map (at curve) xs in
     let n : length vs ≡ length xs = length-map xs (at curve) in

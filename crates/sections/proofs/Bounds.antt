@@ -9,22 +9,27 @@ use lib.Dec.{leb, ltb}
 use lib.Ieee.{Float}
 use lib.ListN.{length}
 use borrow.Author.Tests.{leb-true, le-leb, ltb-true, lt-ltb}
-use Rattle.numbers.proofs.Tests.{and-left, and-right, and-both, lowest-zero, lowest-0}
+use Rattle.numbers.proofs.Tests.{and-left, and-right, and-both, lowest-zero, lowest-0, pick-both}
 use Rattle.numbers.specs.Limits.{mostFeatures, mostListedRow, valueFine, rowFine}
 use Rattle.numbers.specs.Lists.{every, ascending}
 use Rattle.numbers.specs.Rounded.{pick}
 use Rattle.onsets.proofs.Onsets.{every-weaken}
-use Rattle.onsets.proofs.Picks.{those-length, those-every, those-ascending, peaks-ascend, peaks-inside, peaks-length, suppressed-ascends, suppressed-every, suppressed-length}
+use Rattle.onsets.proofs.Picks.{
+  those-length,
+  those-every,
+  those-ascending,
+  peaks-ascend,
+  peaks-inside,
+  peaks-length,
+  suppressed-ascends,
+  suppressed-every,
+  suppressed-length,
+}
 use Rattle.onsets.specs.Peaks.{peaksOf, pointInto}
 use Rattle.section_peaks.specs.Greatest.{placeOf, keptGreatest}
 use Rattle.sections.specs.Boundaries.{leastRows, sectionGap, sectionLevel, sectionPeaks, mostBoundaries, boundariesOf, gridFine, boundariesRefusal}
 use Rattle.sections.specs.Times.{rowTimesRefusal}
 use Rattle.section_peaks.proofs.Cuts.{greatest-most}
-
--- what holds of both holds of the one that is picked
-by-pick : {A : Type 0} (P : A → Type 0) (b : Bool) {x y : A} → P x → P y → P (pick b x y)
-by-pick P true h k = h
-by-pick P false h k = k
 
 -- ---- the greatest of a list
 
@@ -34,15 +39,15 @@ module _ (novelty : List Float) (most : ℕ) (rows : List ℕ) where
 
   pub greatest-length : length (keptGreatest novelty most rows) ≤ length rows
   unfolding keptGreatest
-  greatest-length = by-pick (λ (r : List ℕ). length r ≤ length rows) (leb (length rows) most) (omega arith) (those-length test rows)
+  greatest-length = pick-both (λ (r : List ℕ). length r ≤ length rows) (leb (length rows) most) (omega arith) (those-length test rows)
 
   pub greatest-every : (q : ℕ → Bool) → every q rows ≡ true → every q (keptGreatest novelty most rows) ≡ true
   unfolding keptGreatest
-  greatest-every q e = by-pick (λ (r : List ℕ). every q r ≡ true) (leb (length rows) most) e (those-every test q rows e)
+  greatest-every q e = pick-both (λ (r : List ℕ). every q r ≡ true) (leb (length rows) most) e (those-every test q rows e)
 
   pub greatest-ascends : (low : ℕ) → ascending low rows ≡ true → ascending low (keptGreatest novelty most rows) ≡ true
   unfolding keptGreatest
-  greatest-ascends low e = by-pick (λ (r : List ℕ). ascending low r ≡ true) (leb (length rows) most) e (those-ascending test low rows e)
+  greatest-ascends low e = pick-both (λ (r : List ℕ). ascending low r ≡ true) (leb (length rows) most) e (those-ascending test low rows e)
 
 -- ---- candidates, and boundaries
 
@@ -66,7 +71,8 @@ module _ (novelty : List Float) (gap : ℕ) where
   pub picked-inside : (most : ℕ) → pointInto (length novelty) (keptGreatest novelty most (sectionPeaks novelty gap)) ≡ true
   picked-inside most =
       greatest-every novelty most (sectionPeaks novelty gap) (λ x. ltb x (length novelty))
-      (every-weaken (λ x. ltb x (length novelty - 1)) (λ x. ltb x (length novelty)) (λ x e. lt-ltb x (length novelty) (omega (arith, ltb-true x (length novelty - 1) e)))
+      (every-weaken (λ x. ltb x (length novelty - 1)) (λ x. ltb x (length novelty))
+      (λ x e. lt-ltb x (length novelty) (omega (arith, ltb-true x (length novelty - 1) e)))
       (sectionPeaks novelty gap) candidates-inside)
 
   pub picked-length : (most : ℕ) → length (keptGreatest novelty most (sectionPeaks novelty gap)) ≤ length novelty - 2
@@ -83,31 +89,32 @@ module _ (novelty : List Float) (samples rate maxSections : ℕ) where
   pub boundaries-ascend : ascending 1 bounds ≡ true
   unfolding boundariesOf ascending
   boundaries-ascend =
-      by-pick (λ (r : List ℕ). ascending 1 r ≡ true) (ltb (length novelty) leastRows) refl
+      pick-both (λ (r : List ℕ). ascending 1 r ≡ true) (ltb (length novelty) leastRows) refl
       (greatest-ascends novelty (mostBoundaries maxSections) rows 1 (candidates-ascend novelty (sectionGap samples rate)))
 
   -- to the last but one
   pub boundaries-inside : pointInto (length novelty - 1) bounds ≡ true
   unfolding boundariesOf every
   boundaries-inside =
-      by-pick (λ (r : List ℕ). pointInto (length novelty - 1) r ≡ true) (ltb (length novelty) leastRows) refl
+      pick-both (λ (r : List ℕ). pointInto (length novelty - 1) r ≡ true) (ltb (length novelty) leastRows) refl
       (greatest-every novelty (mostBoundaries maxSections) rows (λ x. ltb x (length novelty - 1)) (candidates-inside novelty (sectionGap samples rate)))
 
   -- no more than the curve has room for, and no more than were asked for
   pub boundaries-length : length bounds ≤ length novelty - 2
   unfolding boundariesOf
   boundaries-length =
-      by-pick (λ (r : List ℕ). length r ≤ length novelty - 2) (ltb (length novelty) leastRows) zero-le
+      pick-both (λ (r : List ℕ). length r ≤ length novelty - 2) (ltb (length novelty) leastRows) zero-le
       (picked-length novelty (sectionGap samples rate) (mostBoundaries maxSections))
 
   pub boundaries-most : length bounds ≤ mostBoundaries maxSections
   unfolding boundariesOf
   boundaries-most =
-      by-pick (λ (r : List ℕ). length r ≤ mostBoundaries maxSections) (ltb (length novelty) leastRows) zero-le
+      pick-both (λ (r : List ℕ). length r ≤ mostBoundaries maxSections) (ltb (length novelty) leastRows) zero-le
       (greatest-most novelty (mostBoundaries maxSections) 1 rows (candidates-ascend novelty (sectionGap samples rate)))
 
   -- so `boundary_times` takes them
-  pub boundaries-timed : (room : ℕ) → length novelty ≤ mostFeatures → gridFine samples rate ≡ true → length bounds ≤ room → rowTimesRefusal bounds samples rate room ≡ 0
+  pub boundaries-timed : (room : ℕ) → length novelty ≤ mostFeatures → gridFine samples rate ≡ true → length bounds ≤ room
+      → rowTimesRefusal bounds samples rate room ≡ 0
   unfolding rowTimesRefusal
   boundaries-timed room f g h =
       lowest-0 (gridFine samples rate && every rowFine bounds) true (leb (length bounds) room) true

@@ -93,7 +93,8 @@ module _ (novelty : List Float) (some : 0 < length novelty) (fine : every valueF
   unfolding greatestFrom every valueFine
   top-within [] h e v = absurd (omega arith)
   top-within (x ∷ xs) h e (more a b) =
-      let above : lt lowestFloat x ≡ true = lt-then-le lowestFloat (neg valueTop) x lowest-below (and-left (le (neg valueTop) x) (le x valueTop) (and-left (valueFine x) (every valueFine xs) e)) in
+      let above : lt lowestFloat x ≡ true = lt-then-le lowestFloat (neg valueTop) x lowest-below
+      (and-left (le (neg valueTop) x) (le x valueTop) (and-left (valueFine x) (every valueFine xs) e)) in
       rw above (greatest-within x a b)
 
   med-within : Within 150 (medianOf novelty)
@@ -119,7 +120,8 @@ module _ (novelty : List Float) (some : 0 < length novelty) (fine : every valueF
     rows-inside = every-each (λ x. ltb x (length novelty)) (λ row. row < length novelty) (λ x e. ltb-true x (length novelty) e) rows inside
 
     sum-bounded : Within 167 (sumOf terms)
-    sum-bounded = sum-within 16 151 (omega arith) (omega arith) (omega (arith, length-map rows (prominence novelty (medianOf novelty)))) (each-image (prominence novelty (medianOf novelty)) prominence-within rows-inside)
+    sum-bounded = sum-within 16 151 (omega arith) (omega arith) (omega (arith, length-map rows (prominence novelty (medianOf novelty))))
+        (each-image (prominence novelty (medianOf novelty)) prominence-within rows-inside)
 
     sum-is-plus : Plus (sumOf terms)
     sum-is-plus = sum-plus (each-image {P = λ row. row < length novelty} (prominence novelty (medianOf novelty)) (λ row h. prominence-plus row) rows-inside)
@@ -158,5 +160,8 @@ confidence-unit novelty rows some fine inside few = go (eqb (length rows) 0) ref
     go true e d h = (zero-zero, zero-one)
     go false e true h = (zero-zero, zero-one)
     go false e false h =
-        let n = part-not-nan novelty some fine rows inside few (eqb-false (length rows) 0 e) h in
-        (held-low nought one (meanProminence novelty rows ⊘ rangeOf novelty) n zero-one, held-high nought one (meanProminence novelty rows ⊘ rangeOf novelty) n zero-one)
+        let n = part-not-nan novelty some fine rows inside few (eqb-false (length rows) 0 e) h in (
+          held-low nought one (meanProminence novelty rows ⊘ rangeOf novelty) n zero-one,
+          held-high nought one
+              (meanProminence novelty rows ⊘ rangeOf novelty) n zero-one,
+        )

@@ -38,7 +38,8 @@ module _ (number : ℕ) (novelty : List Float) (bounds rows : List ℕ) (work : 
       }
 
   -- any two outcomes coincide, but for the sorting room
-  pub found-unique : {a b : Sections} {x y : List ℕ} {u v : List Float} → Found number novelty bounds rows work a x u → Found number novelty bounds rows work b y v
+  pub found-unique : {a b : Sections} {x y : List ℕ} {u v : List Float} → Found number novelty bounds rows work a x u
+      → Found number novelty bounds rows work b y v
       → (a .number ≡ b .number) × (a .sections ≡ b .sections) × (a .count ≡ b .count) × (a .confidence ≡ b .confidence) × (x ≡ y)
       × (drop (workedIn number (length novelty)) u ≡ drop (workedIn number (length novelty)) v)
   found-unique p q = (
@@ -111,9 +112,11 @@ found-picked novelty bounds rows work answer rows′ work₁ work′ h a s c w p
       works = rw (le-ltb (length novelty) leastRows h) (open-then _ _ _ _ w (p .works));
     }
 
-pub found-long : (number : ℕ) (novelty : List Float) (samples rate maxSections gap most : ℕ) (rows : List ℕ) (work : List Float) (answer : Sections) (rows′ : List ℕ) (work′ : List Float)
+pub found-long : (number : ℕ) (novelty : List Float) (samples rate maxSections gap most : ℕ) (rows : List ℕ) (work : List Float) (answer : Sections)
+    (rows′ : List ℕ) (work′ : List Float)
     → number ≡ 0 → leastRows ≤ length novelty → gap ≡ sectionGap samples rate → most ≡ mostBoundaries maxSections
     → Found 0 novelty (keptGreatest novelty most (sectionPeaks novelty gap)) rows work answer rows′ work′
     → Found number novelty (boundariesOf novelty samples rate maxSections) rows work answer rows′ work′
 unfolding boundariesOf
-found-long number novelty samples rate maxSections gap most rows work answer rows′ work′ z h g m f = rw (z, le-ltb (length novelty) leastRows h) (rw (g, m) at f)
+found-long number novelty samples rate maxSections gap most rows work answer rows′ work′ z h g m f =
+    rw (z, le-ltb (length novelty) leastRows h) (rw (g, m) at f)

@@ -69,7 +69,8 @@ settled-none : (quotient norm : Float) → settled quotient norm nought ≡ noug
 unfolding settled isZero ofBits
 settled-none quotient norm = pick-true _ _ _ (or-true (isZero norm))
 
-module _ (features : List Float) (rows first : ℕ) (turned squares norms : List Float) (whole : length features ≡ rows * 16) (b : Block features first (min 128 (rows - first)) turned squares norms) where
+module _ (features : List Float) (rows first : ℕ) (turned squares norms : List Float) (whole : length features ≡ rows * 16)
+    (b : Block features first (min 128 (rows - first)) turned squares norms) where
   -- a row of the block that there is: its values and its norm
   module _ (r : ℕ) (in-block : r < 128) (there : first + r < rows) where
     held-row : r < min 128 (rows - first)
@@ -77,7 +78,8 @@ module _ (features : List Float) (rows first : ℕ) (turned squares norms : List
 
     pub column-is : turnedColumn turned r ≡ featureRow features (first + r)
     column-is =
-        ext-getD nan (turnedColumn turned r) (featureRow features (first + r)) (length-column turned r ∙ sym (length-row features rows 16 (first + r) whole there))
+        ext-getD nan (turnedColumn turned r) (featureRow features (first + r))
+        (length-column turned r ∙ sym (length-row features rows 16 (first + r) whole there))
         (λ k h.
         let h′ : k < 16 = omega (arith, length-column turned r) in
         getD-column turned r k h′ ∙ b .column r k held-row h′ ∙ sym (getD-row features 16 (first + r) k nan h′))
@@ -116,7 +118,8 @@ module _ (features : List Float) (rows first : ℕ) (turned squares norms : List
     block-slot = go (lt-or-le (first + c + d) rows)
       where
         go : (first + c + d < rows) ⊎ (rows ≤ first + c + d)
-            → settled (getD sums d nan ⊘ (getD norms c nan ⊗ getD norms (c + d) nan)) (getD norms c nan) (getD norms (c + d) nan) ≡ slotAt features rows (first + c) d
+            → settled (getD sums d nan ⊘ (getD norms c nan ⊗ getD norms (c + d) nan)) (getD norms c nan) (getD norms (c + d) nan) ≡ slotAt features
+            rows (first + c) d
         go (inl h) =
             let e : first + (c + d) ≡ first + c + d = omega arith in
             slot-of features rows (first + c) d h (getD sums d nan) (getD norms c nan) (getD norms (c + d) nan) (its-dot h)
@@ -131,7 +134,8 @@ module _ (features : List Float) (rows first : ℕ) (turned squares norms : List
       → getD sums 0 nan ≡ getD squares c nan
       → ((e : ℕ) → 0 < e → e < 17 → getD sums e nan ≡ dotOf (featureRow features i) (turnedColumn turned (c + e)))
       → quotients ≡ filled (laneQuotient sums norms c) sums 0 17
-      → (d : List Float) → filled (settledFrom quotients norms c (i * 17)) d (i * 17) (i * 17 + 17) ≡ filled (similarityAt features rows) d (i * 17) (i * 17 + 17)
+      → (d : List Float) → filled (settledFrom quotients norms c (i * 17)) d (i * 17) (i * 17 + 17) ≡ filled (similarityAt features rows) d (i * 17)
+      (i * 17 + 17)
   unfolding settledFrom laneQuotient
   row-slots i c place few there sums quotients m own others q d =
       filled-ext (settledFrom quotients norms c (i * 17)) (similarityAt features rows) d (i * 17) (i * 17 + 17)
@@ -144,7 +148,8 @@ module _ (features : List Float) (rows first : ℕ) (turned squares norms : List
       ap (λ (x : List Float). getD x e nan) q
       ∙ getD-filled-in (laneQuotient sums norms c) sums 0 17 (omega arith) (omega arith) e nan (omega arith) e-in in
       ap (λ (x : Float). settled x (getD norms c nan) (getD norms (c + e) nan)) value
-      ∙ block-slot c e few there′ e-in sums own (λ n p r. others n p r ∙ ap (λ (j : ℕ). dotOf (featureRow features j) (turnedColumn turned (c + n))) (sym place))
+      ∙ block-slot c e few there′ e-in sums own (λ n p r. others n p r ∙ ap (λ (j : ℕ). dotOf (featureRow features j) (turnedColumn turned (c + n)))
+      (sym place))
       ∙ ap (λ (j : ℕ). slotAt features rows j e) place
       ∙ sym (slot-at features rows i e e-in)
       ∙ ap (similarityAt features rows) back)

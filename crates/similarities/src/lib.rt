@@ -93,7 +93,12 @@ fn turn_value(
 
 // all sixteen values
 fn turn(features: &[f64], rows: usize, first: usize, count: usize, turned: &mut [f64; 2048])
-    requires { ⌜ (length (now features) ≡ rows * featureWidth) × (first + count ≤ rows) × (count ≤ columns) × (length (now turned) ≡ turnedRoom) ⌝ }
+    requires { ⌜
+        (length (now features) ≡ rows * featureWidth)
+        × (first + count ≤ rows)
+        × (count ≤ columns)
+        × (length (now turned) ≡ turnedRoom)
+        ⌝ }
     ensures { λ _. ⌜
         ((r k : ℕ) → r < count → k < featureWidth
         → getD (now (turned .exit)) (k * columns + r) nan ≡ getD (now (features .entry)) ((first + r) * featureWidth + k) nan)
@@ -108,7 +113,12 @@ fn turn(features: &[f64], rows: usize, first: usize, count: usize, turned: &mut 
 
 // the sums of the rows' squares
 fn square_rows(features: &[f64], rows: usize, first: usize, count: usize, squares: &mut [f64; 128])
-    requires { ⌜ (length (now features) ≡ rows * featureWidth) × (first + count ≤ rows) × (count ≤ columns) × (length (now squares) ≡ columns) ⌝ }
+    requires { ⌜
+        (length (now features) ≡ rows * featureWidth)
+        × (first + count ≤ rows)
+        × (count ≤ columns)
+        × (length (now squares) ≡ columns)
+        ⌝ }
     ensures { λ _. ⌜ now (squares .exit) ≡ filled (squareAt (now (features .entry)) first) (now (squares .entry)) 0 count ⌝ }
 {
     let mut r = 0;

@@ -3,7 +3,29 @@
 use mathlib.Core.Path.{_≡_, refl, sym, ap, _∙_, subst}
 use mathlib.Core.Bool.{Bool, true, false, _&&_, cond}
 use Prim.Native.Nat.{ℕ, zero, suc, _+_, _-_, _*_, _/_, _%_, _^_, _≤_, _<_}
-use native.Mathlib.Nat.{le-trans, le-of-eq, lt-of-lt-of-le, lt-of-le-of-lt, lt-irrefl, lt-of-not-le, le-of-suc-le-suc, mul-comm, mul-assoc, mul-left-comm, mul-right-comm, mul-le-mul-right, mul-lt-mul-of-pos-right, lt-of-mul-lt-mul-right, mul-pos, mul-one, one-mul, zero-mul, zero-lt-suc, sub-self, eq-of-mul-eq-mul-right}
+use native.Mathlib.Nat.{
+  le-trans,
+  le-of-eq,
+  lt-of-lt-of-le,
+  lt-of-le-of-lt,
+  lt-irrefl,
+  lt-of-not-le,
+  le-of-suc-le-suc,
+  mul-comm,
+  mul-assoc,
+  mul-left-comm,
+  mul-right-comm,
+  mul-le-mul-right,
+  mul-lt-mul-of-pos-right,
+  lt-of-mul-lt-mul-right,
+  mul-pos,
+  mul-one,
+  one-mul,
+  zero-mul,
+  zero-lt-suc,
+  sub-self,
+  eq-of-mul-eq-mul-right,
+}
 use native.Mathlib.Omega.{arith}
 use lib.IntN.{ℤ, pos, negsuc}
 use lib.Dec.{T, ltb, leb, eqb, ltb→lt, leb→le, eqb→eq}
@@ -35,7 +57,8 @@ same-units : (l x y p q a c : ℕ) → 0 < c → 0 < p → 0 < q → x * c ≡ a
 same-units l x y p q a c C P Q h k =
     div-same (x * l) p (y * l) q P Q
     (eq-of-mul-eq-mul-right c C (x * l * q) (y * l * p)
-    (simp (mul-assoc, mul-comm) (simp (mul-assoc, mul-comm, mul-left-comm) at (ap (λ (z : ℕ). z * (l * q)) h ∙ swap a p q l ∙ ap (λ (z : ℕ). z * (l * p)) (sym k)))))
+    (simp (mul-assoc, mul-comm) (simp (mul-assoc, mul-comm, mul-left-comm) at
+    (ap (λ (z : ℕ). z * (l * q)) h ∙ swap a p q l ∙ ap (λ (z : ℕ). z * (l * p)) (sym k)))))
   where
     swap : (a p q l : ℕ) → a * p * (l * q) ≡ a * q * (l * p)
     swap a p q l = simp (mul-assoc, mul-comm, mul-left-comm)
@@ -67,17 +90,20 @@ exact-at f s m (pos k) h =
     let l = low f in
     let e : m * 2 ^ k * 2 ^ l ≡ m * 2 ^ (k + l) = mul-assoc m (2 ^ k) (2 ^ l) ∙ ap (λ (z : ℕ). m * z) (sym (pow-add 2 k l)) in
     round-exact f s (m * 2 ^ k) 1 m (k + l) (zero-lt-suc 0) (h .0)
-    (lt-of-le-of-lt (le-of-eq (sym e)) (lt-of-lt-of-le (mul-lt-mul-of-pos-right (h .2) (pow-pos l)) (le-of-eq (ap (λ (z : ℕ). z * 2 ^ l) (mul-one (2 ^ suc (emax f))) ∙ mul-comm (2 ^ suc (emax f)) (2 ^ l) ∙ sym (pow-add 2 l (suc (emax f)))))))
+    (lt-of-le-of-lt (le-of-eq (sym e)) (lt-of-lt-of-le (mul-lt-mul-of-pos-right (h .2) (pow-pos l))
+    (le-of-eq (ap (λ (z : ℕ). z * 2 ^ l) (mul-one (2 ^ suc (emax f))) ∙ mul-comm (2 ^ suc (emax f)) (2 ^ l) ∙ sym (pow-add 2 l (suc (emax f)))))))
     (e ∙ sym (mul-one (m * 2 ^ (k + l))))
 exact-at f s m (negsuc k) h =
     let l = low f in
     let j = l - suc k in
     let g : suc k ≤ l = pow-le-back (suc k) l (h .1) in
     let p : 2 ^ j * 2 ^ suc k ≡ 2 ^ l = sym (pow-add 2 j (suc k)) ∙ ap (λ (z : ℕ). 2 ^ z) (back l (suc k) g) in
-    let e : m * 1 * 2 ^ l ≡ m * 2 ^ j * 2 ^ suc k = ap (λ (z : ℕ). z * 2 ^ l) (mul-one m) ∙ ap (λ (z : ℕ). m * z) (sym p) ∙ sym (mul-assoc m (2 ^ j) (2 ^ suc k)) in
+    let e : m * 1 * 2 ^ l ≡ m * 2 ^ j * 2 ^ suc k = ap (λ (z : ℕ). z * 2 ^ l) (mul-one m) ∙ ap (λ (z : ℕ). m * z) (sym p)
+    ∙ sym (mul-assoc m (2 ^ j) (2 ^ suc k)) in
     round-exact f s (m * 1) (2 ^ suc k) m j (pow-pos (suc k)) (h .0)
     (lt-of-mul-lt-mul-right (2 ^ suc k) (lt-of-le-of-lt (le-of-eq (sym e)) (lt-of-lt-of-le (mul-lt-mul-of-pos-right (h .2) (pow-pos l))
-    (le-of-eq (mul-right-comm (2 ^ suc (emax f)) (2 ^ suc k) (2 ^ l) ∙ ap (λ (z : ℕ). z * 2 ^ suc k) (mul-comm (2 ^ suc (emax f)) (2 ^ l) ∙ sym (pow-add 2 l (suc (emax f)))))))))
+    (le-of-eq (mul-right-comm (2 ^ suc (emax f)) (2 ^ suc k) (2 ^ l)
+    ∙ ap (λ (z : ℕ). z * 2 ^ suc k) (mul-comm (2 ^ suc (emax f)) (2 ^ l) ∙ sym (pow-add 2 l (suc (emax f)))))))))
     e
 
 zero-short : (f : Format) (e : ℤ) → up e * down e ≡ 1 → Short f 0 e
@@ -95,12 +121,17 @@ fits-short f s (suc m) e t =
     let B = ltb (suc m) (2 ^ prec f) in
     let C = leb (down e) (2 ^ low f) in
     let D = ltb (suc m * up e) (2 ^ suc (emax f) * down e) in
-    let abc = and-l (A && B && C) D t in
-    (ltb→lt (suc m) (2 ^ prec f) (and-r A B (and-l (A && B) C abc)), leb→le (down e) (2 ^ low f) (and-r (A && B) C abc), ltb→lt (suc m * up e) (2 ^ suc (emax f) * down e) (and-r (A && B && C) D t))
+    let abc = and-l (A && B && C) D t in (
+      ltb→lt (suc m) (2 ^ prec f) (and-r A B (and-l (A && B) C abc)),
+      leb→le (down e) (2 ^ low f) (and-r (A && B) C abc),
+      ltb→lt (suc m * up e)
+          (2 ^ suc (emax f) * down e) (and-r (A && B && C) D t),
+    )
 
 round-self : (f : Format) (s : Bool) (m : ℕ) (e : ℤ) → T (fits f (fin s m e)) → round f s (m * up e) (down e) ≡ fin s m e
 round-self f s m e t =
-    value-unique f (round f s (m * up e) (down e)) (fin s m e) s (m * up e) (down e) (down-pos e) (round-fits f s (m * up e) (down e)) t (exact-at f s m e (fits-short f s m e t)) (refl, refl)
+    value-unique f (round f s (m * up e) (down e)) (fin s m e) s (m * up e) (down e) (down-pos e) (round-fits f s (m * up e) (down e)) t
+    (exact-at f s m e (fits-short f s m e t)) (refl, refl)
 
 -- a / c rounds to the value that fits and is a / c
 pub round-value : (f : Format) (x : Float) (s : Bool) (a c : ℕ) → 0 < c → T (fits f x) → HasValue x s a c → round f s a c ≡ x
@@ -139,7 +170,8 @@ grows f (inf false) nan t P Q p q = absurd q
 grows f (inf false) (inf true) t P Q p q = absurd q
 grows f (inf false) (inf false) t P Q p q = unfold add in le-self (inf false) (plus-not-nan P)
 grows f (inf false) (fin u n d) t P Q p q = unfold add in le-self (inf false) (plus-not-nan P)
-grows f (fin s m e) y t P Q p q = subst (λ (z : Float). le z (add f (fin s m e) y) ≡ true) (add-nought f t P) (add-mono-right f (fin s m e) nought y tt (plus-from-nought Q))
+grows f (fin s m e) y t P Q p q = subst (λ (z : Float). le z (add f (fin s m e) y) ≡ true) (add-nought f t P)
+    (add-mono-right f (fin s m e) nought y tt (plus-from-nought Q))
 
 pub add-grows : {x y : Float} (f : Format) → T (fits f x) → Plus x → Plus y → le x (add f x y) ≡ true
 add-grows {x} {y} f t p q = grows f x y t p q (p .sign) (q .sign)
@@ -152,14 +184,20 @@ self-of f nan h = absurd h
 self-of f (inf s) h = absurd h
 self-of f (fin true m e) h = go (ltb (m * up e * down e) (m * up e * down e)) refl
   where
-    go : (b : Bool) → ltb (m * up e * down e) (m * up e * down e) ≡ b → cond b (round f false (m * up e * down e - m * up e * down e) (down e * down e)) (round f b (m * up e * down e - m * up e * down e) (down e * down e)) ≡ fin false 0 (pos 0)
+    go : (b : Bool) → ltb (m * up e * down e) (m * up e * down e) ≡ b
+        → cond b (round f false (m * up e * down e - m * up e * down e) (down e * down e))
+        (round f b (m * up e * down e - m * up e * down e) (down e * down e)) ≡ fin false 0 (pos 0)
     go true g = absurd (lt-irrefl (m * up e * down e) (ltb-true (m * up e * down e) (m * up e * down e) g))
-    go false g = ap (λ (z : ℕ). round f false z (down e * down e)) (sub-self (m * up e * down e)) ∙ round-nought f false (down e * down e) (mul-pos (down-pos e) (down-pos e))
+    go false g = ap (λ (z : ℕ). round f false z (down e * down e)) (sub-self (m * up e * down e))
+        ∙ round-nought f false (down e * down e) (mul-pos (down-pos e) (down-pos e))
 self-of f (fin false m e) h = go (ltb (m * up e * down e) (m * up e * down e)) refl
   where
-    go : (b : Bool) → ltb (m * up e * down e) (m * up e * down e) ≡ b → cond b (round f true (m * up e * down e - m * up e * down e) (down e * down e)) (round f false (m * up e * down e - m * up e * down e) (down e * down e)) ≡ fin false 0 (pos 0)
+    go : (b : Bool) → ltb (m * up e * down e) (m * up e * down e) ≡ b
+        → cond b (round f true (m * up e * down e - m * up e * down e) (down e * down e))
+        (round f false (m * up e * down e - m * up e * down e) (down e * down e)) ≡ fin false 0 (pos 0)
     go true g = absurd (lt-irrefl (m * up e * down e) (ltb-true (m * up e * down e) (m * up e * down e) g))
-    go false g = ap (λ (z : ℕ). round f false z (down e * down e)) (sub-self (m * up e * down e)) ∙ round-nought f false (down e * down e) (mul-pos (down-pos e) (down-pos e))
+    go false g = ap (λ (z : ℕ). round f false z (down e * down e)) (sub-self (m * up e * down e))
+        ∙ round-nought f false (down e * down e) (mul-pos (down-pos e) (down-pos e))
 
 pub sub-self-nought : (f : Format) (x : Float) → T (finite x) → sub f x x ≡ nought
 sub-self-nought f x h = self-of f x h ∙ sym nought-is

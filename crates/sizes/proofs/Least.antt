@@ -3,7 +3,24 @@
 use mathlib.Core.Path.{_≡_, refl, sym, ap, _∙_, subst}
 use mathlib.Core.Bool.{Bool, true, false, _&&_, cond}
 use Prim.Native.Nat.{ℕ, zero, suc, _*_, _%_, _^_, _≤_, _<_}
-use native.Mathlib.Nat.{le-trans, le-of-eq, mul-comm, mul-assoc, mul-left-comm, mul-right-comm, mul-le-mul, mul-le-mul-left, mul-le-mul-right, mul-pos, mul-one, one-mul, le-of-mul-le-mul-right, le-mul-of-pos-right, pos-of-ne-zero, zero-lt-suc}
+use native.Mathlib.Nat.{
+  le-trans,
+  le-of-eq,
+  mul-comm,
+  mul-assoc,
+  mul-left-comm,
+  mul-right-comm,
+  mul-le-mul,
+  mul-le-mul-left,
+  mul-le-mul-right,
+  mul-pos,
+  mul-one,
+  one-mul,
+  le-of-mul-le-mul-right,
+  le-mul-of-pos-right,
+  pos-of-ne-zero,
+  zero-lt-suc,
+}
 use native.Mathlib.Omega.{arith}
 use lib.Dec.{T, ltb, leb, eqb, eqb→eq, lt→ltb, ltb→lt, leb→le, lit<}
 use lib.IntN.{pos}
@@ -65,7 +82,8 @@ above-nought p q nan P s h = absurd h
 above-nought p q (inf true) P s h = absurd s
 above-nought p q (inf false) P s h = tt
 above-nought p q (fin true m e) P s h = absurd s
-above-nought p q (fin false m e) P s h = lt→ltb (0 * 1 * down e) (m * up e * 1) (less (m * up e) (down e) (right-above q (m * up e) (p * down e) (mul-pos P (down-pos e)) h))
+above-nought p q (fin false m e) P s h = lt→ltb (0 * 1 * down e) (m * up e * 1)
+    (less (m * up e) (down e) (right-above q (m * up e) (p * down e) (mul-pos P (down-pos e)) h))
   where
     less : (x d : ℕ) → 0 < x → 0 * 1 * d < x * 1
     less x d h = omega arith
@@ -106,20 +124,28 @@ product x e y d p q p' q' r w P P' h k l =
     third : (p p' w x y : ℕ) → p * p' * w * (x * y) ≡ x * y * w * (p * p')
     third p p' w x y = simp (mul-assoc, mul-comm, mul-left-comm)
 
-mul-of : (f : Format) (p q p' q' r w : ℕ) (x y : Float) → 0 < p → 0 < p' → 0 < w → HeldAt f r w → r * (q * q') ≤ p * p' * w → sizeFrom p q x → sizeFrom p' q' y → AtLeast r w (mul f x y)
+mul-of : (f : Format) (p q p' q' r w : ℕ) (x y : Float) → 0 < p → 0 < p' → 0 < w → HeldAt f r w → r * (q * q') ≤ p * p' * w → sizeFrom p q x
+    → sizeFrom p' q' y → AtLeast r w (mul f x y)
 unfolding mul
 mul-of f p q p' q' r w nan y P P' W H l h k = absurd h
 mul-of f p q p' q' r w (inf s) nan P P' W H l h k = absurd k
 mul-of f p q p' q' r w (inf s) (inf t) P P' W H l h k = record { size = tt }
-mul-of f p q p' q' r w (inf s) (fin t n d) P P' W H l h k = record { size = infinite r w n (unlike s t) (first-pos n (up d) (right-above q' (n * up d) (p' * down d) (mul-pos P' (down-pos d)) k)) }
+mul-of f p q p' q' r w (inf s) (fin t n d) P P' W H l h k = record {
+  size = infinite r w n (unlike s t)
+      (first-pos n (up d) (right-above q' (n * up d) (p' * down d) (mul-pos P' (down-pos d)) k));
+}
 mul-of f p q p' q' r w (fin s m e) nan P P' W H l h k = absurd k
-mul-of f p q p' q' r w (fin s m e) (inf t) P P' W H l h k = record { size = infinite r w m (unlike s t) (first-pos m (up e) (right-above q (m * up e) (p * down e) (mul-pos P (down-pos e)) h)) }
+mul-of f p q p' q' r w (fin s m e) (inf t) P P' W H l h k = record {
+  size = infinite r w m (unlike s t)
+      (first-pos m (up e) (right-above q (m * up e) (p * down e) (mul-pos P (down-pos e)) h));
+}
 mul-of f p q p' q' r w (fin s m e) (fin t n d) P P' W H l h k =
     round-least (unlike s t) (m * up e * (n * up d)) (down e * down d) (mul-pos (down-pos e) (down-pos d)) W H
     (product (m * up e) (down e) (n * up d) (down d) p q p' q' r w P P' h k l)
 
 -- p / q times p' / q' is at least r / w
-pub mul-least : {f : Format} {p q p' q' r w : ℕ} {x y : Float} → 0 < p → 0 < p' → 0 < w → HeldAt f r w → r * (q * q') ≤ p * p' * w → AtLeast p q x → AtLeast p' q' y → AtLeast r w (mul f x y)
+pub mul-least : {f : Format} {p q p' q' r w : ℕ} {x y : Float} → 0 < p → 0 < p' → 0 < w → HeldAt f r w → r * (q * q') ≤ p * p' * w → AtLeast p q x
+    → AtLeast p' q' y → AtLeast r w (mul f x y)
 mul-least {f} {p} {q} {p'} {q'} {r} {w} {x} {y} P P' W H l h k = mul-of f p q p' q' r w x y P P' W H l (h .size) (k .size)
 
 smallest : HeldAt binary64 1 (2 ^ 1074)
@@ -130,7 +156,8 @@ pub mul-away : {p q p' q' : ℕ} {x y : Float} → 0 < p → 0 < p' → q * q' �
 mul-away {p} {q} {p'} {q'} P P' l h k = mul-least P P' (pow-pos 1074) smallest (le-trans (le-of-eq (one-mul (q * q'))) l) h k
 
 -- and above 0 where the signs are plus, or the two are the same
-pub mul-above : {p q p' q' : ℕ} {x y : Float} → 0 < p → 0 < p' → q * q' ≤ p * p' * 2 ^ 1074 → T (finite x) → T (finite y) → Plus x → Plus y → AtLeast p q x → AtLeast p' q' y → lt nought (x ⊗ y) ≡ true
+pub mul-above : {p q p' q' : ℕ} {x y : Float} → 0 < p → 0 < p' → q * q' ≤ p * p' * 2 ^ 1074 → T (finite x) → T (finite y) → Plus x → Plus y
+    → AtLeast p q x → AtLeast p' q' y → lt nought (x ⊗ y) ≡ true
 mul-above P P' l X Y s t h k = least-above (zero-lt-suc 0) (mul-plus binary64 X Y s t) (mul-away P P' l h k)
 
 -- ---- the quotient
@@ -154,7 +181,8 @@ ratio x e y d p q M r w P h k l =
     third : (p w x d : ℕ) → p * w * (x * d) ≡ x * d * w * p
     third p w x d = simp (mul-assoc, mul-comm, mul-left-comm)
 
-div-of : (f : Format) (p q M r w : ℕ) (x y : Float) → 0 < p → 0 < w → HeldAt f r w → r * (q * M) ≤ p * w → sizeFrom p q x → sizeUpTo M y → AtLeast r w (div f x y)
+div-of : (f : Format) (p q M r w : ℕ) (x y : Float) → 0 < p → 0 < w → HeldAt f r w → r * (q * M) ≤ p * w → sizeFrom p q x → sizeUpTo M y
+    → AtLeast r w (div f x y)
 unfolding div
 div-of f p q M r w nan y P W H l h k = absurd h
 div-of f p q M r w (inf s) nan P W H l h k = absurd k
@@ -171,7 +199,8 @@ div-of f p q M r w (fin s m e) (fin t n d) P W H l h k = go (eqb n 0) refl
         (ratio (m * up e) (down e) (n * up d) (down d) p q M r w P h k l)
 
 -- p / q by M is at least r / w: a divisor of 0 gives an infinity
-pub div-least : {f : Format} {p q M r w : ℕ} {x y : Float} → 0 < p → 0 < w → HeldAt f r w → r * (q * M) ≤ p * w → AtLeast p q x → AtMost M y → AtLeast r w (div f x y)
+pub div-least : {f : Format} {p q M r w : ℕ} {x y : Float} → 0 < p → 0 < w → HeldAt f r w → r * (q * M) ≤ p * w → AtLeast p q x → AtMost M y
+    → AtLeast r w (div f x y)
 div-least {f} {p} {q} {M} {r} {w} {x} {y} P W H l h k = div-of f p q M r w x y P W H l (h .size) (k .size)
 
 -- ---- a value of a format that is above 0 is at least its smallest value

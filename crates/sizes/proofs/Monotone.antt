@@ -19,7 +19,19 @@ use borrow.Author.Tests.{ltb-true, ltb-false}
 use Rattle.numbers.specs.Rounded.{nought}
 use Rattle.sizes.specs.Sizes.{signedLe, isPlus, Plus}
 use Rattle.sizes.proofs.Rounds.{round-neg, round-plus}
-use Rattle.sizes.proofs.Signed.{test→signed, signed→test, null, plus, minus, signed→sums, sums→signed, plus-scale, minus-scale, signed-scale, signed-nought}
+use Rattle.sizes.proofs.Signed.{
+  test→signed,
+  signed→test,
+  null,
+  plus,
+  minus,
+  signed→sums,
+  sums→signed,
+  plus-scale,
+  minus-scale,
+  signed-scale,
+  signed-nought,
+}
 use Rattle.sizes.proofs.Order.{true→T, neg-of, neg-anti, neg-not-nan, le-self, lt-then-le}
 use Rattle.sizes.proofs.Signs.{nought-is, plus-not-nan}
 
@@ -61,7 +73,8 @@ round-of f true a c false b d C D h = rw (round-neg f a c) (opposite (round f fa
 round-of f true a c true b d C D h = rw (round-neg f a c, round-neg f b d) (neg-of (round f false b d) (round f false a c) (round-mono f b d a c D C h))
 
 -- ±a / c ≤ ±b / d
-pub round-signed : (f : Format) (s : Bool) (a c : ℕ) (t : Bool) (b d : ℕ) → 0 < c → 0 < d → signedLe s (a * d) t (b * c) → le (round f s a c) (round f t b d) ≡ true
+pub round-signed : (f : Format) (s : Bool) (a c : ℕ) (t : Bool) (b d : ℕ) → 0 < c → 0 < d → signedLe s (a * d) t (b * c)
+    → le (round f s a c) (round f t b d) ≡ true
 round-signed f s a c t b d C D h = is-true (le (round f s a c) (round f t b d)) (round-of f s a c t b d C D h)
 
 unlike-swap : (s t : Bool) → unlike s t ≡ unlike t s
@@ -107,7 +120,8 @@ at-scaled : (f : Format) (s : Bool) (a : ℕ) (u : Bool) (c D w : ℕ) (A : Adde
     → plus (A .sign) (A .size * w) + (minus s (a * w) + minus u (c * w)) ≡ minus (A .sign) (A .size * w) + (plus s (a * w) + plus u (c * w))
 at-scaled f s a u c D w A =
     rw (plus-scale (A .sign) (A .size) w, minus-scale (A .sign) (A .size) w, minus-scale s a w, minus-scale u c w, plus-scale s a w, plus-scale u c w)
-    (spread (plus (A .sign) (A .size)) (minus s a) (minus u c) w ∙ ap (λ (z : ℕ). z * w) (A .at) ∙ sym (spread (minus (A .sign) (A .size)) (plus s a) (plus u c) w))
+    (spread (plus (A .sign) (A .size)) (minus s a) (minus u c) w ∙ ap (λ (z : ℕ). z * w) (A .at)
+    ∙ sym (spread (minus (A .sign) (A .size)) (plus s a) (plus u c) w))
   where
     spread : (x y z w : ℕ) → x * w + (y * w + z * w) ≡ (x + (y + z)) * w
     spread x y z w = omega arith
@@ -169,11 +183,13 @@ add-of f x y (fin u k c) (inf v) Z W h l = absurd W
 add-of f nan y (fin u k c) (fin v o g) Z W h l = absurd h
 add-of f (inf s) nan (fin u k c) (fin v o g) Z W h l = absurd h
 add-of f (inf s) (inf t) (fin u k c) (fin v o g) Z W h l = h
-add-of f (inf true) (fin t n d) (fin u k c) (fin v o g) Z W h l = bottom (sum f t (n * up d * down g) v (o * up g * down d) (down d * down g)) (sum-not-nan f t (n * up d * down g) v (o * up g * down d) (down d * down g))
+add-of f (inf true) (fin t n d) (fin u k c) (fin v o g) Z W h l =
+    bottom (sum f t (n * up d * down g) v (o * up g * down d) (down d * down g)) (sum-not-nan f t (n * up d * down g) v (o * up g * down d) (down d * down g))
 add-of f (inf false) (fin t n d) (fin u k c) (fin v o g) Z W h l = absurd h
 add-of f (fin s m e) nan (fin u k c) (fin v o g) Z W h l = absurd h
 add-of f (fin s m e) (inf true) (fin u k c) (fin v o g) Z W h l = absurd h
-add-of f (fin s m e) (inf false) (fin u k c) (fin v o g) Z W h l = top (sum f s (m * up e * down c) u (k * up c * down e) (down e * down c)) (sum-not-nan f s (m * up e * down c) u (k * up c * down e) (down e * down c))
+add-of f (fin s m e) (inf false) (fin u k c) (fin v o g) Z W h l =
+    top (sum f s (m * up e * down c) u (k * up c * down e) (down e * down c)) (sum-not-nan f s (m * up e * down c) u (k * up c * down e) (down e * down c))
 add-of f (fin s m e) (fin t n d) (fin u k c) (fin v o g) Z W h l =
     sum-of f s (m * up e * down c) u (k * up c * down e) (down e * down c) t (n * up d * down g) v (o * up g * down d) (down d * down g)
     (mul-pos (down-pos e) (down-pos c)) (mul-pos (down-pos d) (down-pos g))
@@ -200,7 +216,8 @@ sum-swap f false a false b c = ap (λ (z : ℕ). round f false z c) (add-comm a 
 sum-swap f true a true b c = ap (λ (z : ℕ). round f true z c) (add-comm a b)
 sum-swap f false a true b c = go (ltb a b) (ltb b a) refl refl
   where
-    go : (p q : Bool) → ltb a b ≡ p → ltb b a ≡ q → cond p (round f true (b - a) c) (round f false (a - b) c) ≡ cond q (round f false (a - b) c) (round f p (b - a) c)
+    go : (p q : Bool) → ltb a b ≡ p → ltb b a ≡ q → cond p (round f true (b - a) c) (round f false (a - b) c) ≡ cond q (round f false (a - b) c)
+        (round f p (b - a) c)
     go true true e g = absurd (both (ltb-true a b e) (ltb-true b a g))
       where
         both : a < b → b < a → ⊥
@@ -213,7 +230,8 @@ sum-swap f false a true b c = go (ltb a b) (ltb b a) refl refl
         same h k = omega arith
 sum-swap f true a false b c = go (ltb a b) (ltb b a) refl refl
   where
-    go : (p q : Bool) → ltb a b ≡ p → ltb b a ≡ q → cond p (round f false (b - a) c) (round f q (a - b) c) ≡ cond q (round f true (a - b) c) (round f false (b - a) c)
+    go : (p q : Bool) → ltb a b ≡ p → ltb b a ≡ q → cond p (round f false (b - a) c) (round f q (a - b) c) ≡ cond q (round f true (a - b) c)
+        (round f false (b - a) c)
     go true true e g = absurd (both (ltb-true a b e) (ltb-true b a g))
       where
         both : a < b → b < a → ⊥
@@ -238,7 +256,8 @@ add-swap f (inf false) (inf false) = refl
 add-swap f (inf s) (fin t n d) = refl
 add-swap f (fin s m e) nan = refl
 add-swap f (fin s m e) (inf t) = refl
-add-swap f (fin s m e) (fin t n d) = sum-swap f s (m * up e * down d) t (n * up d * down e) (down e * down d) ∙ ap (λ (z : ℕ). sum f t (n * up d * down e) s (m * up e * down d) z) (mul-comm (down e) (down d))
+add-swap f (fin s m e) (fin t n d) = sum-swap f s (m * up e * down d) t (n * up d * down e) (down e * down d)
+    ∙ ap (λ (z : ℕ). sum f t (n * up d * down e) s (m * up e * down d) z) (mul-comm (down e) (down d))
 
 pub mul-swap : (f : Format) (x y : Float) → mul f x y ≡ mul f y x
 unfolding mul
@@ -282,19 +301,22 @@ sub-anti-right f x y z X h = add-mono-right f x (neg z) (neg y) X (neg-anti y z 
 -- ---- the product by a factor that is not negative
 
 -- the factor is ±k / r: with a minus sign it is 0
-mul-signed : (s t u : Bool) (x y p q k r : ℕ) → (T u → k ≡ 0) → signedLe s (x * q) t (y * p) → signedLe (unlike s u) (x * k * (q * r)) (unlike t u) (y * k * (p * r))
+mul-signed : (s t u : Bool) (x y p q k r : ℕ) → (T u → k ≡ 0) → signedLe s (x * q) t (y * p)
+    → signedLe (unlike s u) (x * k * (q * r)) (unlike t u) (y * k * (p * r))
 mul-signed s t false x y p q k r U h =
     subst (λ (b : Bool). signedLe b (x * k * (q * r)) (unlike t false) (y * k * (p * r))) (sym (unlike-plus s))
     (subst (λ (b : Bool). signedLe s (x * k * (q * r)) b (y * k * (p * r))) (sym (unlike-plus t))
     (subst (λ (z : ℕ). signedLe s z t (y * k * (p * r))) (mul-mul-mul-comm x q k r)
     (subst (λ (z : ℕ). signedLe s (x * q * (k * r)) t z) (mul-mul-mul-comm y p k r)
     (signed-scale s (x * q) t (y * p) (k * r) h))))
-mul-signed s t true x y p q k r U h = signed-nought (unlike s true) (x * k * (q * r)) (unlike t true) (y * k * (p * r)) (none x k (q * r) (U tt)) (none y k (p * r) (U tt))
+mul-signed s t true x y p q k r U h = signed-nought (unlike s true) (x * k * (q * r)) (unlike t true) (y * k * (p * r)) (none x k (q * r) (U tt))
+    (none y k (p * r) (U tt))
   where
     none : (x k w : ℕ) → k ≡ 0 → x * k * w ≡ 0
     none x k w e = rw e (omega arith)
 
-mul-of : (f : Format) (x y z : Float) → T (finite x) → T (finite y) → T (finite z) → T (le (fin false 0 (pos 0)) z) → T (le x y) → T (le (mul f x z) (mul f y z))
+mul-of : (f : Format) (x y z : Float) → T (finite x) → T (finite y) → T (finite z) → T (le (fin false 0 (pos 0)) z) → T (le x y)
+    → T (le (mul f x z) (mul f y z))
 unfolding mul le
 mul-of f nan y z X Y Z N h = absurd X
 mul-of f (inf s) y z X Y Z N h = absurd X
@@ -305,26 +327,33 @@ mul-of f (fin s m e) (fin t n d) (inf u) X Y Z N h = absurd Z
 mul-of f (fin s m e) (fin t n d) (fin u k c) X Y Z N h =
     round-of f (unlike s u) (m * up e * (k * up c)) (down e * down c) (unlike t u) (n * up d * (k * up c)) (down d * down c)
     (mul-pos (down-pos e) (down-pos c)) (mul-pos (down-pos d) (down-pos c))
-    (mul-signed s t u (m * up e) (n * up d) (down e) (down d) (k * up c) (down c) (minus-nought u (k * up c) (down c) (test→signed false (0 * 1 * down c) u (k * up c * 1) N)) (test→signed s (m * up e * down d) t (n * up d * down e) h))
+    (mul-signed s t u (m * up e) (n * up d) (down e) (down d) (k * up c) (down c)
+    (minus-nought u (k * up c) (down c) (test→signed false (0 * 1 * down c) u (k * up c * 1) N))
+    (test→signed s (m * up e * down d) t (n * up d * down e) h))
   where
     minus-nought : (u : Bool) (k r : ℕ) → signedLe false (0 * 1 * r) u (k * 1) → T u → k ≡ 0
     minus-nought false k r h t = absurd t
     minus-nought true k r h t = omega arith
 
 -- z may be either zero
-pub mul-mono-left : (f : Format) (x y z : Float) → T (finite x) → T (finite y) → T (finite z) → le nought z ≡ true → le x y ≡ true → le (mul f x z) (mul f y z) ≡ true
-mul-mono-left f x y z X Y Z N h = is-true (le (mul f x z) (mul f y z)) (mul-of f x y z X Y Z (subst (λ (w : Float). T (le w z)) nought-is (true→T (le nought z) N)) (true→T (le x y) h))
+pub mul-mono-left : (f : Format) (x y z : Float) → T (finite x) → T (finite y) → T (finite z) → le nought z ≡ true → le x y ≡ true
+    → le (mul f x z) (mul f y z) ≡ true
+mul-mono-left f x y z X Y Z N h = is-true (le (mul f x z) (mul f y z))
+    (mul-of f x y z X Y Z (subst (λ (w : Float). T (le w z)) nought-is (true→T (le nought z) N)) (true→T (le x y) h))
 
-pub mul-mono-right : (f : Format) (x y z : Float) → T (finite x) → T (finite y) → T (finite z) → le nought x ≡ true → le y z ≡ true → le (mul f x y) (mul f x z) ≡ true
+pub mul-mono-right : (f : Format) (x y z : Float) → T (finite x) → T (finite y) → T (finite z) → le nought x ≡ true → le y z ≡ true
+    → le (mul f x y) (mul f x z) ≡ true
 mul-mono-right f x y z X Y Z N h = rw (mul-swap f x y, mul-swap f x z) (mul-mono-left f y z x Y Z X N h)
 
 -- ---- the quotient by a divisor above 0
 
-quotient : (f : Format) (s : Bool) (m : ℕ) (e : ℤ) (k : ℕ) (c : ℤ) → 0 < k → div f (fin s m e) (fin false k c) ≡ round f s (m * up e * down c) (k * up c * down e)
+quotient : (f : Format) (s : Bool) (m : ℕ) (e : ℤ) (k : ℕ) (c : ℤ) → 0 < k
+    → div f (fin s m e) (fin false k c) ≡ round f s (m * up e * down c) (k * up c * down e)
 unfolding div
 quotient f s m e k c K = go (eqb k 0) (eqb→eq k 0)
   where
-    go : (b : Bool) → (T b → k ≡ 0) → cond b (cond (eqb m 0) nan (inf (unlike s false))) (round f (unlike s false) (m * up e * down c) (k * up c * down e)) ≡ round f s (m * up e * down c) (k * up c * down e)
+    go : (b : Bool) → (T b → k ≡ 0) → cond b (cond (eqb m 0) nan (inf (unlike s false)))
+        (round f (unlike s false) (m * up e * down c) (k * up c * down e)) ≡ round f s (m * up e * down c) (k * up c * down e)
     go true z = absurd (none k K (z tt))
       where
         none : (k : ℕ) → 0 < k → k ≡ 0 → ⊥
@@ -348,15 +377,18 @@ div-by f (inf true) (inf true) k c K h = tt
 div-by f (inf true) (inf false) k c K h = tt
 div-by f (inf false) (inf true) k c K h = absurd h
 div-by f (inf false) (inf false) k c K h = tt
-div-by f (inf true) (fin t n d) k c K h = subst (λ (z : Float). T (le (inf true) z)) (sym (quotient f t n d k c K)) (bottom (round f t (n * up d * down c) (k * up c * down d)) (round-not-nan f t (n * up d * down c) (k * up c * down d)))
+div-by f (inf true) (fin t n d) k c K h = subst (λ (z : Float). T (le (inf true) z)) (sym (quotient f t n d k c K))
+    (bottom (round f t (n * up d * down c) (k * up c * down d)) (round-not-nan f t (n * up d * down c) (k * up c * down d)))
 div-by f (inf false) (fin t n d) k c K h = absurd h
 div-by f (fin s m e) nan k c K h = absurd h
 div-by f (fin s m e) (inf true) k c K h = absurd h
-div-by f (fin s m e) (inf false) k c K h = subst (λ (z : Float). T (le z (inf false))) (sym (quotient f s m e k c K)) (top (round f s (m * up e * down c) (k * up c * down e)) (round-not-nan f s (m * up e * down c) (k * up c * down e)))
+div-by f (fin s m e) (inf false) k c K h = subst (λ (z : Float). T (le z (inf false))) (sym (quotient f s m e k c K))
+    (top (round f s (m * up e * down c) (k * up c * down e)) (round-not-nan f s (m * up e * down c) (k * up c * down e)))
 div-by f (fin s m e) (fin t n d) k c K h =
     subst (λ (z : Float). T (le z (div f (fin t n d) (fin false k c)))) (sym (quotient f s m e k c K))
     (subst (λ (z : Float). T (le (round f s (m * up e * down c) (k * up c * down e)) z)) (sym (quotient f t n d k c K))
-    (round-of f s (m * up e * down c) (k * up c * down e) t (n * up d * down c) (k * up c * down d) (mul-pos (mul-pos K (up-pos c)) (down-pos e)) (mul-pos (mul-pos K (up-pos c)) (down-pos d))
+    (round-of f s (m * up e * down c) (k * up c * down e) t (n * up d * down c) (k * up c * down d) (mul-pos (mul-pos K (up-pos c)) (down-pos e))
+    (mul-pos (mul-pos K (up-pos c)) (down-pos d))
     (div-signed s t (m * up e) (n * up d) (down e) (down d) (k * up c) (down c) (test→signed s (m * up e * down d) t (n * up d * down e) h))))
 
 -- above 0
@@ -375,7 +407,8 @@ div-of f x y (fin true k c) Z N h = absurd N
 div-of f x y (fin false k c) Z N h = div-by f x y k c (above-digits k c N) h
 
 pub div-mono-left : (f : Format) (x y z : Float) → T (finite z) → lt nought z ≡ true → le x y ≡ true → le (div f x z) (div f y z) ≡ true
-div-mono-left f x y z Z N h = is-true (le (div f x z) (div f y z)) (div-of f x y z Z (subst (λ (w : Float). T (lt w z)) nought-is (true→T (lt nought z) N)) (true→T (le x y) h))
+div-mono-left f x y z Z N h = is-true (le (div f x z) (div f y z))
+    (div-of f x y z Z (subst (λ (w : Float). T (lt w z)) nought-is (true→T (lt nought z) N)) (true→T (le x y) h))
 
 -- x / p not negative, by z / r ≤ w / v
 div-cross : (x p z r w v : ℕ) → z * v ≤ w * r → x * v * (z * p) ≤ x * r * (w * p)
@@ -384,15 +417,18 @@ div-cross x p z r w v h = le-trans (le-of-eq (left x v z p)) (le-trans (mul-le-m
     left : (x v z p : ℕ) → x * v * (z * p) ≡ z * v * (x * p)
     left x v z p = simp (mul-assoc, mul-comm, mul-left-comm)
 
-anti-by : (f : Format) (m : ℕ) (e : ℤ) (k : ℕ) (c : ℤ) (o : ℕ) (g : ℤ) → 0 < k → 0 < o → T (le (fin false k c) (fin false o g)) → T (le (div f (fin false m e) (fin false o g)) (div f (fin false m e) (fin false k c)))
+anti-by : (f : Format) (m : ℕ) (e : ℤ) (k : ℕ) (c : ℤ) (o : ℕ) (g : ℤ) → 0 < k → 0 < o → T (le (fin false k c) (fin false o g))
+    → T (le (div f (fin false m e) (fin false o g)) (div f (fin false m e) (fin false k c)))
 unfolding le
 anti-by f m e k c o g K O h =
     subst (λ (z : Float). T (le z (div f (fin false m e) (fin false k c)))) (sym (quotient f false m e o g O))
     (subst (λ (z : Float). T (le (round f false (m * up e * down g) (o * up g * down e)) z)) (sym (quotient f false m e k c K))
-    (round-mono f (m * up e * down g) (o * up g * down e) (m * up e * down c) (k * up c * down e) (mul-pos (mul-pos O (up-pos g)) (down-pos e)) (mul-pos (mul-pos K (up-pos c)) (down-pos e))
+    (round-mono f (m * up e * down g) (o * up g * down e) (m * up e * down c) (k * up c * down e) (mul-pos (mul-pos O (up-pos g)) (down-pos e))
+    (mul-pos (mul-pos K (up-pos c)) (down-pos e))
     (div-cross (m * up e) (down e) (k * up c) (down c) (o * up g) (down g) (test→signed false (k * up c * down g) false (o * up g * down c) h))))
 
-anti-of : (f : Format) (x z w : Float) → T (finite x) → T (isPlus x) → T (finite w) → T (lt (fin false 0 (pos 0)) z) → T (lt (fin false 0 (pos 0)) w) → T (le z w) → T (le (div f x w) (div f x z))
+anti-of : (f : Format) (x z w : Float) → T (finite x) → T (isPlus x) → T (finite w) → T (lt (fin false 0 (pos 0)) z) → T (lt (fin false 0 (pos 0)) w)
+    → T (le z w) → T (le (div f x w) (div f x z))
 unfolding lt le isPlus
 anti-of f nan z w X P W N O h = absurd X
 anti-of f (inf s) z w X P W N O h = absurd X
@@ -409,7 +445,9 @@ anti-of f (fin false m e) (fin false k c) (fin true o g) X P W N O h = absurd O
 anti-of f (fin false m e) (fin false k c) (fin false o g) X P W N O h = anti-by f m e k c o g (above-digits k c N) (above-digits o g O) h
 
 -- a larger divisor gives no larger quotient of what is not negative
-pub div-anti-right : (f : Format) (x z w : Float) → T (finite x) → Plus x → T (finite w) → lt nought z ≡ true → le z w ≡ true → le (div f x w) (div f x z) ≡ true
+pub div-anti-right : (f : Format) (x z w : Float) → T (finite x) → Plus x → T (finite w) → lt nought z ≡ true → le z w ≡ true
+    → le (div f x w) (div f x z) ≡ true
 div-anti-right f x z w X P W N h =
     is-true (le (div f x w) (div f x z))
-    (anti-of f x z w X (P .sign) W (subst (λ (y : Float). T (lt y z)) nought-is (true→T (lt nought z) N)) (subst (λ (y : Float). T (lt y w)) nought-is (true→T (lt nought w) (lt-then-le nought z w N h))) (true→T (le z w) h))
+    (anti-of f x z w X (P .sign) W (subst (λ (y : Float). T (lt y z)) nought-is (true→T (lt nought z) N))
+    (subst (λ (y : Float). T (lt y w)) nought-is (true→T (lt nought w) (lt-then-le nought z w N h))) (true→T (le z w) h))

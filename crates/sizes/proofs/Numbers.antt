@@ -54,12 +54,14 @@ held-terms most c k i D K h =
 pub held-whole : {f : Format} {N : ℕ} → Held f N → HeldAt f N 1
 held-whole {f} {N} h =
     let l = low f in
-    let e : N * 2 ^ l ≡ h .q * 2 ^ (h .j + l) = ap (λ (x : ℕ). x * 2 ^ l) (h .is) ∙ mul-assoc (h .q) (2 ^ h .j) (2 ^ l) ∙ ap (λ (x : ℕ). h .q * x) (sym (pow-add 2 (h .j) l)) in
+    let e : N * 2 ^ l ≡ h .q * 2 ^ (h .j + l) = ap (λ (x : ℕ). x * 2 ^ l) (h .is) ∙ mul-assoc (h .q) (2 ^ h .j) (2 ^ l)
+    ∙ ap (λ (x : ℕ). h .q * x) (sym (pow-add 2 (h .j) l)) in
     record {
       q = h .q;
       j = h .j + l;
       few = h .few;
-      under = lt-of-le-of-lt (le-of-eq (sym e)) (lt-of-lt-of-le (mul-lt-mul-of-pos-right (h .under) (pow-pos l)) (le-of-eq (mul-comm (2 ^ suc (emax f)) (2 ^ l) ∙ sym (pow-add 2 l (suc (emax f))))));
+      under = lt-of-le-of-lt (le-of-eq (sym e)) (lt-of-lt-of-le (mul-lt-mul-of-pos-right (h .under) (pow-pos l))
+          (le-of-eq (mul-comm (2 ^ suc (emax f)) (2 ^ l) ∙ sym (pow-add 2 l (suc (emax f))))));
       is = e ∙ sym (mul-one (h .q * 2 ^ (h .j + l)));
     }
 

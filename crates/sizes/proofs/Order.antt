@@ -153,10 +153,12 @@ module _ (x y z : Float) where
   le-then-le h k = is-true (le x z) (trans x y z (true→T (le x y) h) (true→T (le y z) k))
 
   pub lt-then-le : lt x y ≡ true → le y z ≡ true → lt x z ≡ true
-  lt-then-le h k = not-le z x (le-right y z k) (lt-left x y h) (is-false (le z x) (not-T (le z x) (λ l. less-not x y (true→T (lt x y) h) (trans y z x (true→T (le y z) k) l))))
+  lt-then-le h k = not-le z x (le-right y z k) (lt-left x y h)
+      (is-false (le z x) (not-T (le z x) (λ l. less-not x y (true→T (lt x y) h) (trans y z x (true→T (le y z) k) l))))
 
   pub le-then-lt : le x y ≡ true → lt y z ≡ true → lt x z ≡ true
-  le-then-lt h k = not-le z x (lt-right y z k) (le-left x y h) (is-false (le z x) (not-T (le z x) (λ l. less-not y z (true→T (lt y z) k) (trans z x y l (true→T (le x y) h)))))
+  le-then-lt h k = not-le z x (lt-right y z k) (le-left x y h)
+      (is-false (le z x) (not-T (le z x) (λ l. less-not y z (true→T (lt y z) k) (trans z x y l (true→T (le x y) h)))))
 
   pub lt-then-lt : lt x y ≡ true → lt y z ≡ true → lt x z ≡ true
   lt-then-lt h k = lt-then-le h (lt-is-le y z k)
@@ -177,7 +179,8 @@ neg-of (fin s m e) nan h = absurd h
 neg-of (fin s m e) (inf true) h = absurd h
 neg-of (fin s m e) (inf false) h = tt
 neg-of (fin s m e) (fin t n d) h =
-    signed→test (not t) (n * up d * down e) (not s) (m * up e * down d) (signed-neg s (m * up e * down d) t (n * up d * down e) (test→signed s (m * up e * down d) t (n * up d * down e) h))
+    signed→test (not t) (n * up d * down e) (not s) (m * up e * down d)
+    (signed-neg s (m * up e * down d) t (n * up d * down e) (test→signed s (m * up e * down d) t (n * up d * down e) h))
 
 pub neg-anti : (x y : Float) → le x y ≡ true → le (neg y) (neg x) ≡ true
 neg-anti x y h = is-true (le (neg y) (neg x)) (neg-of x y (true→T (le x y) h))
@@ -197,7 +200,8 @@ neg-not-nan (inf s) h = tt
 neg-not-nan (fin s m e) h = tt
 
 pub neg-lt : (x y : Float) → lt x y ≡ true → lt (neg y) (neg x) ≡ true
-neg-lt x y h = not-le (neg x) (neg y) (neg-not-nan x (lt-left x y h)) (neg-not-nan y (lt-right x y h)) (is-false (le (neg x) (neg y)) (not-T (le (neg x) (neg y)) (λ k. less-not x y (true→T (lt x y) h) (back (neg-of (neg x) (neg y) k)))))
+neg-lt x y h = not-le (neg x) (neg y) (neg-not-nan x (lt-left x y h)) (neg-not-nan y (lt-right x y h))
+    (is-false (le (neg x) (neg y)) (not-T (le (neg x) (neg y)) (λ k. less-not x y (true→T (lt x y) h) (back (neg-of (neg x) (neg y) k)))))
   where
     back : T (le (neg (neg y)) (neg (neg x))) → T (le y x)
     back k = rw (neg-neg y, neg-neg x) at k
@@ -233,7 +237,8 @@ pub lt-values : (x y : Float) (a c b d : ℕ) → 0 < c → 0 < d → HasValue x
 lt-values x y a c b d C D v w = go (ltb (a * d) (b * c)) (ltb→lt (a * d) (b * c)) (nltb→le (a * d) (b * c))
   where
     go : (t : Bool) → (T t → a * d < b * c) → (T (not t) → b * c ≤ a * d) → lt x y ≡ t
-    go true h k = not-le y x (known-not-nan y false b d w) (known-not-nan x false a c v) (is-false (le y x) (not-T (le y x) (λ t. not-le-of-lt (h tt) (cross-le y x b d a c D C w v t))))
+    go true h k = not-le y x (known-not-nan y false b d w) (known-not-nan x false a c v)
+        (is-false (le y x) (not-T (le y x) (λ t. not-le-of-lt (h tt) (cross-le y x b d a c D C w v t))))
     go false h k = le-back y x (is-true (le y x) (le-of-values y x b d a c D C w v (k tt)))
 
 module _ (m n : ℕ) (M : m ≤ 2 ^ 53) (N : n ≤ 2 ^ 53) where

@@ -25,7 +25,8 @@ under x y N p q Q h k = le-trans (le-of-eq (sym (mul-one x))) (through x y N p q
 null-under : (x N p : ℕ) → x ≡ 0 → x ≤ N * p
 null-under x N p e = omega arith
 
-inner : (N : ℕ) (s : Bool) (a p : ℕ) (u : Bool) (x q : ℕ) (t : Bool) (b r : ℕ) → 0 < p → 0 < r → a ≤ N * p → b ≤ N * r → signedLe s (a * q) u (x * p) → signedLe u (x * r) t (b * q) → x ≤ N * q
+inner : (N : ℕ) (s : Bool) (a p : ℕ) (u : Bool) (x q : ℕ) (t : Bool) (b r : ℕ) → 0 < p → 0 < r → a ≤ N * p → b ≤ N * r → signedLe s (a * q) u (x * p)
+    → signedLe u (x * r) t (b * q) → x ≤ N * q
 inner N s a p false x q false b r P R A B h k = under x b N q r R k B
 inner N s a p false x q true b r P R A B h k = null-under x N q (null x r R (omega arith))
 inner N false a p true x q t b r P R A B h k = null-under x N q (null x p P (omega arith))
@@ -64,7 +65,8 @@ beyond p q (inf false) (fin t n d) P a h = absurd h
 beyond p q (fin true m e) y P a h = absurd P
 beyond p q (fin false m e) nan P a h = absurd h
 beyond p q (fin false m e) (inf t) P a h = tt
-beyond p q (fin false m e) (fin t n d) P a h = outer p q (m * up e) (down e) t (n * up d) (down d) (down-pos e) (down-pos d) a (test→signed false (m * up e * down d) t (n * up d * down e) h)
+beyond p q (fin false m e) (fin t n d) P a h = outer p q (m * up e) (down e) t (n * up d) (down d) (down-pos e) (down-pos d) a
+    (test→signed false (m * up e * down d) t (n * up d * down e) h)
   where
     outer : (p q x e : ℕ) (t : Bool) (y d : ℕ) → 0 < e → 0 < d → p * e ≤ q * x → signedLe false (x * d) t (y * e) → p * d ≤ q * y
     outer p q x e false y d E D a h = le-trans (through p x y q e d E (le-trans a (le-of-eq (mul-comm q x))) h) (le-of-eq (mul-comm y q))

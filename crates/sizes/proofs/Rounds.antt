@@ -38,7 +38,10 @@ units-plus f q k = go (ltb (q * 2 ^ k) (2 ^ (low f + suc (emax f)))) q
     go false q = tt
 
 pub round-plus : (f : Format) (a c : ℕ) → Plus (round f false a c)
-round-plus f a c = record { sign = subst (λ (x : Float). T (isPlus x)) (sym (round-is f false a c)) (units-plus f (kept (prec f) (a * 2 ^ low f) c) (drop (prec f) (a * 2 ^ low f) c)) }
+round-plus f a c = record {
+  sign = subst (λ (x : Float). T (isPlus x)) (sym (round-is f false a c))
+      (units-plus f (kept (prec f) (a * 2 ^ low f) c) (drop (prec f) (a * 2 ^ low f) c));
+}
 
 -- ---- the size, from above
 
@@ -54,7 +57,8 @@ upTo-of-le (fin false m e) nan N p v h = absurd v
 upTo-of-le (fin false m e) (inf t) N p v h = absurd v
 upTo-of-le (fin false m e) (fin true n d) N p v h = absurd (true≢false (v .0))
 upTo-of-le (fin false m e) (fin false n d) N p v h =
-    le-trans (le-of-eq (sym (mul-one (m * up e)))) (through (m * up e) (n * up d) N (down e) (down d) 1 (down-pos d) (test→signed false (m * up e * down d) false (n * up d * down e) h) (le-of-eq (v .1)))
+    le-trans (le-of-eq (sym (mul-one (m * up e)))) (through (m * up e) (n * up d) N (down e) (down d) 1 (down-pos d)
+    (test→signed false (m * up e * down d) false (n * up d * down e) h) (le-of-eq (v .1)))
 
 upTo-neg : (N : ℕ) (x : Float) → sizeUpTo N x → sizeUpTo N (neg x)
 unfolding neg
@@ -69,7 +73,10 @@ pub round-most : {f : Format} {N : ℕ} (s : Bool) (a c : ℕ) → 0 < c → Hel
 round-most {f} {N} s a c C r h = go s
   where
     plus : AtMost N (round f false a c)
-    plus = record { size = upTo-of-le (round f false a c) (round f false N 1) N (round-plus f a c .sign) (held-value false r) (round-mono f a c N 1 C (zero-lt-suc 0) (le-trans (le-of-eq (mul-one a)) h)) }
+    plus = record {
+      size = upTo-of-le (round f false a c) (round f false N 1) N (round-plus f a c .sign) (held-value false r)
+          (round-mono f a c N 1 C (zero-lt-suc 0) (le-trans (le-of-eq (mul-one a)) h));
+    }
 
     go : (s : Bool) → AtMost N (round f s a c)
     go false = plus
@@ -86,7 +93,8 @@ from-of-le (fin false m e) nan a c C p v h = absurd v
 from-of-le (fin false m e) (inf t) a c C p v h = absurd v
 from-of-le (fin false m e) (fin true n d) a c C p v h = absurd (true≢false (v .0))
 from-of-le (fin false m e) (fin false n d) a c C p v h =
-    le-trans (through a (n * up d) (m * up e) c (down d) (down e) (down-pos d) (le-of-eq (sym (v .1))) (test→signed false (n * up d * down e) false (m * up e * down d) h)) (le-of-eq (mul-comm (m * up e) c))
+    le-trans (through a (n * up d) (m * up e) c (down d) (down e) (down-pos d) (le-of-eq (sym (v .1)))
+    (test→signed false (n * up d * down e) false (m * up e * down d) h)) (le-of-eq (mul-comm (m * up e) c))
 
 from-neg : (p q : ℕ) (x : Float) → sizeFrom p q x → sizeFrom p q (neg x)
 unfolding neg
@@ -101,7 +109,10 @@ pub round-least : {f : Format} {p q : ℕ} (s : Bool) (a c : ℕ) → 0 < c → 
 round-least {f} {p} {q} s a c C Q r h = go s
   where
     plus : AtLeast p q (round f false a c)
-    plus = record { size = from-of-le (round f false a c) (round f false p q) p q Q (round-plus f a c .sign) (held-at-value false Q r) (round-mono f p q a c Q C h) }
+    plus = record {
+      size = from-of-le (round f false a c) (round f false p q) p q Q (round-plus f a c .sign) (held-at-value false Q r)
+          (round-mono f p q a c Q C h);
+    }
 
     go : (s : Bool) → AtLeast p q (round f s a c)
     go false = plus

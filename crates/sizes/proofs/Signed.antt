@@ -40,16 +40,30 @@ nought-both a b t =
     omega arith
 
 pub test→signed : (s : Bool) (a : ℕ) (t : Bool) (b : ℕ) → T (below s a t b || level s a t b) → signedLe s a t b
-test→signed false a false b h = elim (or-split (ltb a b) (eqb a b && true) h) [ inl u ↦ le-of-lt (ltb→lt a b u) | inr u ↦ le-of-eq (eqb→eq a b (and-l (eqb a b) true u)) ]
+test→signed false a false b h = elim (or-split (ltb a b) (eqb a b && true) h)
+    [ inl u ↦ le-of-lt (ltb→lt a b u) | inr u ↦ le-of-eq (eqb→eq a b (and-l (eqb a b) true u)) ]
 test→signed false a true b h = nought-both a b h
 test→signed true a false b h = tt
-test→signed true a true b h = elim (or-split (ltb b a) (eqb a b && true) h) [ inl u ↦ le-of-lt (ltb→lt b a u) | inr u ↦ le-of-eq (sym (eqb→eq a b (and-l (eqb a b) true u))) ]
+test→signed true a true b h = elim (or-split (ltb b a) (eqb a b && true) h)
+    [ inl u ↦ le-of-lt (ltb→lt b a u) | inr u ↦ le-of-eq (sym (eqb→eq a b (and-l (eqb a b) true u))) ]
 
 pub signed→test : (s : Bool) (a : ℕ) (t : Bool) (b : ℕ) → signedLe s a t b → T (below s a t b || level s a t b)
-signed→test false a false b h = elim (eq-or-lt-of-le h) [ inl p ↦ or-r (ltb a b) (eqb a b && true) (and-i (eqb a b) true (eq→eqb p) tt) | inr q ↦ or-l (ltb a b) (eqb a b && true) (lt→ltb a b q) ]
+signed→test false a false b h = elim (eq-or-lt-of-le h) [
+  | inl p ↦ or-r (ltb a b) (eqb a b && true) (and-i (eqb a b) true (eq→eqb p) tt)
+  | inr q ↦ or-l
+      (ltb a b) (eqb a b && true) (lt→ltb a b q)
+]
 signed→test false a true b h = both-nought a b h
-signed→test true a false b h = elim (eq-zero-or-pos (a + b)) [ inl z ↦ or-r (ltb 0 (a + b)) (eqb a b && (false || eqb a 0)) (both-nought a b z) | inr p ↦ or-l (ltb 0 (a + b)) (eqb a b && (false || eqb a 0)) (lt→ltb 0 (a + b) p) ]
-signed→test true a true b h = elim (eq-or-lt-of-le h) [ inl p ↦ or-r (ltb b a) (eqb a b && true) (and-i (eqb a b) true (eq→eqb (sym p)) tt) | inr q ↦ or-l (ltb b a) (eqb a b && true) (lt→ltb b a q) ]
+signed→test true a false b h = elim (eq-zero-or-pos (a + b)) [
+  | inl z ↦ or-r (ltb 0 (a + b)) (eqb a b && (false || eqb a 0)) (both-nought a b z)
+  | inr p ↦ or-l (ltb 0 (a + b)) (eqb a b && (false || eqb a 0))
+      (lt→ltb 0 (a + b) p)
+]
+signed→test true a true b h = elim (eq-or-lt-of-le h) [
+  | inl p ↦ or-r (ltb b a) (eqb a b && true) (and-i (eqb a b) true (eq→eqb (sym p)) tt)
+  | inr q ↦
+      or-l (ltb b a) (eqb a b && true) (lt→ltb b a q)
+]
 
 -- `below` is what `signedLe` the other way round is not
 pub below-not : (s : Bool) (a : ℕ) (t : Bool) (b : ℕ) → T (below s a t b) → signedLe t b s a → ⊥
@@ -95,7 +109,8 @@ null-sum (suc x) r z p e f = absurd (omega arith)
 -- ---- the order
 
 -- x / p ≤ y / q ≤ z / r with signs
-pub signed-through : (s t u : Bool) (x y z p q r : ℕ) → 0 < p → 0 < q → 0 < r → signedLe s (x * q) t (y * p) → signedLe t (y * r) u (z * q) → signedLe s (x * r) u (z * p)
+pub signed-through : (s t u : Bool) (x y z p q r : ℕ) → 0 < p → 0 < q → 0 < r → signedLe s (x * q) t (y * p) → signedLe t (y * r) u (z * q)
+    → signedLe s (x * r) u (z * p)
 signed-through false false false x y z p q r P Q R h k = through x y z p q r Q h k
 signed-through false false true x y z p q r P Q R h k =
     let Y : y ≡ 0 = null y r R (omega arith) in
@@ -146,7 +161,8 @@ signed-scale true a false b w h = tt
 signed-scale true a true b w h = mul-le-mul-right w h
 
 pub signed-nought : (s : Bool) (a : ℕ) (t : Bool) (b : ℕ) → a ≡ 0 → b ≡ 0 → signedLe s a t b
-signed-nought s a t b A B = sums→signed s a t b (subst (λ (z : ℕ). plus s z + minus t b ≤ plus t b + minus s z) (sym A) (subst (λ (z : ℕ). plus s 0 + minus t z ≤ plus t z + minus s 0) (sym B) (none s t)))
+signed-nought s a t b A B = sums→signed s a t b (subst (λ (z : ℕ). plus s z + minus t b ≤ plus t b + minus s z) (sym A)
+    (subst (λ (z : ℕ). plus s 0 + minus t z ≤ plus t z + minus s 0) (sym B) (none s t)))
   where
     none : (s t : Bool) → plus s 0 + minus t 0 ≤ plus t 0 + minus s 0
     none false false = omega arith

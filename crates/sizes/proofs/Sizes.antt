@@ -4,7 +4,23 @@
 use mathlib.Core.Path.{_≡_, sym, ap, _∙_, subst}
 use mathlib.Core.Bool.{Bool, true, false, not, _&&_, cond, Bool·beq}
 use Prim.Native.Nat.{ℕ, zero, suc, _+_, _-_, _*_, _^_, _≤_, _<_}
-use native.Mathlib.Nat.{le-trans, le-of-eq, mul-comm, mul-assoc, mul-left-comm, mul-right-comm, mul-le-mul, mul-le-mul-right, mul-mul-mul-comm, mul-pos, mul-one, add-mul, le-of-mul-le-mul-right, two-pow-succ, zero-lt-suc}
+use native.Mathlib.Nat.{
+  le-trans,
+  le-of-eq,
+  mul-comm,
+  mul-assoc,
+  mul-left-comm,
+  mul-right-comm,
+  mul-le-mul,
+  mul-le-mul-right,
+  mul-mul-mul-comm,
+  mul-pos,
+  mul-one,
+  add-mul,
+  le-of-mul-le-mul-right,
+  two-pow-succ,
+  zero-lt-suc,
+}
 use native.Mathlib.Omega.{arith}
 use lib.Dec.{T, ltb, eqb, eqb→eq}
 use lib.Pow.{pow-add, pow-mono}
@@ -75,7 +91,8 @@ add-of f N M (inf s) y r h k = absurd h
 add-of f N M (fin s m e) nan r h k = absurd k
 add-of f N M (fin s m e) (inf t) r h k = absurd k
 add-of f N M (fin s m e) (fin t n d) r h k =
-    sum-most f s (m * up e * down d) t (n * up d * down e) (down e * down d) (N + M) (mul-pos (down-pos e) (down-pos d)) r (sides (m * up e) (n * up d) (down e) (down d) N M h k)
+    sum-most f s (m * up e * down d) t (n * up d * down e) (down e * down d) (N + M) (mul-pos (down-pos e) (down-pos d)) r
+    (sides (m * up e) (n * up d) (down e) (down d) N M h k)
 
 pub add-most : {f : Format} {N M : ℕ} {x y : Float} → Held f (N + M) → AtMost N x → AtMost M y → AtMost (N + M) (add f x y)
 add-most {f} {N} {M} {x} {y} r h k = add-of f N M x y r (h .size) (k .size)
@@ -140,7 +157,8 @@ div-of f N p q R (fin s m e) (fin t n d) P r l h k = go (eqb n 0) (eqb→eq n 0)
     go : (b : Bool) → (T b → n ≡ 0) → AtMost R (cond b (cond (eqb m 0) nan (inf (unlike s t))) (round f (unlike s t) (m * up e * down d) (n * up d * down e)))
     go true z = absurd (gone n (up d) y+ (z tt))
     go false z =
-        round-most (unlike s t) (m * up e * down d) (n * up d * down e) (mul-pos y+ (down-pos e)) r (quotient (m * up e) (down e) (n * up d) (down d) N p q R P h k l)
+        round-most (unlike s t) (m * up e * down d) (n * up d * down e) (mul-pos y+ (down-pos e)) r
+        (quotient (m * up e) (down e) (n * up d) (down d) N p q R P h k l)
 
 -- by what is at least p / q in size
 pub div-most : {f : Format} {N p q R : ℕ} {x y : Float} → 0 < p → Held f R → N * q ≤ R * p → AtMost N x → AtLeast p q y → AtMost R (div f x y)
@@ -149,14 +167,16 @@ div-most {f} {N} {p} {q} {R} {x} {y} P r l h k = div-of f N p q R x y P r l (h .
 -- ---- the same in powers of two
 
 pub add-within : {x y : Float} (f : Format) (k : ℕ) → suc k ≤ emax f → Within k x → Within k y → Within (suc k) (add f x y)
-add-within {x} {y} f k u h l = subst (λ (n : ℕ). AtMost n (add f x y)) (sym (two-pow-succ k)) (add-most (subst (λ (n : ℕ). Held f n) (two-pow-succ k) (held-power (suc k) u)) h l)
+add-within {x} {y} f k u h l = subst (λ (n : ℕ). AtMost n (add f x y)) (sym (two-pow-succ k))
+    (add-most (subst (λ (n : ℕ). Held f n) (two-pow-succ k) (held-power (suc k) u)) h l)
 
 pub sub-within : {x y : Float} (f : Format) (k : ℕ) → suc k ≤ emax f → Within k x → Within k y → Within (suc k) (sub f x y)
 unfolding sub
 sub-within f k u h l = add-within f k u h (neg-most l)
 
 pub mul-within : {x y : Float} (f : Format) (j k : ℕ) → j + k ≤ emax f → Within j x → Within k y → Within (j + k) (mul f x y)
-mul-within {x} {y} f j k u h l = subst (λ (n : ℕ). AtMost n (mul f x y)) (sym (pow-add 2 j k)) (mul-most (subst (λ (n : ℕ). Held f n) (pow-add 2 j k) (held-power (j + k) u)) h l)
+mul-within {x} {y} f j k u h l = subst (λ (n : ℕ). AtMost n (mul f x y)) (sym (pow-add 2 j k))
+    (mul-most (subst (λ (n : ℕ). Held f n) (pow-add 2 j k) (held-power (j + k) u)) h l)
 
 pub div-within : {x y : Float} (f : Format) (j k : ℕ) → j + k ≤ emax f → Within j x → AtLeast 1 (2 ^ k) y → Within (j + k) (div f x y)
 div-within f j k u h l = div-most (zero-lt-suc 0) (held-power (j + k) u) (le-of-eq (sym (pow-add 2 j k) ∙ sym (mul-one (2 ^ (j + k))))) h l

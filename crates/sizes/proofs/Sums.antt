@@ -13,7 +13,8 @@ use Rattle.sizes.proofs.Numbers.{held-multiple, held-terms}
 use Rattle.sizes.proofs.Sizes.{most-weaken, nought-most, add-most}
 
 -- an accumulator of at most n terms of size N, and k terms more
-pub sum-from-most : {N : ℕ} {acc : Float} {xs : List Float} (n : ℕ) → ((i : ℕ) → i ≤ n + length xs → Held binary64 (i * N)) → AtMost (n * N) acc → Each (AtMost N) xs
+pub sum-from-most : {N : ℕ} {acc : Float} {xs : List Float} (n : ℕ) → ((i : ℕ) → i ≤ n + length xs → Held binary64 (i * N)) → AtMost (n * N) acc
+    → Each (AtMost N) xs
     → AtMost ((n + length xs) * N) (sumFrom acc xs)
 unfolding sumFrom
 sum-from-most {N} {acc} n H h none = subst (λ (k : ℕ). AtMost (k * N) acc) (sym (add-zero n)) h
@@ -21,7 +22,8 @@ sum-from-most {N} {acc} n H h (more {x = x} {xs = xs} a k) =
     let e : n + length (x ∷ xs) ≡ suc n + length xs = omega arith in
     let s : n * N + N ≡ suc n * N = sym (suc-mul n N) in
     subst (λ (k : ℕ). AtMost (k * N) (sumFrom (acc ⊕ x) xs)) (sym e)
-    (sum-from-most (suc n) (λ i l. H i (omega (arith, e))) (subst (λ (k : ℕ). AtMost k (acc ⊕ x)) s (add-most (subst (λ (k : ℕ). Held binary64 k) (sym s) (H (suc n) (omega (arith, e)))) h a)) k)
+    (sum-from-most (suc n) (λ i l. H i (omega (arith, e))) (subst (λ (k : ℕ). AtMost k (acc ⊕ x)) s
+    (add-most (subst (λ (k : ℕ). Held binary64 k) (sym s) (H (suc n) (omega (arith, e)))) h a)) k)
 
 -- a whole sum
 pub sum-most : {N : ℕ} {xs : List Float} → ((i : ℕ) → i ≤ length xs → Held binary64 (i * N)) → Each (AtMost N) xs → AtMost (length xs * N) (sumOf xs)
@@ -34,5 +36,6 @@ sum-within {xs} d k D K l h =
     (sum-most (λ i j. held-multiple d k i D K (le-trans j l)) h)
 
 -- up to most terms of size c * 2 ^ k
-pub sum-scaled : {xs : List Float} (most c k : ℕ) → most * c < 2 ^ 53 → most * c * 2 ^ k < 2 ^ 1024 → length xs ≤ most → Each (AtMost (c * 2 ^ k)) xs → AtMost (most * (c * 2 ^ k)) (sumOf xs)
+pub sum-scaled : {xs : List Float} (most c k : ℕ) → most * c < 2 ^ 53 → most * c * 2 ^ k < 2 ^ 1024 → length xs ≤ most → Each (AtMost (c * 2 ^ k)) xs
+    → AtMost (most * (c * 2 ^ k)) (sumOf xs)
 sum-scaled {xs} most c k D K l h = most-weaken (mul-le-mul-right (c * 2 ^ k) l) (sum-most (λ i j. held-terms most c k i D K (le-trans j l)) h)

@@ -47,7 +47,8 @@ module _ (env : List Float) (rate : ℕ) (o : TempoOpts) (whole clarity weight w
       accepted env rate o clarity weight work (lag-fine (leb-true _ _ (and-left (leb whole mostPeriod) bounds (p .bounds))) ∙ e)
 
 -- what `share` asks for
-pub share-asks : (env : List Float) (rate : ℕ) (o : TempoOpts) (clarity weight work : ℕ) (r : LagRange) → Accepted env rate o clarity weight work → Ranged rate o r
+pub share-asks : (env : List Float) (rate : ℕ) (o : TempoOpts) (clarity weight work : ℕ) (r : LagRange) → Accepted env rate o clarity weight work
+    → Ranged rate o r
     → ((r .«min_lag» ≤ r .«max_lag») × (r .«max_lag» ≤ mostPeriod) × (length env ≤ mostRows))
     × ((lagRoom (r .«min_lag») (r .«max_lag») ≤ clarity) × (lagRoom (r .«min_lag») (r .«max_lag») ≤ weight) × (lagRoom (r .«min_lag») (r .«max_lag») ≤ work))
 share-asks env rate o clarity weight work r a g = (

@@ -119,7 +119,8 @@ module _ (rate lag : ℕ) (rate-from : 1 ≤ rate) (rate-to : rate ≤ mostRate)
       let r = ratio-sized in
       exp-square-most
       (div-most {N = 4096} {p = 1} {q = 1} {R = 4096} (lit< tt) (held-short (lit< tt)) (lit≤ tt)
-      (log2-most (bpmAt rate lag ⊘ likeliest) (div-fits binary64 (bpmAt rate lag) likeliest) (most-finite (r .most)) (least-above (lit< tt) (r .plus) (r .least)))
+      (log2-most (bpmAt rate lag ⊘ likeliest) (div-fits binary64 (bpmAt rate lag) likeliest) (most-finite (r .most))
+      (least-above (lit< tt) (r .plus) (r .least)))
       width-least)
 
 -- ---- an envelope that is searched, whole or as a window

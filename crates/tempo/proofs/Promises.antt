@@ -14,7 +14,7 @@ use lib.ListN.{length, getD, length-append, length-map}
 use lib.Ieee.{Float}
 use Rattle.numbers.specs.Limits.{mostPeriod}
 use Rattle.numbers.specs.Refusals.{unlessRefused}
-use Rattle.numbers.proofs.Tests.{lt-or-le, and-left}
+use Rattle.numbers.proofs.Tests.{lt-or-le, and-left, by-pick}
 use Rattle.numbers.proofs.Tabs.{length-tab, getD-listed-in, getD-listed-past}
 use Rattle.sizes.specs.Sizes.{Each, none, more}
 use Rattle.sizes.proofs.Lists.{each-at, each-append}
@@ -28,7 +28,6 @@ use Rattle.tempo.specs.declared.TempoEstimate.{TempoEstimate}
 use Rattle.lag_candidates.specs.Candidates.{winnerOf, ranked, standsApart, acceptedOf, candidatesOf}
 use Rattle.lag_search.specs.Search.{weightRule, clarityCurve, weightCurve, winnerAbove}
 use Rattle.tempo.specs.Answers.{unused, candidateAt, pairsOf, withoutTempo, foundOf, unwritten, tempoOf, searchRefusal, estimateOf, EstimatePromise}
-use Rattle.lag_candidates.proofs.Choices.{by-pick}
 use Rattle.lag_candidates.proofs.Winners.{winner-below}
 use Rattle.lag_candidates.proofs.Rankings.{ranked-below}
 use Rattle.tempo.proofs.Refusals.{accepted}
@@ -122,7 +121,8 @@ kept-found rate least most cs ws h l =
       found = sym (lt-ltb 0 (length slots) (few .0));
       used =
           λ i z k.
-          let e : getD (pairsOf least cs slots) i z ≡ candidateAt least cs (getD slots i 0) = getD-listed-in pairs (unused ∷ unused ∷ unused ∷ []) i z (omega arith) ∙ getD-image (candidateAt least cs) slots i z k in
+          let e : getD (pairsOf least cs slots) i z ≡ candidateAt least cs (getD slots i 0) =
+          getD-listed-in pairs (unused ∷ unused ∷ unused ∷ []) i z (omega arith) ∙ getD-image (candidateAt least cs) slots i z k in
           let s : getD slots i 0 < length ws = each-at i 0 (candidates-below least ws (omega arith)) k in
           let g : getD (pairsOf least cs slots) i z .lag ≡ least + getD slots i 0 = ap (λ (x : Candidate). x .lag) e in
           (omega (arith, g), omega (arith, g, s));
@@ -130,7 +130,8 @@ kept-found rate least most cs ws h l =
     }
 
 -- where the range begins at 1 or above, there is a tempo exactly where the first pair has a lag
-pub kept-lag : (least most : ℕ) (e : TempoEstimate) → 1 ≤ least → Kept least most e → (z : Candidate) → isFound (e .tempo) ≡ ltb 0 (getD (e .candidates) 0 z .lag)
+pub kept-lag : (least most : ℕ) (e : TempoEstimate) → 1 ≤ least → Kept least most e → (z : Candidate)
+    → isFound (e .tempo) ≡ ltb 0 (getD (e .candidates) 0 z .lag)
 kept-lag least most e h k z =
     ⊎-elim
     (λ (p : 0 < e .count).
@@ -169,7 +170,8 @@ module _ (env : List Float) (onsets rate : ℕ) (o : TempoOpts) (clarity weight 
 
   -- of an envelope that nothing refuses: a tempo is found exactly where the first pair has a lag
   pub tempo-has-lag : (z : Candidate)
-      → isFound (tempoOf env onsets rate (minLag rate o) (maxLag rate o) .tempo) ≡ ltb 0 (getD (tempoOf env onsets rate (minLag rate o) (maxLag rate o) .candidates) 0 z .lag)
+      → isFound (tempoOf env onsets rate (minLag rate o) (maxLag rate o) .tempo) ≡ ltb 0
+      (getD (tempoOf env onsets rate (minLag rate o) (maxLag rate o) .candidates) 0 z .lag)
   tempo-has-lag z = kept-lag (minLag rate o) (maxLag rate o) (tempoOf env onsets rate (minLag rate o) (maxLag rate o)) (min-lag-least rate o) told-kept z
 
   -- the lag of the first pair, 0 without a tempo, is a period
@@ -177,7 +179,8 @@ module _ (env : List Float) (onsets rate : ℕ) (o : TempoOpts) (clarity weight 
   unfolding estimateOf
   winner-most z =
       by-refused (λ (e : TempoEstimate). getD (e .candidates) 0 z .lag ≤ mostPeriod) (searchRefusal env rate o clarity weight work) _ _
-      (λ e. first-most (tempoOf env onsets rate (minLag rate o) (maxLag rate o)) told-kept (range-of rate o (accepted env rate o clarity weight work e .bounds) .most-max))
+      (λ e. first-most (tempoOf env onsets rate (minLag rate o) (maxLag rate o)) told-kept
+      (range-of rate o (accepted env rate o clarity weight work e .bounds) .most-max))
       (omega arith)
     where
       first-most : (e : TempoEstimate) → Kept (minLag rate o) (maxLag rate o) e → maxLag rate o ≤ mostPeriod → getD (e .candidates) 0 z .lag ≤ mostPeriod

@@ -81,7 +81,8 @@ module _ (env : List Float) (onsets rate minLag maxLag : ℕ) where
         (λ (f : flat env ≡ true). pick-true (unwritten env onsets maxLag) _ _ (written-is ∙ f))
         (λ (f : flat env ≡ false).
         pick-false (unwritten env onsets maxLag) _ _ (written-is ∙ f)
-        ∙ ⊎-elim (λ (a : winnerAbove weights ≡ true). absurd (no-lag h z f a)) (λ (a : winnerAbove weights ≡ false). pick-false (winnerAbove weights) _ _ a) (which (winnerAbove weights)))
+        ∙ ⊎-elim (λ (a : winnerAbove weights ≡ true). absurd (no-lag h z f a))
+        (λ (a : winnerAbove weights ≡ false). pick-false (winnerAbove weights) _ _ a) (which (winnerAbove weights)))
         (which (flat env))
 
     pub told-none : (r : TempoEstimate) → 1 ≤ minLag → lag ≡ 0 → r ≡ withoutTempo 0 → TempoIn env onsets rate minLag maxLag clarity weight r clarity′ weight′
@@ -147,10 +148,12 @@ module _ (env : List Float) (onsets rate minLag maxLag : ℕ) where
               (one, omega (arith, weight-length)),
             )
 
-        pub told-found : (r : TempoEstimate) → r ≡ foundOf rate minLag clarityPart weightPart → TempoIn env onsets rate minLag maxLag clarity weight r clarity′ weight′
+        pub told-found : (r : TempoEstimate) → r ≡ foundOf rate minLag clarityPart weightPart
+            → TempoIn env onsets rate minLag maxLag clarity weight r clarity′ weight′
         told-found r is =
             record {
-              answered = is ∙ ap (λ (x : List Float). foundOf rate minLag x weightPart) clarity-part ∙ ap (foundOf rate minLag (clarityCurve env minLag maxLag)) weight-part ∙ sym found-is;
+              answered = is ∙ ap (λ (x : List Float). foundOf rate minLag x weightPart) clarity-part
+                  ∙ ap (foundOf rate minLag (clarityCurve env minLag maxLag)) weight-part ∙ sym found-is;
               clarities = clarities-are;
               weights = weights-are;
             }

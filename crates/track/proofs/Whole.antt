@@ -28,7 +28,19 @@ use Rattle.track_parts.specs.declared.Following.{Following}
 use Rattle.track_parts.specs.Inner.{Followed}
 use Rattle.track_parts.proofs.Follows.{search-passed}
 use Rattle.track.specs.declared.Analysis.{Analysis}
-use Rattle.track.specs.Analyses.{estimateIn, winnersLag, periodIn, beatsIn, downbeatsIn, analysisOf, withoutAnalysis, writtenIn, openLags, openWork, Analysed}
+use Rattle.track.specs.Analyses.{
+  estimateIn,
+  winnersLag,
+  periodIn,
+  beatsIn,
+  downbeatsIn,
+  analysisOf,
+  withoutAnalysis,
+  writtenIn,
+  openLags,
+  openWork,
+  Analysed,
+}
 
 -- ---- the winner
 
@@ -45,7 +57,8 @@ analysisBy onsets e s beats downbeats =
 
 module _
     (env : List Float) (rate : ℕ) (o : TempoOpts)
-    (threshold : List Float) (onsets : List ℕ) (clarity weight score : List Float) (back beats downbeats : List ℕ) (windowClarity windowWeight work : List Float)
+    (threshold : List Float) (onsets : List ℕ) (clarity weight score : List Float) (back beats downbeats : List ℕ)
+    (windowClarity windowWeight work : List Float)
     (ready : Ready env rate o (results threshold onsets clarity weight score back beats downbeats) (spare windowClarity windowWeight work))
     (heard : ℕ) (threshold′ : List Float) (onsets′ : List ℕ) (work₁ : List Float)
     (list : OnsetsListed env rate threshold onsets work heard threshold′ onsets′ work₁)
@@ -72,7 +85,8 @@ module _
   module _
       (lag : ℕ) (first : lag ≡ winnersLag found)
       (r : Following) (windowClarity′ windowWeight′ score′ : List Float) (back′ beats′ downbeats′ : List ℕ) (work′ : List Float)
-      (after : Followed env rate o lag windowClarity windowWeight score back beats downbeats work₂ r windowClarity′ windowWeight′ score′ back′ beats′ downbeats′ work′) where
+      (after : Followed env rate o lag windowClarity windowWeight score back beats downbeats work₂ r windowClarity′ windowWeight′ score′ back′ beats′
+      downbeats′ work′) where
     lag-is : lag ≡ periodIn env rate o
     unfolding periodIn
     lag-is = first ∙ ap winnersLag found-is
@@ -80,18 +94,33 @@ module _
     answer-is : analysisBy heard found (r .stability) (r .beats) (r .downbeats) ≡ analysisOf env rate o
     unfolding analysisOf beatsIn downbeatsIn
     answer-is =
-        let s : r .stability ≡ shareOf env rate (minLag rate o) (maxLag rate o) (periodIn env rate o) = after .steady ∙ ap (shareOf env rate (minLag rate o) (maxLag rate o)) lag-is in
+        let s : r .stability ≡ shareOf env rate (minLag rate o) (maxLag rate o) (periodIn env rate o) =
+        after .steady ∙ ap (shareOf env rate (minLag rate o) (maxLag rate o)) lag-is in
         let b : r .beats ≡ length (gridOf env (periodIn env rate o)) = after .laid .beat-count ∙ ap (λ (k : ℕ). length (gridOf env k)) lag-is in
-        let d : r .downbeats ≡ length (downbeatsOf env (gridOf env (periodIn env rate o)) commonMeter) = after .laid .downbeat-count ∙ ap (λ (k : ℕ). length (downbeatsOf env (gridOf env k) commonMeter)) lag-is in
+        let d : r .downbeats ≡ length (downbeatsOf env (gridOf env (periodIn env rate o)) commonMeter) = after .laid .downbeat-count
+        ∙ ap (λ (k : ℕ). length (downbeatsOf env (gridOf env k) commonMeter)) lag-is in
         rw (list .count-is, found-is, s, b, d) refl
 
-    results-are : results threshold′ onsets′ clarity′ weight′ score′ back′ beats′ downbeats′ ≡ writtenIn env rate o (results threshold onsets clarity weight score back beats downbeats)
+    results-are : results threshold′ onsets′ clarity′ weight′ score′ back′ beats′ downbeats′ ≡ writtenIn env rate o
+        (results threshold onsets clarity weight score back beats downbeats)
     unfolding writtenIn beatsIn downbeatsIn
     results-are =
-        let silent : unwritten env heard (maxLag rate o) ≡ unwritten env (length (onsetsIn env rate)) (maxLag rate o) = ap (λ (k : ℕ). unwritten env k (maxLag rate o)) (list .count-is) in
+        let silent : unwritten env heard (maxLag rate o) ≡ unwritten env (length (onsetsIn env rate)) (maxLag rate o) =
+        ap (λ (k : ℕ). unwritten env k (maxLag rate o)) (list .count-is) in
         let c = tempo .clarities ∙ passed-does _ _ _ searched in
         let w = tempo .weights ∙ passed-does _ _ _ searched in
-        rw (list .threshold-is, list .onsets-are, c, w, silent, after .laid .score-is, after .laid .back-is, after .laid .beats-are, after .laid .downbeats-are, lag-is) refl
+        rw (
+          list .threshold-is,
+          list .onsets-are,
+          c,
+          w,
+          silent,
+          after .laid .score-is,
+          after .laid .back-is,
+          after .laid .beats-are,
+          after .laid .downbeats-are,
+          lag-is,
+        ) refl
 
     open-lags : (xs ys : List Float) → Open (leftOpen (length env) (minLag rate o) (maxLag rate o) lag) xs ys → Open (openLags 0 env rate o) xs ys
     unfolding openLags
@@ -133,5 +162,6 @@ module _ (n number : ℕ) (is : n ≡ number) (env : List Float) (rate : ℕ) (o
         works = open-same _ _;
       }
 
-  pub analysed-passed : (answer : Analysis) (after : Results) (left : Spare) → n ≡ 0 → Analysed 0 env rate o was lent answer after left → Analysed number env rate o was lent answer after left
+  pub analysed-passed : (answer : Analysis) (after : Results) (left : Spare) → n ≡ 0 → Analysed 0 env rate o was lent answer after left
+      → Analysed number env rate o was lent answer after left
   analysed-passed answer after left z a = subst (λ (j : ℕ). Analysed j env rate o was lent answer after left) (sym z ∙ is) a

@@ -37,7 +37,8 @@ module _ (env : List Float) (rate : ℕ) (o : TempoOpts) (few : length env ≤ m
 
   search-room : searchRoom rate o clarity weight work ≡ true
   unfolding searchRoom
-  search-room = and-both (leb (lagsOf rate o) clarity) _ (le-leb _ _ c) (and-both (leb (lagsOf rate o) weight) (leb (lagsOf rate o) work) (le-leb _ _ w) (le-leb _ _ k))
+  search-room = and-both (leb (lagsOf rate o) clarity) _ (le-leb _ _ c)
+      (and-both (leb (lagsOf rate o) weight) (leb (lagsOf rate o) work) (le-leb _ _ w) (le-leb _ _ k))
 
   pub search-passed : searchRefusal env rate o clarity weight work ≡ 0
   unfolding searchRefusal
@@ -82,7 +83,8 @@ module _ (env : List Float) where
   listed-empty : {A : Type 0} (es d : List A) → es ≡ [] → d ≡ listed es d
   listed-empty {A = A} es d e = sym (ap (λ (l : List A). listed l d) e ∙ listed-none d)
 
-  grid-none : (score : List Float) (back beats downbeats : List ℕ) → Grid env 0 score back beats downbeats (record { beats = 0; downbeats = 0 }) score back beats downbeats
+  grid-none : (score : List Float) (back beats downbeats : List ℕ)
+      → Grid env 0 score back beats downbeats (record { beats = 0; downbeats = 0 }) score back beats downbeats
   grid-none score back beats downbeats =
       record {
         beat-count = sym (ap length no-beats);
@@ -101,7 +103,8 @@ module _
     (env : List Float) (rate : ℕ) (o : TempoOpts) (lag : ℕ)
     (clarity weight score : List Float) (back beats downbeats : List ℕ) (work : List Float) where
   pub followed-none : lag ≡ 0
-      → Followed env rate o lag clarity weight score back beats downbeats work (record { stability = None; beats = 0; downbeats = 0 }) clarity weight score back beats downbeats work
+      → Followed env rate o lag clarity weight score back beats downbeats work (record { stability = None; beats = 0; downbeats = 0 }) clarity weight
+      score back beats downbeats work
   followed-none z =
       rw z (record {
         steady = share-none env rate (minLag rate o) (maxLag rate o);
@@ -119,7 +122,8 @@ module _
       → (lag ≡ 0 → ⊥)
       → StabilityPromise env rate o lag clarity weight work steady clarity′ weight′ work′
       → Grid env lag score back beats downbeats laid score′ back′ beats′ downbeats′
-      → Followed env rate o lag clarity weight score back beats downbeats work (record { stability = steady .stability; beats = laid .beats; downbeats = laid .downbeats })
+      → Followed env rate o lag clarity weight score back beats downbeats work
+      (record { stability = steady .stability; beats = laid .beats; downbeats = laid .downbeats })
       clarity′ weight′ score′ back′ beats′ downbeats′ work′
   unfolding steadinessOf
   followed-by steady laid clarity′ weight′ score′ back′ beats′ downbeats′ work′ few bounds fine h c w k some s g =

@@ -25,7 +25,8 @@ module _
   pub grid-passed : (score back beats : ℕ) → length env ≤ score → length env ≤ back → length env ≤ beats → gridRefusal env period score back beats ≡ 0
   unfolding gridRefusal gridNumbersFine gridRoomFine
   grid-passed score back beats s b f =
-      lowest-0 (leb (length env) mostRows && leb period mostPeriod) true (leb (length env) score && (leb (length env) back && leb (length env) beats)) (every valueFine env)
+      lowest-0 (leb (length env) mostRows && leb period mostPeriod) true (leb (length env) score && (leb (length env) back && leb (length env) beats))
+      (every valueFine env)
       (and-both _ _ (le-leb _ _ few) (le-leb _ _ short)) refl
       (and-both _ _ (le-leb _ _ s) (and-both _ _ (le-leb _ _ b) (le-leb _ _ f)))
       fine
@@ -33,9 +34,11 @@ module _
   pub downbeats-passed : (room : ℕ) → length env ≤ room → downbeatRefusal env (gridOf env period) commonMeter room ≡ 0
   unfolding downbeatRefusal bars.downbeatNumbersFine bars.downbeatRoomFine
   downbeats-passed room h =
-      lowest-0 (leb (length env) mostRows && (every frameFine (gridOf env period) && between 1 bars.mostMeter commonMeter)) true (leb (length (gridOf env period)) room)
+      lowest-0 (leb (length env) mostRows && (every frameFine (gridOf env period) && between 1 bars.mostMeter commonMeter)) true
+      (leb (length (gridOf env period)) room)
       (every valueFine env)
-      (and-both (leb (length env) mostRows) _ (le-leb _ _ few) (and-both (every frameFine (gridOf env period)) (between 1 bars.mostMeter commonMeter) (beats-listable env period few) refl)) refl
+      (and-both (leb (length env) mostRows) _ (le-leb _ _ few)
+      (and-both (every frameFine (gridOf env period)) (between 1 bars.mostMeter commonMeter) (beats-listable env period few) refl)) refl
       (le-leb (length (gridOf env period)) room (omega (arith, beats-fit env period)))
       fine
 

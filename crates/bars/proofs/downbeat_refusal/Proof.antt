@@ -70,23 +70,30 @@ returns-3 c = none _ _ _ _ (c .before .before .before .if1 .left) (holds _ _ (c 
 
 returns-4 : tie.Need-returns-4
 returns-4 c =
-    many _ _ _ _ (c .before .before .before .before .if1 .left) (holds _ _ (c .before .before .before .all-at-most .ensures) (c .before .before .if2 .left)) (c .before .if3 .left) (c .if4 .taken)
+    many _ _ _ _ (c .before .before .before .before .if1 .left)
+    (holds _ _ (c .before .before .before .all-at-most .ensures) (c .before .before .if2 .left)) (c .before .if3 .left) (c .if4 .taken)
 
 returns-5 : tie.Need-returns-5
 returns-5 c =
-    short _ _ _ _ (c .before .before .before .before .before .if1 .left) (holds _ _ (c .before .before .before .before .all-at-most .ensures) (c .before .before .before .if2 .left)) (c .before .before .if3 .left) (c .before .if4 .left) (c .if5 .taken)
+    short _ _ _ _ (c .before .before .before .before .before .if1 .left)
+    (holds _ _ (c .before .before .before .before .all-at-most .ensures) (c .before .before .before .if2 .left)) (c .before .before .if3 .left)
+    (c .before .if4 .left) (c .if5 .taken)
 
 values-fine-requires : tie.Need-values-fine-requires
 values-fine-requires c κs = search needs
 
 returns-6 : tie.Need-returns-6
 returns-6 c =
-    wrong _ _ _ _ (c .before .before .before .before .before .before .before .if1 .left) (holds _ _ (c .before .before .before .before .before .before .all-at-most .ensures) (c .before .before .before .before .before .if2 .left)) (c .before .before .before .before .if3 .left) (c .before .before .before .if4 .left) (c .before .before .if5 .left)
+    wrong _ _ _ _ (c .before .before .before .before .before .before .before .if1 .left)
+    (holds _ _ (c .before .before .before .before .before .before .all-at-most .ensures) (c .before .before .before .before .before .if2 .left))
+    (c .before .before .before .before .if3 .left) (c .before .before .before .if4 .left) (c .before .before .if5 .left)
     (fails _ _ (c .before .values-fine .ensures) (c .if6 .taken))
 
 returns-7 : tie.Need-returns-7
 returns-7 c =
-    fine _ _ _ _ (c .before .before .before .before .before .before .before .if1 .left) (holds _ _ (c .before .before .before .before .before .before .all-at-most .ensures) (c .before .before .before .before .before .if2 .left)) (c .before .before .before .before .if3 .left) (c .before .before .before .if4 .left) (c .before .before .if5 .left)
+    fine _ _ _ _ (c .before .before .before .before .before .before .before .if1 .left)
+    (holds _ _ (c .before .before .before .before .before .before .all-at-most .ensures) (c .before .before .before .before .before .if2 .left))
+    (c .before .before .before .before .if3 .left) (c .before .before .before .if4 .left) (c .before .before .if5 .left)
     (holds _ _ (c .before .values-fine .ensures) (c .if6 .left))
 
 pub downbeat-refusal-spec : {M : Type 1} → statement M

@@ -26,7 +26,8 @@ abbrev Listed : (beats : List ℕ) (meter phase : ℕ) (frames₀ frames : List 
 Listed beats meter phase frames₀ frames count i =
     (count ≡ length (inPhase meter phase 0 (take i beats))) × (frames ≡ listed (inPhase meter phase 0 (take i beats)) frames₀)
 
-module _ (beats : List ℕ) (meter phase : ℕ) (frames₀ frames : List ℕ) (count i : ℕ) (room : length beats ≤ length frames₀) (was : Listed beats meter phase frames₀ frames count i) where
+module _ (beats : List ℕ) (meter phase : ℕ) (frames₀ frames : List ℕ) (count i : ℕ) (room : length beats ≤ length frames₀)
+    (was : Listed beats meter phase frames₀ frames count i) where
   -- no more are listed than were read
   fits : i ≤ length beats → (count ≤ i) × (length frames ≡ length frames₀)
   fits h =
@@ -74,21 +75,24 @@ mul-frames-2 : tie.Need-mul-frames-2 Inv-loop μ-loop
 mul-frames-2 c =
     let l = c .before .before .before in
     let a = l .before .args in
-    let k = fits (now (a .beats)) (a .meter) (a .phase) (now (a .frames)) (l .loop .frames) (l .loop .count) (l .loop .i) (omega arith) (l .loop .inv .1) (omega arith) in
+    let k = fits (now (a .beats)) (a .meter) (a .phase) (now (a .frames)) (l .loop .frames) (l .loop .count) (l .loop .i) (omega arith)
+    (l .loop .inv .1) (omega arith) in
     omega (arith, k .0, k .1)
 
 slice-write-frames : tie.Need-slice-write-frames Inv-loop μ-loop
 slice-write-frames c =
     let l = c .before .before .before in
     let a = l .before .args in
-    let k = fits (now (a .beats)) (a .meter) (a .phase) (now (a .frames)) (l .loop .frames) (l .loop .count) (l .loop .i) (omega arith) (l .loop .inv .1) (omega arith) in
+    let k = fits (now (a .beats)) (a .meter) (a .phase) (now (a .frames)) (l .loop .frames) (l .loop .count) (l .loop .i) (omega arith)
+    (l .loop .inv .1) (omega arith) in
     omega (arith, k .0, k .1)
 
 add-count : tie.Need-add-count Inv-loop μ-loop
 add-count c =
     let l = c .before .before .before in
     let a = l .before .args in
-    let k = fits (now (a .beats)) (a .meter) (a .phase) (now (a .frames)) (l .loop .frames) (l .loop .count) (l .loop .i) (omega arith) (l .loop .inv .1) (omega arith) in
+    let k = fits (now (a .beats)) (a .meter) (a .phase) (now (a .frames)) (l .loop .frames) (l .loop .count) (l .loop .i) (omega arith)
+    (l .loop .inv .1) (omega arith) in
     omega (arith, k .0, k .1)
 
 add-i : tie.Need-add-i Inv-loop μ-loop
@@ -103,7 +107,8 @@ loop-again c =
     let a = l .before .args in
     let h : l .loop .i < length (now (a .beats)) = omega arith in
     let go =
-    more (now (a .beats)) (a .meter) (a .phase) (now (a .frames)) (l .loop .frames) (l .loop .count) (l .loop .i) (omega arith) (l .loop .inv .1) (c .if1 .frames) (c .if1 .count)
+    more (now (a .beats)) (a .meter) (a .phase) (now (a .frames)) (l .loop .frames) (l .loop .count) (l .loop .i) (omega arith) (l .loop .inv .1)
+    (c .if1 .frames) (c .if1 .count)
     in (
       omega arith,
       ⊎-elim (λ w. go true h (eq-eqb _ _ (w .0 .taken)) (w .3) (w .2)) (λ w. go false h (ne-eqb _ _ (w .0 .left)) (w .2) (w .1)) (c .if1 .came),
@@ -113,7 +118,8 @@ same-length : tie.Need-same-length Inv-loop μ-loop
 same-length c =
     let l = c .before in
     let a = l .before .args in
-    fits (now (a .beats)) (a .meter) (a .phase) (now (a .frames)) (l .loop .frames) (l .loop .count) (l .loop .i) (omega arith) (l .loop .inv .1) (omega arith) .1
+    fits (now (a .beats)) (a .meter) (a .phase) (now (a .frames)) (l .loop .frames) (l .loop .count) (l .loop .i) (omega arith) (l .loop .inv .1)
+    (omega arith) .1
 
 returns : tie.Need-returns Inv-loop μ-loop
 returns c =

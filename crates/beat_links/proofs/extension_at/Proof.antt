@@ -58,7 +58,8 @@ returns-2 c =
     let l = e .before in
     let a = l .before .before .before .before .args in
     c .best-computed .ensures
-    ∙ extension-later (a .period) (now (a .score)) (a .t) (l .less .result) (e .less2 .result + 1) (omega arith) (l .less .ensures) (ap (λ (k : ℕ). k + 1) (e .less2 .ensures))
+    ∙ extension-later (a .period) (now (a .score)) (a .t) (l .less .result) (e .less2 .result + 1) (omega arith) (l .less .ensures)
+    (ap (λ (k : ℕ). k + 1) (e .less2 .ensures))
 
 mul-first : tie.Need-mul-first
 mul-first c = search needs

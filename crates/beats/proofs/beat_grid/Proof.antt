@@ -145,7 +145,9 @@ variance-of-requires c κs = search needs
 
 returns-4 : tie.Need-returns-4
 returns-4 c =
-    silent _ _ _ _ _ (ready (c .before .before .before .before)) (by-variance _ _ (c .before .before .before .if2 .left) (c .before .before .if3 .left) (c .before .variance-of .result) (c .before .variance-of .ensures) ∙ c .if4 .taken)
+    silent _ _ _ _ _ (ready (c .before .before .before .before))
+    (by-variance _ _ (c .before .before .before .if2 .left) (c .before .before .if3 .left) (c .before .variance-of .result)
+    (c .before .variance-of .ensures) ∙ c .if4 .taken)
 
 sqrt-requires : tie.Need-sqrt-requires
 sqrt-requires c κs = search needs
@@ -154,7 +156,11 @@ lay-grid-requires : tie.Need-lay-grid-requires
 lay-grid-requires c κs =
     let t = told _ _ _ _ _ (ready (c .before .before .before .before .before .before .before .before)) in
     let a = c .before .before .before .before .before .before .before .before .before .before .before .before .before .before .args in
-    let some : 1 ≤ length (now (a .envelope)) = omega (arith, at-least (length (now (a .envelope))) (c .before .before .before .before .before .before .before .if2 .left)) in
+    let some : 1 ≤ length (now (a .envelope)) = omega (
+      arith,
+      at-least (length (now (a .envelope)))
+          (c .before .before .before .before .before .before .before .if2 .left),
+    ) in
     let some' : 1 ≤ a .period = omega (arith, at-least (a .period) (c .before .before .before .before .before .before .if3 .left)) in
     ((some', t .periods, some, t .rows), (t .scores-room, t .links-room, t .beats-room))
 
@@ -173,7 +179,9 @@ returns-5 c =
     let v = c .before .before .before .before .before .before .before .before .before .before .before .before .variance-of in
     let r = c .before .before .before .before .before .before .before .before .before .before .sqrt in
     laid _ _ _ _ _ (ready (c .before .before .before .before .before .before .before .before .before .before .before .before .before .before .before)) _ _ _ _ _
-    (by-variance _ _ (c .before .before .before .before .before .before .before .before .before .before .before .before .before .before .if2 .left) (c .before .before .before .before .before .before .before .before .before .before .before .before .before .if3 .left) (v .result) (v .ensures) ∙ c .before .before .before .before .before .before .before .before .before .before .before .if4 .left)
+    (by-variance _ _ (c .before .before .before .before .before .before .before .before .before .before .before .before .before .before .if2 .left)
+    (c .before .before .before .before .before .before .before .before .before .before .before .before .before .if3 .left) (v .result)
+    (v .ensures) ∙ c .before .before .before .before .before .before .before .before .before .before .before .if4 .left)
     (ap (λ (x : Float). one ⊘ x) (r .ensures ∙ ap sqrtOf (v .ensures)))
     (c .before .before .before .before .before .before .lay-grid .ensures)
 

@@ -35,19 +35,37 @@ module _ (envelope : List Float) (period score back beats : ℕ) where
       module _ (h3 : length envelope ≤ score) where
         links-short : back < length envelope → 3 ≡ gridRefusal envelope period score back beats
         unfolding gridRefusal gridNumbersFine gridRoomFine
-        links-short h = rw (le-leb (length envelope) mostRows h1, le-leb period mostPeriod h2, le-leb (length envelope) score h3, lt-leb (length envelope) back h)
+        links-short h = rw (
+          le-leb (length envelope) mostRows h1,
+          le-leb period mostPeriod h2,
+          le-leb (length envelope) score h3,
+          lt-leb (length envelope) back h,
+        )
 
         module _ (h4 : length envelope ≤ back) where
           beats-short : beats < length envelope → 3 ≡ gridRefusal envelope period score back beats
           unfolding gridRefusal gridNumbersFine gridRoomFine
           beats-short h =
-              rw (le-leb (length envelope) mostRows h1, le-leb period mostPeriod h2, le-leb (length envelope) score h3, le-leb (length envelope) back h4, lt-leb (length envelope) beats h)
+              rw (
+                le-leb (length envelope) mostRows h1,
+                le-leb period mostPeriod h2,
+                le-leb (length envelope) score h3,
+                le-leb (length envelope) back h4,
+                lt-leb (length envelope) beats h,
+              )
 
           module _ (h5 : length envelope ≤ beats) where
             values : (b : Bool) → every valueFine envelope ≡ b → unless b 4 0 ≡ gridRefusal envelope period score back beats
             unfolding gridRefusal gridNumbersFine gridRoomFine
             values b e =
-                rw (le-leb (length envelope) mostRows h1, le-leb period mostPeriod h2, le-leb (length envelope) score h3, le-leb (length envelope) back h4, le-leb (length envelope) beats h5, e)
+                rw (
+                  le-leb (length envelope) mostRows h1,
+                  le-leb period mostPeriod h2,
+                  le-leb (length envelope) score h3,
+                  le-leb (length envelope) back h4,
+                  le-leb (length envelope) beats h5,
+                  e,
+                )
 
 -- what `!` was found to be
 fails : (r b : Bool) → r ≡ b → not r ≡ true → b ≡ false

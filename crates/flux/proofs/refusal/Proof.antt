@@ -40,7 +40,8 @@ returns-4 : tie.Need-returns-4
 unfolding fluxRefusal
 returns-4 c =
     simp (
-      sym (c .before .before .before .before .before .before .before .slab-fine .ensures) ∙ not-false _ (c .before .before .before .before .before .before .if1 .left),
+      sym (c .before .before .before .before .before .before .before .slab-fine .ensures)
+          ∙ not-false _ (c .before .before .before .before .before .before .if1 .left),
       sym (c .before .before .before .before .before .slab-whole .ensures) ∙ not-false _ (c .before .before .before .before .if2 .left),
       le-leb _ _ (c .before .before .if3 .left),
       sym (c .before .magnitudes-fine .ensures) ∙ c .if4 .taken,
@@ -50,7 +51,8 @@ returns-5 : tie.Need-returns-5
 unfolding fluxRefusal
 returns-5 c =
     simp (
-      sym (c .before .before .before .before .before .before .before .slab-fine .ensures) ∙ not-false _ (c .before .before .before .before .before .before .if1 .left),
+      sym (c .before .before .before .before .before .before .before .slab-fine .ensures)
+          ∙ not-false _ (c .before .before .before .before .before .before .if1 .left),
       sym (c .before .before .before .before .before .slab-whole .ensures) ∙ not-false _ (c .before .before .before .before .if2 .left),
       le-leb _ _ (c .before .before .if3 .left),
       sym (c .before .magnitudes-fine .ensures) ∙ c .if4 .left,

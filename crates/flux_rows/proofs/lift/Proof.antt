@@ -27,13 +27,15 @@ add-wide : tie.Need-add-wide Inv-loop μ-loop
 add-wide c = search needs
 
 wide-requires : tie.Need-wide-requires Inv-loop μ-loop
-wide-requires c κs = let start = c .before .before .before .before .before in (omega (arith, start .pre .0, start .pre .1 .1, c .before .loop .inv .1), start .pre .1 .0 .1)
+wide-requires c κs = let start = c .before .before .before .before
+    .before in (omega (arith, start .pre .0, start .pre .1 .1, c .before .loop .inv .1), start .pre .1 .0 .1)
 
 add-wide-2 : tie.Need-add-wide-2 Inv-loop μ-loop
 add-wide-2 c = search needs
 
 wide-requires-2 : tie.Need-wide-requires-2 Inv-loop μ-loop
-wide-requires-2 c κs = let start = c .before .before .before .before .before .before in (omega (arith, start .pre .1 .1, c .before .before .loop .inv .1), start .pre .1 .0 .0)
+wide-requires-2 c κs = let start = c .before .before .before .before .before
+    .before in (omega (arith, start .pre .1 .1, c .before .before .loop .inv .1), start .pre .1 .0 .0)
 
 positive-part-requires : tie.Need-positive-part-requires Inv-loop μ-loop
 positive-part-requires c κs = search needs

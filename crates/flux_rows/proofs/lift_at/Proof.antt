@@ -35,7 +35,10 @@ same-length : tie.Need-same-length
 same-length c = search needs
 
 returns : tie.Need-returns
-returns c = c .before .before .lift .ensures ∙ rw (c .before .before .before .before .before .row-at .ensures, c .before .before .before .before .row-at2 .ensures) refl
+returns c = c .before .before .lift .ensures ∙ rw (
+  c .before .before .before .before .before .row-at .ensures,
+  c .before .before .before .before .row-at2 .ensures,
+) refl
 
 pub lift-at-spec : {M : Type 1} → statement M
 lift-at-spec =

@@ -14,7 +14,8 @@ use Rattle.flux_rows.proofs.rise.Statement.{statement}
 use Rattle.flux_rows.proofs.rise.Tie as tie
 
 abbrev Inv-loop : tie.InvT-loop
-Inv-loop prev cur from sum total₀ i₀ total i = (i ≤ length prev) × (sumFrom total (rises (drop i prev) (drop i cur)) ≡ sumFrom total₀ (rises (drop from prev) (drop from cur)))
+Inv-loop prev cur from sum total₀ i₀ total i = (i ≤ length prev)
+    × (sumFrom total (rises (drop i prev) (drop i cur)) ≡ sumFrom total₀ (rises (drop from prev) (drop from cur)))
 
 abbrev μ-loop : tie.MeasureT-loop
 μ-loop prev cur from sum total₀ i₀ total i = length prev - i
@@ -43,8 +44,11 @@ loop-again c =
     let w1 = w2 .before in
     let l = w1 .before .before in
     let start = l .before .before .before in
-    let e = c .positive-part .ensures in
-    (omega arith, rise-more _ _ _ _ (now (start .args .prev)) (now (start .args .cur)) (l .loop .i) (omega arith) (omega (arith, start .pre .0)) (w2 .wide2 .ensures) (w1 .wide .ensures) (ap (add binary64 (l .loop .total)) e) (l .loop .inv .1))
+    let e = c .positive-part .ensures in (
+      omega arith,
+      rise-more _ _ _ _ (now (start .args .prev)) (now (start .args .cur)) (l .loop .i) (omega arith) (omega (arith, start .pre .0))
+          (w2 .wide2 .ensures) (w1 .wide .ensures) (ap (add binary64 (l .loop .total)) e) (l .loop .inv .1),
+    )
 
 returns : tie.Need-returns Inv-loop μ-loop
 returns c =

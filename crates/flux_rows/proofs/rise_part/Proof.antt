@@ -18,7 +18,8 @@ long : (f : ℕ → Float) (i n : ℕ) {part : List Float} → part ≡ tab f i 
 long f i n e h = ap length e ∙ length-tab f i n ∙ h
 
 -- a sum over a part of n slots
-over-part : (f : ℕ → Float) (acc next : Float) (i n : ℕ) {part : List Float} → next ≡ sumFrom acc part → part ≡ tab f i n → n ≡ partBins → next ≡ sumFrom acc (tab f i partBins)
+over-part : (f : ℕ → Float) (acc next : Float) (i n : ℕ) {part : List Float} → next ≡ sumFrom acc part → part ≡ tab f i n → n ≡ partBins
+    → next ≡ sumFrom acc (tab f i partBins)
 over-part f acc next i n e k h = e ∙ ap (sumFrom acc) (k ∙ ap (tab f i) h)
 
 lift-at-requires : tie.Need-lift-at-requires
@@ -53,14 +54,18 @@ add-lift-at-3 c = search needs
 
 lift-at-requires-4 : tie.Need-lift-at-requires-4
 lift-at-requires-4 c κs =
-    let start = c .before .before .before .before .before .before .before .before .before .before .before .before .before .before .before .before .before .before in
+    let start = c .before .before .before .before .before .before .before .before .before .before .before .before .before .before .before .before
+    .before .before in
     (start .pre .0, (start .pre .1 .0, (omega arith, omega arith, omega (arith, start .pre .1 .1 .1 .3))))
 
 add-parts-requires : tie.Need-add-parts-requires
 add-parts-requires c κs =
-    let r = c .before .before .before .before .before .before .before .before .before .before .before .before .before .before .before .before .before .before .before .before .before .before .before .before .before .pre .1 .1 .1 in
-    let first = long _ _ _ (c .before .before .before .before .before .before .before .before .before .before .before .before .before .before .before .before .before .before .lift-at .ensures) (r .0) in (
-      long _ _ _ (c .before .before .before .before .before .before .before .before .before .before .before .before .before .before .lift-at2 .ensures) (r .1) ∙ sym first,
+    let r = c .before .before .before .before .before .before .before .before .before .before .before .before .before .before .before .before .before
+    .before .before .before .before .before .before .before .before .pre .1 .1 .1 in
+    let first = long _ _ _ (c .before .before .before .before .before .before .before .before .before .before .before .before .before .before .before
+    .before .before .before .lift-at .ensures) (r .0) in (
+      long _ _ _ (c .before .before .before .before .before .before .before .before .before .before .before .before .before .before .lift-at2
+          .ensures) (r .1) ∙ sym first,
       long _ _ _ (c .before .before .before .before .before .before .before .before .before .before .lift-at3 .ensures) (r .2) ∙ sym first,
       long _ _ _ (c .before .before .before .before .before .before .lift-at4 .ensures) (r .3) ∙ sym first,
     )
@@ -79,10 +84,13 @@ same-length-4 c = search needs
 
 returns : tie.Need-returns
 returns c =
-    let r = c .before .before .before .before .before .before .before .before .before .before .before .before .before .before .before .before .before .before .before .before .before .before .before .before .before .before .pre .1 .1 .1 in
+    let r = c .before .before .before .before .before .before .before .before .before .before .before .before .before .before .before .before .before
+    .before .before .before .before .before .before .before .before .before .pre .1 .1 .1 in
     let z = c .add-parts .ensures in (
-      over-part _ _ _ _ _ (z .0) (c .before .before .before .before .before .before .before .before .before .before .before .before .before .before .before .before .before .before .before .lift-at .ensures) (r .0),
-      over-part _ _ _ _ _ (z .1) (c .before .before .before .before .before .before .before .before .before .before .before .before .before .before .before .lift-at2 .ensures) (r .1),
+      over-part _ _ _ _ _ (z .0) (c .before .before .before .before .before .before .before .before .before .before .before .before .before .before
+          .before .before .before .before .before .lift-at .ensures) (r .0),
+      over-part _ _ _ _ _ (z .1) (c .before .before .before .before .before .before .before .before .before .before .before .before .before .before
+          .before .lift-at2 .ensures) (r .1),
       over-part _ _ _ _ _ (z .2) (c .before .before .before .before .before .before .before .before .before .before .before .lift-at3 .ensures) (r .2),
       over-part _ _ _ _ _ (z .3) (c .before .before .before .before .before .before .before .lift-at4 .ensures) (r .3),
     )

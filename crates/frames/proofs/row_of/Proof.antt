@@ -28,7 +28,11 @@ returns : tie.Need-returns
 returns c =
     let a = c .before .before .args in
     let w = no-bins (length (a .slab .now)) (a .bins) (a .t) (c .before .if1 .taken) in
-    record { place = same-place (a .slab .ptr .0) (a .slab .ptr .1) _ _ (past-start (a .slab .now) (a .bins) (a .t) w); holds = past-holds (a .slab .now) (a .bins) (a .t) w }
+    record {
+      place = same-place (a .slab .ptr .0) (a .slab .ptr .1) _ _ (past-start (a .slab .now) (a .bins) (a .t) w);
+      holds = past-holds
+          (a .slab .now) (a .bins) (a .t) w;
+    }
 
 div-if2 : tie.Need-div-if2
 div-if2 c = search needs
@@ -55,7 +59,11 @@ returns-2 : tie.Need-returns-2
 returns-2 c =
     let a = c .before .before .before .args in
     let w = is-whole (length (a .slab .now)) (a .bins) (a .t) (omega arith) (c .before .if2 .taken) in
-    record { place = same-place (a .slab .ptr .0) (a .slab .ptr .1) _ _ (whole-start (a .slab .now) (a .bins) (a .t) w); holds = whole-holds (a .slab .now) (a .bins) (a .t) w }
+    record {
+      place = same-place (a .slab .ptr .0) (a .slab .ptr .1) _ _ (whole-start (a .slab .now) (a .bins) (a .t) w);
+      holds = whole-holds
+          (a .slab .now) (a .bins) (a .t) w;
+    }
 
 mul-result-3 : tie.Need-mul-result-3
 mul-result-3 c = search needs
@@ -73,7 +81,11 @@ returns-3 : tie.Need-returns-3
 returns-3 c =
     let a = c .before .before .before .args in
     let w = past-rows (length (a .slab .now)) (a .bins) (a .t) (c .before .if2 .left) in
-    record { place = same-place (a .slab .ptr .0) (a .slab .ptr .1) _ _ (past-start (a .slab .now) (a .bins) (a .t) w); holds = past-holds (a .slab .now) (a .bins) (a .t) w }
+    record {
+      place = same-place (a .slab .ptr .0) (a .slab .ptr .1) _ _ (past-start (a .slab .now) (a .bins) (a .t) w);
+      holds = past-holds
+          (a .slab .now) (a .bins) (a .t) w;
+    }
 
 pub row-of-spec : {M : Type 1} → statement M
 row-of-spec =

@@ -63,7 +63,8 @@ loop-again c =
     let from = f .before .before .least .result in
     let rule = clarityFrom (now (a .envelope)) (a .mean) (a .ac0) (a .min-lag) in
     let was : List Float = now (a .clarity) in
-    let same = f .fill-thirty-two .ensures ∙ ap (λ (x : List Float). filled rule x from (from + 32)) (v .2) ∙ filled-over rule was 0 from i (from + 32) zero-le (omega arith) (omega arith) nan (omega arith) in
+    let same = f .fill-thirty-two .ensures ∙ ap (λ (x : List Float). filled rule x from (from + 32)) (v .2)
+    ∙ filled-over rule was 0 from i (from + 32) zero-le (omega arith) (omega arith) nan (omega arith) in
     (omega arith, ap length same ∙ length-filled rule was 0 (from + 32) zero-le (omega arith), same)
 
 same-length-2 : tie.Need-same-length-2 Inv-loop μ-loop

@@ -45,8 +45,12 @@ eight-sums-requires c κs = ((omega arith, omega arith, omega arith), c .before 
 
 loop-holds : tie.Need-loop-holds Inv-loop μ-loop
 loop-holds c =
-    let a = c .before .before .before .args in
-    (search needs, refl, sym (rw (add-zero (a .from)) (filled-none (clarityFrom (now (a .envelope)) (a .mean) (a .ac0) (a .min-lag)) (now (a .clarity)) (a .from))))
+    let a = c .before .before .before .args in (
+      search needs,
+      refl,
+      sym (rw (add-zero (a .from)) (filled-none (clarityFrom (now (a .envelope)) (a .mean) (a .ac0) (a .min-lag))
+          (now (a .clarity)) (a .from))),
+    )
 
 add-lag-rest : tie.Need-add-lag-rest Inv-loop μ-loop
 add-lag-rest c = search needs
@@ -97,7 +101,8 @@ loop-again c =
     let at = a .from + l .loop .j in
     let rule = clarityFrom (now (a .envelope)) (a .mean) (a .ac0) (a .min-lag) in
     let slot : a .min-lag + a .from + l .loop .j ≡ a .min-lag + at = omega arith in
-    let e : c .clarity-of .result ≡ rule at = c .clarity-of .ensures ∙ rw (c .before .lag-rest .ensures) (ap (clarityAt (now (a .envelope)) (a .mean) (a .ac0)) slot) in (
+    let e : c .clarity-of .result ≡ rule at = c .clarity-of .ensures
+    ∙ rw (c .before .lag-rest .ensures) (ap (clarityAt (now (a .envelope)) (a .mean) (a .ac0)) slot) in (
       omega arith,
       simp length-set (v .1),
       rw (e, v .2) (filled-to rule (now (a .clarity)) (a .from) at (a .from + (l .loop .j + 1)) (omega arith) nan (omega arith) (omega arith)),

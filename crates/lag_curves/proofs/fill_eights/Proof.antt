@@ -68,7 +68,8 @@ returns c =
     let l = f .before .before .before in
     let a = l .before .before .before .before .args in
     let v = l .loop .inv in
-    joined (clarityFrom (now (a .envelope)) (a .mean) (a .ac0) (a .min-lag)) (now (a .clarity)) _ _ (a .from) (l .loop .i) (a .past) (a .past) (v .0) (v .1) refl (omega arith) (v .3) (f .fill-singly .ensures)
+    joined (clarityFrom (now (a .envelope)) (a .mean) (a .ac0) (a .min-lag)) (now (a .clarity)) _ _ (a .from) (l .loop .i) (a .past) (a .past) (v .0)
+    (v .1) refl (omega arith) (v .3) (f .fill-singly .ensures)
 
 pub fill-eights-spec : {M : Type 1} → statement M
 fill-eights-spec =

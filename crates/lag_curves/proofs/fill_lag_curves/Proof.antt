@@ -24,8 +24,11 @@ returns : tie.Need-returns
 returns c =
     let w = c .before .before in
     let f = w .before .before .before .before .before in
-    let a = f .before .before .before .before .before .args in
-    (f .fill-clarity .ensures, w .fill-weight .ensures ∙ weighted-is (now (a .envelope)) (a .mean) (a .ac0) (a .rate) (a .min-lag) (lagRoom (a .min-lag) (a .max-lag)) _ (now (a .clarity)) (now (a .weight)) (omega arith) (f .fill-clarity .ensures))
+    let a = f .before .before .before .before .before .args in (
+      f .fill-clarity .ensures,
+      w .fill-weight .ensures ∙ weighted-is (now (a .envelope)) (a .mean) (a .ac0) (a .rate) (a .min-lag)
+          (lagRoom (a .min-lag) (a .max-lag)) _ (now (a .clarity)) (now (a .weight)) (omega arith) (f .fill-clarity .ensures),
+    )
 
 pub fill-lag-curves-spec : {M : Type 1} → statement M
 fill-lag-curves-spec =

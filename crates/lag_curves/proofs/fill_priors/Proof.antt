@@ -55,7 +55,8 @@ loop-again c =
     let v = l .loop .inv in (
       omega arith,
       simp length-set (v .1),
-      rw (c .prior-at .ensures, v .2) (filled-to (priorFrom (a .rate) (a .min-lag)) (now (a .priors)) 0 (l .loop .i) (l .loop .i + 1) (omega arith) nan (omega arith) refl),
+      rw (c .prior-at .ensures, v .2) (filled-to (priorFrom (a .rate) (a .min-lag)) (now (a .priors)) 0 (l .loop .i) (l .loop .i + 1)
+          (omega arith) nan (omega arith) refl),
     )
 
 same-length : tie.Need-same-length Inv-loop μ-loop

@@ -25,7 +25,8 @@ returns c =
     let two = c .before .before in
     let one = two .before .before .before .before in
     let a = one .before .before .before .before .args in
-    joined (clarityFrom (now (a .envelope)) (a .mean) (a .ac0) (a .min-lag)) (now (a .clarity)) _ _ (a .from) (a .from + 8) (a .from + 16) (a .from + 8 + 8) (omega arith) (omega arith) (omega arith) (omega arith)
+    joined (clarityFrom (now (a .envelope)) (a .mean) (a .ac0) (a .min-lag)) (now (a .clarity)) _ _ (a .from) (a .from + 8) (a .from + 16)
+    (a .from + 8 + 8) (omega arith) (omega arith) (omega arith) (omega arith)
     (one .fill-eight .ensures) (two .fill-eight2 .ensures)
 
 pub fill-sixteen-spec : {M : Type 1} → statement M

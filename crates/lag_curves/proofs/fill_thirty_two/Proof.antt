@@ -47,8 +47,11 @@ fill-sixteen-requires : tie.Need-fill-sixteen-requires
 fill-sixteen-requires c κs =
     let b = c .before .before .before .before .before in
     let a = b .before .before .before .args in
-    let t = (length (now (a .envelope)) - (a .min-lag + a .from) - 32) / 128 * 128 in
-    ((omega arith, omega arith, omega arith), eights-low (now (a .envelope)) (a .mean) (a .min-lag) (a .from) t (b .block-sums .result) (b .block-sums .ensures))
+    let t = (length (now (a .envelope)) - (a .min-lag + a .from) - 32) / 128 * 128 in (
+      (omega arith, omega arith, omega arith),
+      eights-low (now (a .envelope)) (a .mean) (a .min-lag) (a .from) t (b .block-sums .result)
+          (b .block-sums .ensures),
+    )
 
 add-fill-sixteen : tie.Need-add-fill-sixteen
 add-fill-sixteen c = search needs
@@ -57,8 +60,11 @@ fill-sixteen-requires-2 : tie.Need-fill-sixteen-requires-2
 fill-sixteen-requires-2 c κs =
     let b = c .before .before .before .before .before .before .before .before .before in
     let a = b .before .before .before .args in
-    let t = (length (now (a .envelope)) - (a .min-lag + a .from) - 32) / 128 * 128 in
-    ((omega arith, omega arith, omega arith), eights-high (now (a .envelope)) (a .mean) (a .min-lag) (a .from) t (b .block-sums .result) (b .block-sums .ensures))
+    let t = (length (now (a .envelope)) - (a .min-lag + a .from) - 32) / 128 * 128 in (
+      (omega arith, omega arith, omega arith),
+      eights-high (now (a .envelope)) (a .mean) (a .min-lag) (a .from) t (b .block-sums .result)
+          (b .block-sums .ensures),
+    )
 
 same-length : tie.Need-same-length
 same-length c = search needs
@@ -70,7 +76,8 @@ returns c =
     let s = one .before .before .before .before .before .before .before .before .before in
     let a = s .args in
     let room : a .from + 16 + 16 ≤ length (now (a .clarity)) = omega (arith, s .pre .1) in
-    joined (clarityFrom (now (a .envelope)) (a .mean) (a .ac0) (a .min-lag)) (now (a .clarity)) _ _ (a .from) (a .from + 16) (a .from + 32) (a .from + 16 + 16) (omega arith) (omega arith) (omega arith) room
+    joined (clarityFrom (now (a .envelope)) (a .mean) (a .ac0) (a .min-lag)) (now (a .clarity)) _ _ (a .from) (a .from + 16) (a .from + 32)
+    (a .from + 16 + 16) (omega arith) (omega arith) (omega arith) room
     (one .fill-sixteen .ensures) (two .fill-sixteen2 .ensures)
 
 pub fill-thirty-two-spec : {M : Type 1} → statement M

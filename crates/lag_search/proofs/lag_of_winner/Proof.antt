@@ -17,12 +17,14 @@ mul-if1 c =
 
 shared-slice-read-if1 : tie.Need-shared-slice-read-if1
 shared-slice-read-if1 c =
-    let h : c .before .winner-of .result < length (c .before .before .before .args .weight .now) = winner-slot _ _ (c .before .winner-of .ensures) (c .before .before .before .pre .0) in
+    let h : c .before .winner-of .result < length (c .before .before .before .args .weight .now) =
+    winner-slot _ _ (c .before .winner-of .ensures) (c .before .before .before .pre .0) in
     h
 
 add-result : tie.Need-add-result
 add-result c =
-    let h : c .before .before .winner-of .result < length (c .before .before .before .before .args .weight .now) = winner-slot _ _ (c .before .before .winner-of .ensures) (c .before .before .before .before .pre .0) in
+    let h : c .before .before .winner-of .result < length (c .before .before .before .before .args .weight .now) =
+    winner-slot _ _ (c .before .before .winner-of .ensures) (c .before .before .before .before .pre .0) in
     search needs
 
 returns : tie.Need-returns

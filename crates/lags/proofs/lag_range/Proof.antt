@@ -20,7 +20,8 @@ module _ (rate : ℕ) (o : TempoOpts) where
   unfolding minLag
   min-is bpm lag r e h k = k ∙ ap (max 1) (h ∙ ap (λ (x : Float). roundOf (minuteOver rate x)) e)
 
-  max-is : (bpm : Float) (least lag r : ℕ) → bpm ≡ lowBpm o → lag ≡ roundOf (minuteOver rate bpm) → least ≡ minLag rate o → r ≡ max (least + 1) lag → r ≡ maxLag rate o
+  max-is : (bpm : Float) (least lag r : ℕ) → bpm ≡ lowBpm o → lag ≡ roundOf (minuteOver rate bpm) → least ≡ minLag rate o → r ≡ max (least + 1) lag
+      → r ≡ maxLag rate o
   unfolding maxLag
   max-is bpm least lag r e h m k = k ∙ ap (λ (x : ℕ). max (x + 1) lag) m ∙ ap (max (minLag rate o + 1)) (h ∙ ap (λ (x : Float). roundOf (minuteOver rate x)) e)
 
@@ -45,7 +46,9 @@ add-greatest c =
     let h = c .before .before in
     let b = h .before .before in
     let a = b .before .args in
-    let e : c .greatest .result ≡ minLag (a .rate) (a .opts) = min-is (a .rate) (a .opts) (h .high-bpm .result) (c .before .lag-of .result) (c .greatest .result) (h .high-bpm .ensures) (c .before .lag-of .ensures) (c .greatest .ensures) in
+    let e : c .greatest .result ≡ minLag (a .rate) (a .opts) =
+    min-is (a .rate) (a .opts) (h .high-bpm .result) (c .before .lag-of .result) (c .greatest .result) (h .high-bpm .ensures)
+    (c .before .lag-of .ensures) (c .greatest .ensures) in
     let f : boundsFine (a .rate) (a .opts) ≡ true = sym (b .bounds-fine .ensures) ∙ not-false _ (h .before .if1 .left) in
     omega (arith, e, min-lag-most (a .rate) (a .opts) (fine-rate (a .rate) (a .opts) f))
 
@@ -66,8 +69,12 @@ returns-2 c =
     let h = g .before .before in
     let b = h .before .before in
     let a = b .before .args in
-    let m : g .greatest .result ≡ minLag (a .rate) (a .opts) = min-is (a .rate) (a .opts) (h .high-bpm .result) (g .before .lag-of .result) (g .greatest .result) (h .high-bpm .ensures) (g .before .lag-of .ensures) (g .greatest .ensures) in
-    let n : c .greatest2 .result ≡ maxLag (a .rate) (a .opts) = max-is (a .rate) (a .opts) (low .low-bpm .result) (g .greatest .result) (c .before .lag-of2 .result) (c .greatest2 .result) (low .low-bpm .ensures) (c .before .lag-of2 .ensures) m (c .greatest2 .ensures) in
+    let m : g .greatest .result ≡ minLag (a .rate) (a .opts) =
+    min-is (a .rate) (a .opts) (h .high-bpm .result) (g .before .lag-of .result) (g .greatest .result) (h .high-bpm .ensures)
+    (g .before .lag-of .ensures) (g .greatest .ensures) in
+    let n : c .greatest2 .result ≡ maxLag (a .rate) (a .opts) =
+    max-is (a .rate) (a .opts) (low .low-bpm .result) (g .greatest .result) (c .before .lag-of2 .result) (c .greatest2 .result)
+    (low .low-bpm .ensures) (c .before .lag-of2 .ensures) m (c .greatest2 .ensures) in
     let f : boundsFine (a .rate) (a .opts) ≡ true = sym (b .bounds-fine .ensures) ∙ not-false _ (h .before .if1 .left) in
     rw (m, n, f)
 

@@ -31,7 +31,8 @@ shared-slice-read-if1 c = search needs
 returns : tie.Need-returns Inv-loop μ-loop
 returns c =
     let l = c .before .before .before in
-    sym (l .loop .inv .1 ∙ every-step (atMost (l .before .args .most)) (now (l .before .args .list)) (l .loop .i) 0 (omega arith) ∙ simp (lt-leb _ _ (c .if1 .taken)))
+    sym (l .loop .inv .1 ∙ every-step (atMost (l .before .args .most)) (now (l .before .args .list)) (l .loop .i) 0 (omega arith)
+    ∙ simp (lt-leb _ _ (c .if1 .taken)))
 
 add-i : tie.Need-add-i Inv-loop μ-loop
 add-i c = search needs
@@ -43,7 +44,8 @@ loop-again : tie.Need-loop-again Inv-loop μ-loop
 loop-again c =
     let l = c .before .before .before in (
       omega arith,
-      l .loop .inv .1 ∙ every-step (atMost (l .before .args .most)) (now (l .before .args .list)) (l .loop .i) 0 (omega arith) ∙ simp (le-leb _ _ (c .if1 .left)),
+      l .loop .inv .1 ∙ every-step (atMost (l .before .args .most)) (now (l .before .args .list)) (l .loop .i) 0 (omega arith)
+          ∙ simp (le-leb _ _ (c .if1 .left)),
     )
 
 returns-2 : tie.Need-returns-2 Inv-loop μ-loop

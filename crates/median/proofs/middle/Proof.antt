@@ -25,7 +25,8 @@ returns : tie.Need-returns
 returns c =
     let r = c .before .before .before .arrange .ensures in
     let start = c .before .before .before .before .before .before in
-    split-is-median (start .args .a .now) _ (λ k. c .before .before .before .before .before .slice-known .given k) (λ k. c .slice-known3 .given k) (r .same) (start .pre)
+    split-is-median (start .args .a .now) _ (λ k. c .before .before .before .before .before .slice-known .given k) (λ k. c .slice-known3 .given k)
+    (r .same) (start .pre)
     (done-split (length (start .args .a .now) / 2) (omega (arith, r .same .len, start .pre)) (r .done))
 
 pub middle-spec : {M : Type 1} → statement M

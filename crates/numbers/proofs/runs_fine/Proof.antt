@@ -16,7 +16,8 @@ use Rattle.numbers.proofs.Everys.{every-4, every-step-4, every-end-4}
 use Rattle.numbers.proofs.runs_fine.Statement.{statement}
 use Rattle.numbers.proofs.runs_fine.Tie as tie
 
-all : (a b c d : List Float) → every-4 magnitudeFine a b c d 0 true ≡ (every magnitudeFine a && (every magnitudeFine b && (every magnitudeFine c && every magnitudeFine d)))
+all : (a b c d : List Float) → every-4 magnitudeFine a b c d 0
+    true ≡ (every magnitudeFine a && (every magnitudeFine b && (every magnitudeFine c && every magnitudeFine d)))
 all a b c d = rw (sym (and-true (every magnitudeFine d)))
 
 abbrev Inv-loop : tie.InvT-loop

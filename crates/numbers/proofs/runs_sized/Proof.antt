@@ -16,7 +16,8 @@ use Rattle.numbers.proofs.Everys.{every-4, every-step-4, every-end-4}
 use Rattle.numbers.proofs.runs_sized.Statement.{statement}
 use Rattle.numbers.proofs.runs_sized.Tie as tie
 
-all : (top : Float) (a b c d : List Float) → every-4 (sized top) a b c d 0 true ≡ (every (sized top) a && (every (sized top) b && (every (sized top) c && every (sized top) d)))
+all : (top : Float) (a b c d : List Float) → every-4 (sized top) a b c d 0
+    true ≡ (every (sized top) a && (every (sized top) b && (every (sized top) c && every (sized top) d)))
 all top a b c d = rw (sym (and-true (every (sized top) d)))
 
 abbrev Inv-loop : tie.InvT-loop

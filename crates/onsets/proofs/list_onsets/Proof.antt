@@ -35,7 +35,8 @@ returns : tie.Need-returns
 returns c =
     let p = c .before .before in
     let f = p .before .before .before .before .before .before .before .before .before in
-    listed-by _ _ _ _ _ _ _ _ _ _ (f .fill-threshold .ensures .0) (f .fill-threshold .kept .1 .1 .1 .1 .0) (f .fill-threshold .ensures .1) (p .before .before .gap-of .ensures) (p .pick-peaks .ensures)
+    listed-by _ _ _ _ _ _ _ _ _ _ (f .fill-threshold .ensures .0) (f .fill-threshold .kept .1 .1 .1 .1 .0) (f .fill-threshold .ensures .1)
+    (p .before .before .gap-of .ensures) (p .pick-peaks .ensures)
 
 pub list-onsets-spec : {M : Type 1} → statement M
 list-onsets-spec =

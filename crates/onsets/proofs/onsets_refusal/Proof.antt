@@ -58,7 +58,8 @@ unfolding onsetsRefusal
 returns-6 c =
     simp (
       le-leb _ _ (c .before .before .before .before .before .before .before .before .if1 .left),
-      sym (c .before .before .before .before .before .before .before .rate-fine .ensures) ∙ not-false _ (c .before .before .before .before .before .before .if2 .left),
+      sym (c .before .before .before .before .before .before .before .rate-fine .ensures)
+          ∙ not-false _ (c .before .before .before .before .before .before .if2 .left),
       eq-eqb _ _ (c .before .before .before .before .before .if3 .left),
       le-leb _ _ (c .before .before .before .before .if4 .left),
       sym (c .before .before .before .values-fine .ensures) ∙ not-false _ (c .before .before .if5 .left),
@@ -70,7 +71,8 @@ unfolding onsetsRefusal
 returns-7 c =
     simp (
       le-leb _ _ (c .before .before .before .before .before .before .before .before .if1 .left),
-      sym (c .before .before .before .before .before .before .before .rate-fine .ensures) ∙ not-false _ (c .before .before .before .before .before .before .if2 .left),
+      sym (c .before .before .before .before .before .before .before .rate-fine .ensures)
+          ∙ not-false _ (c .before .before .before .before .before .before .if2 .left),
       eq-eqb _ _ (c .before .before .before .before .before .if3 .left),
       le-leb _ _ (c .before .before .before .before .if4 .left),
       sym (c .before .before .before .values-fine .ensures) ∙ not-false _ (c .before .before .if5 .left),

@@ -21,7 +21,8 @@ same-length c = search needs
 
 returns : tie.Need-returns
 returns c =
-    mended-joined _ _ _ _ _ _ _ _ (omega arith) (omega arith) (c .before .before .before .before .before .before .before .before .first-pair .ensures) (c .before .before .before .before .before .before .mend-before .ensures) (c .before .before .fill-similarity-rows .ensures)
+    mended-joined _ _ _ _ _ _ _ _ (omega arith) (omega arith) (c .before .before .before .before .before .before .before .before .first-pair .ensures)
+    (c .before .before .before .before .before .before .mend-before .ensures) (c .before .before .fill-similarity-rows .ensures)
 
 pub mend-similarity-spec : {M : Type 1} → statement M
 mend-similarity-spec =

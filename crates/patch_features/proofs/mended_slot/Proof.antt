@@ -13,7 +13,8 @@ similarity-slot-requires : tie.Need-similarity-slot-requires
 similarity-slot-requires c κs = search needs
 
 returns : tie.Need-returns
-returns c = c .similarity-slot .ensures ∙ sym (slot-is _ _ _) ∙ sym (pick-true _ _ _ (touched-is _ _ _ _ (c .before .before .is-touched .ensures) ∙ c .before .if1 .taken))
+returns c = c .similarity-slot .ensures ∙ sym (slot-is _ _ _)
+    ∙ sym (pick-true _ _ _ (touched-is _ _ _ _ (c .before .before .is-touched .ensures) ∙ c .before .if1 .taken))
 
 returns-2 : tie.Need-returns-2
 returns-2 c = sym (pick-false _ _ _ (touched-is _ _ _ _ (c .before .is-touched .ensures) ∙ c .if1 .left))

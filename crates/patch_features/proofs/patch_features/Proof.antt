@@ -23,11 +23,13 @@ abbrev S : tie.Else2 → tie.Start
 S c = c .before .before .before .before .before .before .before .before .before .before
 
 none : (c : tie.Else2)
-    → featurePatchNumber (S c .args .rows) (featureTrack (now (S c .args .features)) (now (S c .args .similarity)) (now (S c .args .novelty))) (patchOf (S c .args .start) (now (S c .args .new))) ≡ 0
+    → featurePatchNumber (S c .args .rows) (featureTrack (now (S c .args .features)) (now (S c .args .similarity)) (now (S c .args .novelty)))
+    (patchOf (S c .args .start) (now (S c .args .new))) ≡ 0
 none c = sym (c .before .before .refusal .ensures) ∙ c .before .if1 .left
 
 ready : (c : tie.Else2)
-    → Asked (S c .args .rows) (featureTrack (now (S c .args .features)) (now (S c .args .similarity)) (now (S c .args .novelty))) (patchOf (S c .args .start) (now (S c .args .new)))
+    → Asked (S c .args .rows) (featureTrack (now (S c .args .features)) (now (S c .args .similarity)) (now (S c .args .novelty)))
+    (patchOf (S c .args .start) (now (S c .args .new)))
 ready c = asked _ _ _ (none c)
 
 fits : (c : tie.Else2) → S c .args .start * featureWidth + length (now (S c .args .new)) ≤ length (now (S c .args .features))
@@ -88,7 +90,8 @@ mend-similarity-requires : tie.Need-mend-similarity-requires
 mend-similarity-requires c κs =
     let e = c .before .before .before .before .before .before .before in
     let r = ready e in
-    rw (c .before .before .before .before .before .copy-values .ensures) (length-over _ _ _ (fits e) ∙ r .lengths .whole, omega arith, omega arith, omega arith, omega arith)
+    rw (c .before .before .before .before .before .copy-values .ensures)
+    (length-over _ _ _ (fits e) ∙ r .lengths .whole, omega arith, omega arith, omega arith, omega arith)
 
 less-requires : tie.Need-less-requires
 less-requires c κs = search needs
@@ -122,7 +125,8 @@ part-fill-novelty-end c =
 fill-novelty-requires : tie.Need-fill-novelty-requires
 fill-novelty-requires c κs =
     let r = ready (c .before .before .before .before .before .before .before .before .before .before .before .before .before .before .before) in
-    let pairs = c .before .before .before .before .before .before .before .before .before .before .before .before .before .before .before .before .before .before .before .before .before .before .before .before .before .args .rows * 17 in
+    let pairs = c .before .before .before .before .before .before .before .before .before .before .before .before .before .before .before .before
+    .before .before .before .before .before .before .before .before .before .args .rows * 17 in
     let similarity = c .before .before .before .before .before .before .before .mend-similarity .last .1 .1 .1 .1 .0 in
     let l : length (take (pairs - 0) similarity) ≡ pairs = length-take-le (pairs - 0) similarity (omega arith) ∙ sub-zero pairs in
     (l, omega arith, omega arith, omega arith)
@@ -141,8 +145,12 @@ unfolding edited
 returns-3 c =
     let e = c .before .before .before .before .before .before .before .before .before .before .before .before .before .before .before .before .before .before in
     let pairs = S e .args .rows * 17 in
-    wrote _ _ _ (none e) (e .if2 .left) _ _ _ (c .before .before .before .before .before .before .before .before .before .before .before .before .before .first-pair .ensures) (c .before .before .before .before .before .before .before .less .ensures) (c .before .before .before .before .before .before .least .ensures) _ _ _
-    (c .before .before .before .before .before .before .before .before .before .before .before .before .before .before .before .before .copy-values .ensures) (c .before .before .before .before .before .before .before .before .before .before .mend-similarity .ensures) (rw (sub-zero pairs) at (c .before .before .fill-novelty .ensures))
+    wrote _ _ _ (none e) (e .if2 .left) _ _ _ (c .before .before .before .before .before .before .before .before .before .before .before .before
+    .before .first-pair .ensures) (c .before .before .before .before .before .before .before .less .ensures)
+    (c .before .before .before .before .before .before .least .ensures) _ _ _
+    (c .before .before .before .before .before .before .before .before .before .before .before .before .before .before .before .before .copy-values
+    .ensures) (c .before .before .before .before .before .before .before .before .before .before .mend-similarity .ensures)
+    (rw (sub-zero pairs) at (c .before .before .fill-novelty .ensures))
 
 pub patch-features-spec : {M : Type 1} → statement M
 patch-features-spec =

@@ -22,7 +22,11 @@ values-fine-requires-2 c κs = search needs
 
 returns-2 : tie.Need-returns-2
 unfolding featurePatchValues
-returns-2 c = rw (sym (c .before .before .before .values-fine .ensures) ∙ not-false _ (c .before .before .if1 .left), sym (c .before .values-fine2 .ensures) ∙ not-true _ (c .if2 .taken))
+returns-2 c = rw (
+  sym (c .before .before .before .values-fine .ensures)
+      ∙ not-false _ (c .before .before .if1 .left),
+  sym (c .before .values-fine2 .ensures) ∙ not-true _ (c .if2 .taken),
+)
 
 mul-pairs : tie.Need-mul-pairs
 mul-pairs c = search needs
@@ -43,7 +47,14 @@ returns-3 : tie.Need-returns-3
 unfolding featurePatchValues
 returns-3 c =
     let g = c .before .before .before .before .before .before .before .before .before .before .before .args in
-    rw (sym (c .before .before .before .before .before .before .values-fine .ensures) ∙ not-false _ (c .before .before .before .before .before .if1 .left), sym (c .before .before .before .before .values-fine2 .ensures) ∙ not-false _ (c .before .before .before .if2 .left), first-slots similarityFine (now (g .similarity)) (g .rows * 17) _ (c .before .similarities-fine .ensures) ∙ not-true _ (c .if3 .taken))
+    rw (
+      sym (c .before .before .before .before .before .before .values-fine .ensures)
+          ∙ not-false _ (c .before .before .before .before .before .if1 .left),
+      sym (c .before .before .before .before .values-fine2 .ensures)
+          ∙ not-false _ (c .before .before .before .if2 .left),
+      first-slots similarityFine (now (g .similarity)) (g .rows * 17) _
+          (c .before .similarities-fine .ensures) ∙ not-true _ (c .if3 .taken),
+    )
 
 sub-values-fine : tie.Need-sub-values-fine
 sub-values-fine c = search needs
@@ -61,7 +72,14 @@ returns-4 : tie.Need-returns-4
 unfolding featurePatchValues
 returns-4 c =
     let g = c .before .before .before .before .before .before .before .before .before .before .before .before .before .args in
-    rw (sym (c .before .before .before .before .before .before .before .before .values-fine .ensures) ∙ not-false _ (c .before .before .before .before .before .before .before .if1 .left), sym (c .before .before .before .before .before .before .values-fine2 .ensures) ∙ not-false _ (c .before .before .before .before .before .if2 .left), first-slots similarityFine (now (g .similarity)) (g .rows * 17) _ (c .before .before .before .similarities-fine .ensures) ∙ not-false _ (c .before .before .if3 .left))
+    rw (
+      sym (c .before .before .before .before .before .before .before .before .values-fine .ensures)
+          ∙ not-false _ (c .before .before .before .before .before .before .before .if1 .left),
+      sym (c .before .before .before .before .before .before .values-fine2 .ensures)
+          ∙ not-false _ (c .before .before .before .before .before .if2 .left),
+      first-slots similarityFine (now (g .similarity)) (g .rows * 17) _
+          (c .before .before .before .similarities-fine .ensures) ∙ not-false _ (c .before .before .if3 .left),
+    )
     (sym (first-slots valueFine (now (g .novelty)) (g .rows) _ (c .values-fine3 .ensures)))
 
 pub values-fine-spec : {M : Type 1} → statement M

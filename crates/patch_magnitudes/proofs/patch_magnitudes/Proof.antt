@@ -1,4 +1,5 @@
--- `patch_magnitudes::patch_magnitudes` meets its contract: a number other than 0 returns at once, number 0 says all that the inner calls ask (`asked`), and what they write is the promise (`wrote`). Assumes nothing.
+-- `patch_magnitudes::patch_magnitudes` meets its contract: a number other than 0 returns at once, number 0 says all that the inner calls ask
+-- (`asked`), and what they write is the promise (`wrote`). Assumes nothing.
 use mathlib.Core.Path.{_≡_, sym, _∙_}
 use native.Mathlib.Omega.{arith}
 use borrow.Author.Needs.{needs}
@@ -17,7 +18,8 @@ abbrev S : tie.Else2 → tie.Start
 S c = c .before .before .before .before .before .before .before .before .before .before .before
 
 none : (c : tie.Else2)
-    → patchNumber (slabOf (S c .args .rows) (S c .args .bins)) (magnitudeTrack (now (S c .args .magnitudes)) (now (S c .args .flux)) (now (S c .args .threshold)))
+    → patchNumber (slabOf (S c .args .rows) (S c .args .bins))
+    (magnitudeTrack (now (S c .args .magnitudes)) (now (S c .args .flux)) (now (S c .args .threshold)))
     (patchOf (S c .args .start) (now (S c .args .new))) (length (now (S c .args .work)))
     ≡ 0
 none c = sym (c .before .before .refusal .ensures) ∙ c .before .if1 .left

@@ -20,7 +20,8 @@ enum-known-feed-3 : tie.Need-enum-known-feed-3
 enum-known-feed-3 c = search needs
 
 take-data-requires : tie.Need-take-data-requires
-take-data-requires c κs = ready-at (c .before .before .before .before .feed3 .given .1) (c .before .before .before .before .before .before .before .before .before .pre)
+take-data-requires c κs = ready-at (c .before .before .before .before .feed3 .given .1)
+    (c .before .before .before .before .before .before .before .before .before .pre)
 
 enum-known-feed-4 : tie.Need-enum-known-feed-4
 enum-known-feed-4 c = search needs
@@ -31,7 +32,8 @@ same-length c = search needs
 returns : tie.Need-returns
 returns c =
     let told = c .before .before .before .before .before .feed .given .1 in
-    step-at told (step-first (ready-at told (c .before .before .before .before .before .before .before .before .before .before .pre)) (c .before .before .take-first .ensures))
+    step-at told (step-first (ready-at told (c .before .before .before .before .before .before .before .before .before .before .pre))
+    (c .before .before .take-first .ensures))
 
 same-length-2 : tie.Need-same-length-2
 same-length-2 c = search needs
@@ -39,7 +41,8 @@ same-length-2 c = search needs
 returns-2 : tie.Need-returns-2
 returns-2 c =
     let told = c .before .before .before .before .before .feed2 .given .1 in
-    step-at told (step-text (ready-at told (c .before .before .before .before .before .before .before .before .before .before .pre)) (c .before .before .take-text .ensures))
+    step-at told (step-text (ready-at told (c .before .before .before .before .before .before .before .before .before .before .pre))
+    (c .before .before .take-text .ensures))
 
 same-length-3 : tie.Need-same-length-3
 same-length-3 c = search needs
@@ -51,7 +54,8 @@ same-length-5 : tie.Need-same-length-5
 same-length-5 c = search needs
 
 returns-3 : tie.Need-returns-3
-returns-3 c = step-at (c .before .before .before .before .before .before .before .before .before .before .before .feed3 .given .1) (c .before .before .before .before .before .before .take-data .ensures)
+returns-3 c = step-at (c .before .before .before .before .before .before .before .before .before .before .before .feed3 .given .1)
+    (c .before .before .before .before .before .before .take-data .ensures)
 
 returns-4 : tie.Need-returns-4
 returns-4 c =

@@ -13,7 +13,8 @@ use Rattle.report_feed.proofs.take_bytes.Tie as tie
 
 abbrev Inv-loop : tie.InvT-loop
 Inv-loop bytes held₀ kept₀ flux₀ come₀ i₀ held kept flux come i =
-    (i ≤ length bytes) × (length held ≡ length held₀) × (length kept ≡ length kept₀) × (length flux ≡ length flux₀) × Step (take i bytes) come₀ held₀ kept₀ flux₀ come held kept flux
+    (i ≤ length bytes) × (length held ≡ length held₀) × (length kept ≡ length kept₀) × (length flux ≡ length flux₀)
+    × Step (take i bytes) come₀ held₀ kept₀ flux₀ come held kept flux
 
 abbrev μ-loop : tie.MeasureT-loop
 μ-loop bytes held₀ kept₀ flux₀ come₀ i₀ held kept flux come i = length bytes - i

@@ -68,7 +68,8 @@ take-row-requires c κs =
     )
 
 add-next : tie.Need-add-next
-add-next c = let start = c .before .before .before .before .before .before .before .before .before .before .before .before .before .before in omega (arith, rows-within (start .pre) .row-is, c .before .before .before .before .before .before .before .before .before .before .if1 .left)
+add-next c = let start = c .before .before .before .before .before .before .before .before .before .before .before .before .before .before in omega
+    (arith, rows-within (start .pre) .row-is, c .before .before .before .before .before .before .before .before .before .before .if1 .left)
 
 same-length-2 : tie.Need-same-length-2
 same-length-2 c = search needs
@@ -82,10 +83,20 @@ same-length-4 c = search needs
 returns-3 : tie.Need-returns-3
 returns-3 c =
     let start = c .before .before .before .before .before .before .before .before .before .before .before .before .before .before in
-    let fewer : start .args .t < start .args .rows = omega (arith, rows-within (start .pre) .row-is, c .before .before .before .before .before .before .before .before .before .before .if1 .left) in
+    let fewer : start .args .t < start .args .rows = omega (
+      arith,
+      rows-within (start .pre) .row-is,
+      c .before .before .before .before .before .before
+          .before .before .before .before .if1 .left,
+    ) in
     let bins = start .args .bins in
     let taken = c .before .before .before .before .take-row in
-    step-row (start .pre) fewer (omega (arith, rows-within (start .pre) .have-is, c .before .before .before .before .before .before .before .before .before .if2 .left)) (part-is (bins * 4) _) (part-is (2 * bins) _) (taken .ensures)
+    step-row (start .pre) fewer (omega (
+      arith,
+      rows-within (start .pre) .have-is,
+      c .before .before .before .before .before .before .before .before
+          .before .if2 .left,
+    )) (part-is (bins * 4) _) (part-is (2 * bins) _) (taken .ensures)
     (ap (λ (k : ℕ). taken .last .1 .1 .1 .1 .0 ++ drop k (now (start .args .kept))) (sub-zero (2 * bins)))
     (taken .kept .1 .1 .1 .1 .0 ∙ part-length (2 * bins) _ (pair-fits (start .pre))) (same-length-3 c) (same-length-4 c)
 

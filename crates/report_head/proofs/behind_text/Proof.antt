@@ -18,7 +18,8 @@ shape-fine-requires c κs = search needs
 
 returns : tie.Need-returns
 unfolding behindText
-returns c = rw (c .before .before .before .header .given .1) (sym (pick-false _ _ _ (sym (c .before .shape-fine .ensures) ∙ not-true (c .before .shape-fine .result) (c .if1 .taken))))
+returns c = rw (c .before .before .before .header .given .1)
+    (sym (pick-false _ _ _ (sym (c .before .shape-fine .ensures) ∙ not-true (c .before .shape-fine .result) (c .if1 .taken))))
 
 returns-2 : tie.Need-returns-2
 unfolding behindText
@@ -26,7 +27,8 @@ returns-2 c = rw (c .enum-told .given .1)
 
 returns-3 : tie.Need-returns-3
 unfolding behindText
-returns-3 c = rw (c .before .before .before .header .given .1) (sym (pick-true _ _ _ (sym (c .before .shape-fine .ensures) ∙ not-false (c .before .shape-fine .result) (c .if1 .left))))
+returns-3 c = rw (c .before .before .before .header .given .1)
+    (sym (pick-true _ _ _ (sym (c .before .shape-fine .ensures) ∙ not-false (c .before .shape-fine .result) (c .if1 .left))))
 
 pub behind-text-spec : {M : Type 1} → statement M
 behind-text-spec =

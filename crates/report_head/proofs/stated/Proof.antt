@@ -13,8 +13,11 @@ read-preamble-requires c κs = search needs
 returns : tie.Need-returns
 returns c =
     let bytes = now (c .before .before .args .bytes) in
-    let e = c .read-preamble .ensures in
-    (e, λ size h. stated-fits bytes (omega (arith, c .before .shared-slice-known .given 8)) (omega (arith, c .before .shared-slice-known .given 9)) size (sym e ∙ h))
+    let e = c .read-preamble .ensures in (
+      e,
+      λ size h. stated-fits bytes (omega (arith, c .before .shared-slice-known .given 8)) (omega (arith, c .before .shared-slice-known .given 9))
+          size (sym e ∙ h),
+    )
 
 pub stated-spec : {M : Type 1} → statement M
 stated-spec = tie.close (tie.spec read-preamble-requires returns)

@@ -24,10 +24,12 @@ cast-t13 : tie.Need-cast-t13
 cast-t13 c = let h = c .before .before .before .before .pre in omega (arith, h 0 missing (omega arith), h 1 missing (omega arith), h 2 missing (omega arith))
 
 cast-t14 : tie.Need-cast-t14
-cast-t14 c = let h = c .before .before .before .before .before .pre in omega (arith, h 0 missing (omega arith), h 1 missing (omega arith), h 2 missing (omega arith))
+cast-t14 c = let h = c .before .before .before .before .before .pre in omega
+    (arith, h 0 missing (omega arith), h 1 missing (omega arith), h 2 missing (omega arith))
 
 cast-t15 : tie.Need-cast-t15
-cast-t15 c = let h = c .before .before .before .before .before .before .pre in omega (arith, h 0 missing (omega arith), h 1 missing (omega arith), h 2 missing (omega arith))
+cast-t15 c = let h = c .before .before .before .before .before .before .pre in omega
+    (arith, h 0 missing (omega arith), h 1 missing (omega arith), h 2 missing (omega arith))
 
 returns : tie.Need-returns
 returns c =

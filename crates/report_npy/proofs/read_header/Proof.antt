@@ -11,7 +11,16 @@ use Rattle.report_npy.specs.declared.Header.the-variants.{Shape}
 use Rattle.texts.specs.Texts.{starts}
 use Rattle.texts.specs.Decimals.{leading, plain, numberFrom}
 use Rattle.report_npy.specs.Header.{front, comma, closing, heldNumber, columnsOf, headerOf}
-use Rattle.report_npy.proofs.Headers.{header-malformed, rows-at-plain, rows-at-comma, rows-at, columns-at-plain, columns-at-closing, columns-at-end, columns-at}
+use Rattle.report_npy.proofs.Headers.{
+  header-malformed,
+  rows-at-plain,
+  rows-at-comma,
+  rows-at,
+  columns-at-plain,
+  columns-at-closing,
+  columns-at-end,
+  columns-at,
+}
 use borrow.Author.Needs.{needs}
 use Rattle.report_npy.proofs.read_header.Statement.{statement}
 use Rattle.report_npy.proofs.read_header.Tie as tie
@@ -25,19 +34,27 @@ rows-hold : (c : tie.Else2) → plain (leading (drop 51 (now (c .before .before 
 rows-hold c = holds _ _ (c .before .plain-number .ensures) (c .if2 .left)
 
 -- and then a comma
-comma-holds : (c : tie.Else3) → starts comma (drop (c .before .before .before .digits-end .result) (now (c .before .before .before .before .before .before .before .before .before .before .args .text))) ≡ true
+comma-holds : (c : tie.Else3) → starts comma (drop (c .before .before .before .digits-end .result)
+    (now (c .before .before .before .before .before .before .before .before .before .before .args .text))) ≡ true
 comma-holds c = holds _ _ (c .before .stands2 .ensures) (c .if3 .left)
 
 -- so that the columns decide
-columns-decide : (c : tie.Else3) → headerOf (now (c .before .before .before .before .before .before .before .before .before .before .args .text)) ≡ columnsOf (numberFrom 0 (leading (drop 51 (now (c .before .before .before .before .before .before .before .before .before .before .args .text))))) (drop (c .before .before .before .digits-end .result + 2) (now (c .before .before .before .before .before .before .before .before .before .before .args .text)))
-columns-decide c = rows-at _ (front-holds (c .before .before .before .before .before .before)) _ (c .before .before .before .digits-end .ensures) (rows-hold (c .before .before .before .before)) (comma-holds c)
+columns-decide : (c : tie.Else3) → headerOf (now (c .before .before .before .before .before .before .before .before .before .before .args .text))
+    ≡ columnsOf (numberFrom 0 (leading (drop 51 (now (c .before .before .before .before .before .before .before .before .before .before .args
+    .text))))) (drop (c .before .before .before .digits-end .result + 2)
+    (now (c .before .before .before .before .before .before .before .before .before .before .args .text)))
+columns-decide c = rows-at _ (front-holds (c .before .before .before .before .before .before)) _ (c .before .before .before .digits-end .ensures)
+    (rows-hold (c .before .before .before .before)) (comma-holds c)
 
 -- a second number
-columns-hold : (c : tie.Else4) → plain (leading (drop (c .before .before .before .before .before .digits-end .result + 2) (now (c .before .before .before .before .before .before .before .before .before .before .before .before .args .text)))) ≡ true
+columns-hold : (c : tie.Else4) → plain (leading (drop (c .before .before .before .before .before .digits-end .result + 2)
+    (now (c .before .before .before .before .before .before .before .before .before .before .before .before .args .text)))) ≡ true
 columns-hold c = holds _ _ (c .before .plain-number2 .ensures) (c .if4 .left)
 
 -- and the closing
-closing-holds : (c : tie.Else5) → starts closing (drop (c .before .before .before .digits-end2 .result) (now (c .before .before .before .before .before .before .before .before .before .before .before .before .before .before .before .before .args .text))) ≡ true
+closing-holds : (c : tie.Else5) → starts closing (drop (c .before .before .before .digits-end2 .result)
+    (now (c .before .before .before .before .before .before .before .before .before .before .before .before .before .before .before .before .args
+    .text))) ≡ true
 closing-holds c = holds _ _ (c .before .stands3 .ensures) (c .if5 .left)
 
 slice-aggregate-stands : tie.Need-slice-aggregate-stands
@@ -66,7 +83,8 @@ stands-requires-2 c κs = search needs
 
 returns-3 : tie.Need-returns-3
 returns-3 c =
-    sym (rows-at-comma _ (front-holds (c .before .before .before .before .before .before)) _ (c .before .before .before .digits-end .ensures) (rows-hold (c .before .before .before .before)) (fails _ _ (c .before .stands2 .ensures) (c .if3 .taken)))
+    sym (rows-at-comma _ (front-holds (c .before .before .before .before .before .before)) _ (c .before .before .before .digits-end .ensures)
+    (rows-hold (c .before .before .before .before)) (fails _ _ (c .before .stands2 .ensures) (c .if3 .taken)))
 
 add-columns : tie.Need-add-columns
 add-columns c =
@@ -80,7 +98,8 @@ plain-number-requires-2 c κs = search needs
 returns-4 : tie.Need-returns-4
 returns-4 c =
     let text = now (c .before .before .before .before .before .before .before .before .before .before .before .before .args .text) in
-    sym (columns-decide (c .before .before) ∙ columns-at-plain _ text (c .before .before .before .before .before .digits-end .result + 2) (fails _ _ (c .before .plain-number2 .ensures) (c .if4 .taken)))
+    sym (columns-decide (c .before .before) ∙ columns-at-plain _ text (c .before .before .before .before .before .digits-end .result + 2)
+    (fails _ _ (c .before .plain-number2 .ensures) (c .if4 .taken)))
 
 digits-end-requires-2 : tie.Need-digits-end-requires-2
 digits-end-requires-2 c κs = search needs
@@ -94,11 +113,13 @@ stands-requires-3 c κs = search needs
 returns-5 : tie.Need-returns-5
 returns-5 c =
     sym (columns-decide (c .before .before .before .before .before .before)
-    ∙ columns-at-closing _ _ _ _ (c .before .before .before .digits-end2 .ensures) (columns-hold (c .before .before .before .before)) (fails _ _ (c .before .stands3 .ensures) (c .if5 .taken)))
+    ∙ columns-at-closing _ _ _ _ (c .before .before .before .digits-end2 .ensures) (columns-hold (c .before .before .before .before))
+    (fails _ _ (c .before .stands3 .ensures) (c .if5 .taken)))
 
 add-ends : tie.Need-add-ends
 add-ends c =
-    let text = now (c .before .before .before .before .before .before .before .before .before .before .before .before .before .before .before .before .args .text) in
+    let text = now (c .before .before .before .before .before .before .before .before .before .before .before .before .before .before .before .before
+    .args .text) in
     let r = c .before .before .before .digits-end2 .result in
     omega (arith, starts-fits closing (drop r text) (closing-holds c), length-drop r text)
 
@@ -108,7 +129,9 @@ ends-requires c κs = search needs
 returns-6 : tie.Need-returns-6
 returns-6 c =
     sym (columns-decide (c .before .before .before .before .before .before .before .before)
-    ∙ columns-at-end _ _ _ _ (c .before .before .before .before .before .digits-end2 .ensures) (columns-hold (c .before .before .before .before .before .before)) (closing-holds (c .before .before)) (fails _ _ (c .before .ends .ensures) (c .if6 .taken)))
+    ∙ columns-at-end _ _ _ _ (c .before .before .before .before .before .digits-end2 .ensures)
+    (columns-hold (c .before .before .before .before .before .before)) (closing-holds (c .before .before))
+    (fails _ _ (c .before .ends .ensures) (c .if6 .taken)))
 
 number-at-requires : tie.Need-number-at-requires
 number-at-requires c κs = search needs
@@ -119,11 +142,15 @@ number-at-requires-2 c κs = search needs
 returns-7 : tie.Need-returns-7
 returns-7 c =
     let whole = columns-decide (c .before .before .before .before .before .before .before .before .before .before)
-    ∙ columns-at _ _ _ _ (c .before .before .before .before .before .before .before .digits-end2 .ensures) (columns-hold (c .before .before .before .before .before .before .before .before)) (closing-holds (c .before .before .before .before)) (holds _ _ (c .before .before .before .ends .ensures) (c .before .before .if6 .left)) in
+    ∙ columns-at _ _ _ _ (c .before .before .before .before .before .before .before .digits-end2 .ensures)
+    (columns-hold (c .before .before .before .before .before .before .before .before)) (closing-holds (c .before .before .before .before))
+    (holds _ _ (c .before .before .before .ends .ensures) (c .before .before .if6 .left)) in
     let rows = c .before .number-at .ensures in
     let columns = c .number-at2 .ensures in
     ap (λ (n : ℕ). Shape n (c .number-at2 .result)) rows
-    ∙ ap (λ (b : ℕ). Shape (heldNumber (numberFrom 0 (leading (drop 51 (now (c .before .before .before .before .before .before .before .before .before .before .before .before .before .before .before .before .before .before .before .before .args .text)))))) b) columns
+    ∙ ap (λ (b : ℕ). Shape (heldNumber (numberFrom 0 (leading
+    (drop 51 (now (c .before .before .before .before .before .before .before .before .before .before .before .before .before .before .before
+    .before .before .before .before .before .args .text)))))) b) columns
     ∙ sym whole
 
 pub read-header-spec : {M : Type 1} → statement M

@@ -45,7 +45,8 @@ add-t14 c = omega (arith, c .shared-slice-known3 .given 8, c .shared-slice-known
 returns-3 : tie.Need-returns-3
 returns-3 c =
     let bytes = now (c .before .before .before .before .before .before .before .args .bytes) in
-    sym (preamble-length bytes (holds _ _ (c .before .before .before .before .stands .ensures) (c .before .before .before .if1 .left)) (c .before .before .if2 .left))
+    sym (preamble-length bytes (holds _ _ (c .before .before .before .before .stands .ensures) (c .before .before .before .if1 .left))
+    (c .before .before .if2 .left))
 
 pub read-preamble-spec : {M : Type 1} → statement M
 read-preamble-spec =

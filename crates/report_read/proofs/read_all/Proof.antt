@@ -11,7 +11,8 @@ use Rattle.report_read.proofs.read_all.Tie as tie
 
 abbrev Inv-loop : tie.InvT-loop
 Inv-loop bytes₀ held₀ kept₀ flux₀ feed₀ turns₀ bytes held kept flux feed turns =
-    (length bytes ≡ length bytes₀) × (length held ≡ length held₀) × (length kept ≡ length kept₀) × (length flux ≡ length flux₀) × Coming feed held kept flux₀ flux
+    (length bytes ≡ length bytes₀) × (length held ≡ length held₀) × (length kept ≡ length kept₀) × (length flux ≡ length flux₀)
+    × Coming feed held kept flux₀ flux
 
 abbrev μ-loop : tie.MeasureT-loop
 μ-loop bytes₀ held₀ kept₀ flux₀ feed₀ turns₀ bytes held kept flux feed turns = turns
@@ -32,7 +33,8 @@ closed-requires : tie.Need-closed-requires Inv-loop μ-loop
 closed-requires c κs = tt
 
 same-length : tie.Need-same-length Inv-loop μ-loop
-same-length c = c .before .before .before .before .before .before .read .kept .1 .0 ∙ c .before .before .before .before .before .before .before .before .before .loop .inv .0
+same-length c = c .before .before .before .before .before .before .read .kept .1 .0
+    ∙ c .before .before .before .before .before .before .before .before .before .loop .inv .0
 
 same-length-2 : tie.Need-same-length-2 Inv-loop μ-loop
 same-length-2 c = c .before .before .before .before .before .before .before .before .before .loop .inv .1
@@ -47,7 +49,11 @@ returns : tie.Need-returns Inv-loop μ-loop
 returns c = coming-told (c .closed .ensures) (c .before .before .before .before .before .before .before .before .before .loop .inv .4)
 
 pass-on-requires : tie.Need-pass-on-requires Inv-loop μ-loop
-pass-on-requires c κs = (c .before .before .before .before .before .count .ensures .0 .0, c .before .before .before .before .before .before .before .before .before .before .before .before .loop .inv .4 .fed .ready)
+pass-on-requires c κs = (
+  c .before .before .before .before .before .count .ensures .0 .0,
+  c .before .before .before .before .before .before .before
+      .before .before .before .before .before .loop .inv .4 .fed .ready,
+)
 
 decided-requires : tie.Need-decided-requires Inv-loop μ-loop
 decided-requires c κs = tt
@@ -56,19 +62,30 @@ closed-requires-2 : tie.Need-closed-requires-2 Inv-loop μ-loop
 closed-requires-2 c κs = tt
 
 same-length-5 : tie.Need-same-length-5 Inv-loop μ-loop
-same-length-5 c = c .before .before .before .before .before .before .before .before .before .before .before .before .before .before .before .before .before .before .before .read .kept .1 .0 ∙ c .before .before .before .before .before .before .before .before .before .before .before .before .before .before .before .before .before .before .before .before .before .before .loop .inv .0
+same-length-5 c = c .before .before .before .before .before .before .before .before .before .before .before .before .before .before .before .before
+    .before .before .before .read .kept .1 .0 ∙ c .before .before .before .before .before .before .before .before .before .before .before .before
+    .before .before .before .before .before .before .before .before .before .before .loop .inv .0
 
 same-length-6 : tie.Need-same-length-6 Inv-loop μ-loop
-same-length-6 c = c .before .before .before .before .before .before .before .before .before .pass-on .kept .1 .1 .1 .0 ∙ c .before .before .before .before .before .before .before .before .before .before .before .before .before .before .before .before .before .before .before .before .before .before .loop .inv .1
+same-length-6 c = c .before .before .before .before .before .before .before .before .before .pass-on .kept .1 .1 .1 .0
+    ∙ c .before .before .before .before .before .before .before .before .before .before .before .before .before .before .before .before .before
+    .before .before .before .before .before .loop .inv .1
 
 same-length-7 : tie.Need-same-length-7 Inv-loop μ-loop
-same-length-7 c = c .before .before .before .before .before .before .before .before .before .pass-on .kept .1 .1 .1 .1 .0 ∙ c .before .before .before .before .before .before .before .before .before .before .before .before .before .before .before .before .before .before .before .before .before .before .loop .inv .2
+same-length-7 c = c .before .before .before .before .before .before .before .before .before .pass-on .kept .1 .1 .1 .1 .0
+    ∙ c .before .before .before .before .before .before .before .before .before .before .before .before .before .before .before .before .before
+    .before .before .before .before .before .loop .inv .2
 
 same-length-8 : tie.Need-same-length-8 Inv-loop μ-loop
-same-length-8 c = c .before .before .before .before .before .before .before .before .before .pass-on .kept .1 .1 .1 .1 .1 .0 ∙ c .before .before .before .before .before .before .before .before .before .before .before .before .before .before .before .before .before .before .before .before .before .before .loop .inv .3
+same-length-8 c = c .before .before .before .before .before .before .before .before .before .pass-on .kept .1 .1 .1 .1 .1 .0
+    ∙ c .before .before .before .before .before .before .before .before .before .before .before .before .before .before .before .before .before
+    .before .before .before .before .before .loop .inv .3
 
 returns-2 : tie.Need-returns-2 Inv-loop μ-loop
-returns-2 c = coming-told (c .closed2 .ensures) (coming-more (c .before .before .before .before .before .before .before .before .before .pass-on .ensures) (c .before .before .before .before .before .before .before .before .before .before .before .before .before .before .before .before .before .before .before .before .before .before .loop .inv .4))
+returns-2 c = coming-told (c .closed2 .ensures) (coming-more
+    (c .before .before .before .before .before .before .before .before .before .pass-on .ensures)
+    (c .before .before .before .before .before .before .before .before .before .before .before .before .before .before .before .before .before .before
+    .before .before .before .before .loop .inv .4))
 
 sub-turns : tie.Need-sub-turns Inv-loop μ-loop
 sub-turns c = omega arith
@@ -78,9 +95,11 @@ loop-less c = omega arith
 
 loop-again : tie.Need-loop-again Inv-loop μ-loop
 loop-again c =
-    let l = c .before .before .before .before .before .before .before .before .before .before .before .before .before .before .before .before .before .before .before .before .before .loop in
+    let l = c .before .before .before .before .before .before .before .before .before .before .before .before .before .before .before .before .before
+    .before .before .before .before .loop in
     let taken = c .before .before .before .before .before .before .before .before .pass-on in (
-      c .before .before .before .before .before .before .before .before .before .before .before .before .before .before .before .before .before .before .read .kept .1 .0 ∙ l .inv .0,
+      c .before .before .before .before .before .before .before .before .before .before .before .before .before .before .before .before .before
+          .before .read .kept .1 .0 ∙ l .inv .0,
       taken .kept .1 .1 .1 .0 ∙ l .inv .1,
       taken .kept .1 .1 .1 .1 .0 ∙ l .inv .2,
       taken .kept .1 .1 .1 .1 .1 .0 ∙ l .inv .3,

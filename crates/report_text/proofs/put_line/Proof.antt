@@ -20,7 +20,8 @@ same-length c = search needs
 returns : tie.Need-returns
 unfolding lineText
 returns c =
-    put-then (put-then (put-whole (c .before .before .before .before .before .before .before .before .before .before .put-words .ensures)) (c .before .before .before .before .before .before .put-list .ensures)) (put-whole (c .before .before .put-byte .ensures))
+    put-then (put-then (put-whole (c .before .before .before .before .before .before .before .before .before .before .put-words .ensures))
+    (c .before .before .before .before .before .before .put-list .ensures)) (put-whole (c .before .before .put-byte .ensures))
 
 pub put-line-spec : {M : Type 1} → statement M
 put-line-spec =

@@ -14,7 +14,8 @@ same-length : tie.Need-same-length
 same-length c = search needs
 
 returns : tie.Need-returns
-returns c = let start = c .before .before .before .before .before in put-as refl (ten-digits (start .args .n) (omega arith)) (put-whole (c .before .before .put-decimal .ensures))
+returns c = let start = c .before .before .before .before .before in put-as refl (ten-digits (start .args .n) (omega arith))
+    (put-whole (c .before .before .put-decimal .ensures))
 
 pub put-number-spec : {M : Type 1} → statement M
 put-number-spec = tie.close (tie.spec put-decimal-requires same-length returns)

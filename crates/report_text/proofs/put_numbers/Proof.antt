@@ -40,8 +40,12 @@ loop-less c = search needs
 loop-again : tie.Need-loop-again Inv-loop μ-loop
 loop-again c =
     let l = c .before .before .before .before .before .before in
-    let start = l .before .before .before in
-    (omega arith, c .before .before .put-spaced .kept .0 ∙ l .loop .inv .1, put-entry (now (start .args .entries)) (l .loop .i) (omega arith) (l .loop .inv .2) (c .before .before .put-spaced .ensures))
+    let start = l .before .before .before in (
+      omega arith,
+      c .before .before .put-spaced .kept .0 ∙ l .loop .inv .1,
+      put-entry (now (start .args .entries)) (l .loop .i) (omega arith)
+          (l .loop .inv .2) (c .before .before .put-spaced .ensures),
+    )
 
 same-length : tie.Need-same-length Inv-loop μ-loop
 same-length c = search needs

@@ -66,7 +66,15 @@ put-stability-requires c κs =
     let a = b .before .before .before .before .before in
     let f = a .before .before .before .before .before .before in
     let start = f .before .before .before .before .before .before .before .before .before in
-    omega (arith, e .put-line5 .ensures .end-most, d .put-line4 .ensures .end-most, b .put-line3 .ensures .end-most, a .put-line2 .ensures .end-most, f .put-line .ensures .end-most, start .pre)
+    omega (
+      arith,
+      e .put-line5 .ensures .end-most,
+      d .put-line4 .ensures .end-most,
+      b .put-line3 .ensures .end-most,
+      a .put-line2 .ensures .end-most,
+      f .put-line .ensures .end-most,
+      start .pre,
+    )
 
 same-length : tie.Need-same-length
 same-length c = search needs
@@ -86,7 +94,8 @@ returns c =
     let short : length (take (k - 0) cs) ≤ 1 = simp length-take (omega (arith, one .least .ensures)) in
     let lag = put-as {k = 20} (ap (lineText lagWord) (first-entry cs k (one .least .ensures))) (omega arith) (a .put-line2 .ensures) in
     put-as refl (omega (arith, start .pre .0))
-    (put-then (put-then (put-then (put-then (put-then (f .put-line .ensures) lag) (b .put-line3 .ensures)) (d .put-line4 .ensures)) (e .put-line5 .ensures)) (c .before .before .put-stability .ensures))
+    (put-then (put-then (put-then (put-then (put-then (f .put-line .ensures) lag) (b .put-line3 .ensures)) (d .put-line4 .ensures))
+    (e .put-line5 .ensures)) (c .before .before .put-stability .ensures))
 
 pub put-report-spec : {M : Type 1} → statement M
 put-report-spec =

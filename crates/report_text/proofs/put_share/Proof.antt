@@ -16,7 +16,8 @@ same-length : tie.Need-same-length
 same-length c = search needs
 
 returns : tie.Need-returns
-returns c = put-as (sym (share-none _ _ (c .before .before .before .before .before .if1 .taken))) (omega arith) (put-whole (c .before .before .put-words .ensures))
+returns c = put-as (sym (share-none _ _ (c .before .before .before .before .before .if1 .taken))) (omega arith)
+    (put-whole (c .before .before .put-words .ensures))
 
 put-spaced-requires : tie.Need-put-spaced-requires
 put-spaced-requires c κs = search needs
@@ -33,7 +34,8 @@ same-length-2 c = search needs
 returns-2 : tie.Need-returns-2
 returns-2 c =
     put-as (sym (share-some _ _ (c .before .before .before .before .before .before .before .before .before .before .before .before .if1 .left))) (omega arith)
-    (put-then (put-then (c .before .before .before .before .before .before .before .before .before .before .put-spaced .ensures) (put-whole (c .before .before .before .before .before .before .put-byte .ensures))) (c .before .before .put-number .ensures))
+    (put-then (put-then (c .before .before .before .before .before .before .before .before .before .before .put-spaced .ensures)
+    (put-whole (c .before .before .before .before .before .before .put-byte .ensures))) (c .before .before .put-number .ensures))
 
 pub put-share-spec : {M : Type 1} → statement M
 put-share-spec =

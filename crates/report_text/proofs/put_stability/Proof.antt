@@ -23,7 +23,8 @@ same-length c = search needs
 returns : tie.Need-returns
 unfolding stabilityText
 returns c =
-    put-then (put-then (put-whole (c .before .before .before .before .before .before .before .before .before .before .put-words .ensures)) (c .before .before .before .before .before .before .put-share .ensures)) (put-whole (c .before .before .put-byte .ensures))
+    put-then (put-then (put-whole (c .before .before .before .before .before .before .before .before .before .before .put-words .ensures))
+    (c .before .before .before .before .before .before .put-share .ensures)) (put-whole (c .before .before .put-byte .ensures))
 
 pub put-stability-spec : {M : Type 1} → statement M
 put-stability-spec =

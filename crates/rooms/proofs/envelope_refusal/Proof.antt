@@ -16,16 +16,21 @@ has-room-requires : tie.Need-has-room-requires
 has-room-requires c κs = search needs
 
 returns-2 : tie.Need-returns-2
-returns-2 c = envelope-3 _ _ _ _ _ _ _ (c .before .before .before .before .room-of .ensures) (c .before .before .if1 .left) _ (c .before .has-room .ensures) (not-true _ (c .if2 .taken))
+returns-2 c = envelope-3 _ _ _ _ _ _ _ (c .before .before .before .before .room-of .ensures) (c .before .before .if1 .left) _
+    (c .before .has-room .ensures) (not-true _ (c .if2 .taken))
 
 values-fine-requires : tie.Need-values-fine-requires
 values-fine-requires c κs = search needs
 
 returns-3 : tie.Need-returns-3
-returns-3 c = envelope-4 _ _ _ _ _ _ _ (c .before .before .before .before .before .before .room-of .ensures) (c .before .before .before .before .if1 .left) _ (c .before .before .before .has-room .ensures) (not-false _ (c .before .before .if2 .left)) (sym (c .before .values-fine .ensures) ∙ not-true _ (c .if3 .taken))
+returns-3 c = envelope-4 _ _ _ _ _ _ _ (c .before .before .before .before .before .before .room-of .ensures)
+    (c .before .before .before .before .if1 .left) _ (c .before .before .before .has-room .ensures) (not-false _ (c .before .before .if2 .left))
+    (sym (c .before .values-fine .ensures) ∙ not-true _ (c .if3 .taken))
 
 returns-4 : tie.Need-returns-4
-returns-4 c = envelope-0 _ _ _ _ _ _ _ (c .before .before .before .before .before .before .room-of .ensures) (c .before .before .before .before .if1 .left) _ (c .before .before .before .has-room .ensures) (not-false _ (c .before .before .if2 .left)) (sym (c .before .values-fine .ensures) ∙ not-false _ (c .if3 .left))
+returns-4 c = envelope-0 _ _ _ _ _ _ _ (c .before .before .before .before .before .before .room-of .ensures)
+    (c .before .before .before .before .if1 .left) _ (c .before .before .before .has-room .ensures) (not-false _ (c .before .before .if2 .left))
+    (sym (c .before .values-fine .ensures) ∙ not-false _ (c .if3 .left))
 
 pub envelope-refusal-spec : {M : Type 1} → statement M
 envelope-refusal-spec =

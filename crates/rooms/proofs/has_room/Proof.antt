@@ -12,10 +12,12 @@ all-hold-requires-2 : tie.Need-all-hold-requires-2
 all-hold-requires-2 c κs = search needs
 
 returns : tie.Need-returns
-returns c = by-work _ _ _ _ (sym (c .before .before .before .before .all-hold .ensures) ∙ c .before .before .before .if1 .taken) (sym (c .before .before .all-hold2 .ensures) ∙ c .before .if2 .taken)
+returns c = by-work _ _ _ _ (sym (c .before .before .before .before .all-hold .ensures) ∙ c .before .before .before .if1 .taken)
+    (sym (c .before .before .all-hold2 .ensures) ∙ c .before .if2 .taken)
 
 returns-2 : tie.Need-returns-2
-returns-2 c = c .before .all-hold2 .ensures ∙ lags-short _ _ _ _ (sym (c .before .before .before .all-hold .ensures) ∙ c .before .before .if1 .taken) (sym (c .before .all-hold2 .ensures) ∙ c .if2 .left)
+returns-2 c = c .before .all-hold2 .ensures ∙ lags-short _ _ _ _ (sym (c .before .before .before .all-hold .ensures) ∙ c .before .before .if1 .taken)
+    (sym (c .before .all-hold2 .ensures) ∙ c .if2 .left)
 
 returns-3 : tie.Need-returns-3
 returns-3 c = c .before .all-hold .ensures ∙ frames-short _ _ _ _ (sym (c .before .all-hold .ensures) ∙ c .if1 .left)

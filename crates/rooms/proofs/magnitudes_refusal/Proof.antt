@@ -31,7 +31,8 @@ returns-3 c =
     let n = c .before .before in
     let r = n .before .before in
     let s = r .before in
-    magnitudes-2 _ _ _ _ _ _ _ _ (sym (s .before .slab-fine .ensures) ∙ not-false _ (s .if1 .left)) _ (r .room-of .ensures) (n .if2 .left) (sym (c .before .slab-whole .ensures) ∙ not-true _ (c .if3 .taken))
+    magnitudes-2 _ _ _ _ _ _ _ _ (sym (s .before .slab-fine .ensures) ∙ not-false _ (s .if1 .left)) _ (r .room-of .ensures) (n .if2 .left)
+    (sym (c .before .slab-whole .ensures) ∙ not-true _ (c .if3 .taken))
 
 returns-4 : tie.Need-returns-4
 returns-4 c =
@@ -39,7 +40,8 @@ returns-4 c =
     let n = w .before .before in
     let r = n .before .before in
     let s = r .before in
-    flux-short _ _ _ _ _ _ _ _ (sym (s .before .slab-fine .ensures) ∙ not-false _ (s .if1 .left)) _ (r .room-of .ensures) (n .if2 .left) (sym (w .before .slab-whole .ensures) ∙ not-false _ (w .if3 .left)) (c .if4 .taken)
+    flux-short _ _ _ _ _ _ _ _ (sym (s .before .slab-fine .ensures) ∙ not-false _ (s .if1 .left)) _ (r .room-of .ensures) (n .if2 .left)
+    (sym (w .before .slab-whole .ensures) ∙ not-false _ (w .if3 .left)) (c .if4 .taken)
 
 has-room-requires : tie.Need-has-room-requires
 has-room-requires c κs = search needs
@@ -51,7 +53,8 @@ returns-5 c =
     let n = w .before .before in
     let r = n .before .before in
     let s = r .before in
-    magnitudes-3 _ _ _ _ _ _ _ _ (sym (s .before .slab-fine .ensures) ∙ not-false _ (s .if1 .left)) _ (r .room-of .ensures) (n .if2 .left) (sym (w .before .slab-whole .ensures) ∙ not-false _ (w .if3 .left))
+    magnitudes-3 _ _ _ _ _ _ _ _ (sym (s .before .slab-fine .ensures) ∙ not-false _ (s .if1 .left)) _ (r .room-of .ensures) (n .if2 .left)
+    (sym (w .before .slab-whole .ensures) ∙ not-false _ (w .if3 .left))
     (f .if4 .left) _ (c .before .has-room .ensures) (not-true _ (c .if5 .taken))
 
 magnitudes-fine-requires : tie.Need-magnitudes-fine-requires
@@ -65,7 +68,8 @@ returns-6 c =
     let n = w .before .before in
     let r = n .before .before in
     let s = r .before in
-    magnitudes-4 _ _ _ _ _ _ _ _ (sym (s .before .slab-fine .ensures) ∙ not-false _ (s .if1 .left)) _ (r .room-of .ensures) (n .if2 .left) (sym (w .before .slab-whole .ensures) ∙ not-false _ (w .if3 .left))
+    magnitudes-4 _ _ _ _ _ _ _ _ (sym (s .before .slab-fine .ensures) ∙ not-false _ (s .if1 .left)) _ (r .room-of .ensures) (n .if2 .left)
+    (sym (w .before .slab-whole .ensures) ∙ not-false _ (w .if3 .left))
     (f .if4 .left) _ (h .before .has-room .ensures) (not-false _ (h .if5 .left)) (sym (c .before .magnitudes-fine .ensures) ∙ not-true _ (c .if6 .taken))
 
 returns-7 : tie.Need-returns-7
@@ -76,7 +80,8 @@ returns-7 c =
     let n = w .before .before in
     let r = n .before .before in
     let s = r .before in
-    magnitudes-0 _ _ _ _ _ _ _ _ (sym (s .before .slab-fine .ensures) ∙ not-false _ (s .if1 .left)) _ (r .room-of .ensures) (n .if2 .left) (sym (w .before .slab-whole .ensures) ∙ not-false _ (w .if3 .left))
+    magnitudes-0 _ _ _ _ _ _ _ _ (sym (s .before .slab-fine .ensures) ∙ not-false _ (s .if1 .left)) _ (r .room-of .ensures) (n .if2 .left)
+    (sym (w .before .slab-whole .ensures) ∙ not-false _ (w .if3 .left))
     (f .if4 .left) _ (h .before .has-room .ensures) (not-false _ (h .if5 .left)) (sym (c .before .magnitudes-fine .ensures) ∙ not-false _ (c .if6 .left))
 
 pub magnitudes-refusal-spec : {M : Type 1} → statement M

@@ -20,7 +20,8 @@ no-room-requires-2 : tie.Need-no-room-requires-2
 no-room-requires-2 c κs = search needs
 
 returns-2 : tie.Need-returns-2
-returns-2 c = c .no-room2 .ensures ∙ sym (room-outside _ _ _ (by-bounds _ _ _ (c .before .before .before .if1 .left) ∙ sym (c .before .before .bounds-fine .ensures) ∙ not-true _ (c .before .if2 .taken)))
+returns-2 c = c .no-room2 .ensures ∙ sym (room-outside _ _ _
+    (by-bounds _ _ _ (c .before .before .before .if1 .left) ∙ sym (c .before .before .bounds-fine .ensures) ∙ not-true _ (c .before .if2 .taken)))
 
 lag-range-requires : tie.Need-lag-range-requires
 lag-range-requires c κs = search needs
@@ -41,7 +42,8 @@ returns-3 c =
     let l = c .before .before .before in
     let fine = sym (l .before .before .bounds-fine .ensures) ∙ not-false _ (l .before .if2 .left) in
     let r = ranged _ _ _ (l .lag-range .ensures) fine in
-    named-room _ _ _ _ _ _ (l .before .before .before .if1 .left) fine (room-is _ _ _ _ r (c .before .before .lag-slots .ensures)) (c .before .least .ensures) (c .greatest .ensures)
+    named-room _ _ _ _ _ _ (l .before .before .before .if1 .left) fine (room-is _ _ _ _ r (c .before .before .lag-slots .ensures))
+    (c .before .least .ensures) (c .greatest .ensures)
 
 pub room-of-spec : {M : Type 1} → statement M
 room-of-spec =

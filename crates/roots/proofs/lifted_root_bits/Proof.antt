@@ -45,7 +45,8 @@ add-result c =
 returns : tie.Need-returns Inv-loop μ-loop
 returns c =
     let l = c .before .before .before in
-    root-is _ _ (l .before .pre .0) (omega arith) (near-nearest _ _ _ _ (c .before .before .loop-test .left) (l .loop .inv .split) (near-of _ _ (c .nearest-whole .ensures)))
+    root-is _ _ (l .before .pre .0) (omega arith) (near-nearest _ _ _ _ (c .before .before .loop-test .left) (l .loop .inv .split)
+    (near-of _ _ (c .nearest-whole .ensures)))
 
 pub lifted-root-bits-spec : {M : Type 1} → statement M
 lifted-root-bits-spec =

@@ -57,7 +57,8 @@ loop-again : tie.Need-loop-again Inv-loop μ-loop
 loop-again c =
     let d = c .before .before in
     let l : d .loop .i < 54 = omega arith in
-    ⊎-elim (λ w. rw (w .1, w .2) (digit-one _ _ _ _ _ (d .loop .inv) l (w .0 .taken))) (λ w. rw (w .1, w .2) (digit-zero _ _ _ _ _ (d .loop .inv) l (w .0 .left))) (c .if1 .came)
+    ⊎-elim (λ w. rw (w .1, w .2) (digit-one _ _ _ _ _ (d .loop .inv) l (w .0 .taken)))
+    (λ w. rw (w .1, w .2) (digit-zero _ _ _ _ _ (d .loop .inv) l (w .0 .left))) (c .if1 .came)
 
 returns : tie.Need-returns Inv-loop μ-loop
 returns c = let e : c .before .loop .i ≡ 54 = omega arith in digits-end _ _ _ _ (rw e at (c .before .loop .inv))

@@ -1,4 +1,5 @@
--- `run_cases::marks` meets its contract. The invariant: the marks found and those that are left are the text's. The measure is what is left of the text. Assumes nothing.
+-- `run_cases::marks` meets its contract. The invariant: the marks found and those that are left are the text's. The measure is what is left of the
+-- text. Assumes nothing.
 use mathlib.Core.Path.{_≡_}
 use mathlib.Core.Logic.{⊎-elim}
 use Prim.Native.Nat.{_≤_, _+_, _-_}

@@ -1,4 +1,5 @@
--- `run_cases::start` meets its contract. The invariant: what is left has as part `left` what the text has as part k. The measure is what is left of the text. Assumes nothing.
+-- `run_cases::start` meets its contract. The invariant: what is left has as part `left` what the text has as part k. The measure is what is left of
+-- the text. Assumes nothing.
 use mathlib.Core.Path.{_≡_, refl, sym, ap, _∙_}
 use mathlib.Core.Logic.{⊎-elim}
 use Prim.Native.Nat.{_≤_, _+_, _-_}

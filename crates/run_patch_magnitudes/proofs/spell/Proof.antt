@@ -1,4 +1,5 @@
--- `run_patch_magnitudes::spell` is safe and ends: the index stays within both lists, and the values keep their length. The measure is what is left. Assumes nothing.
+-- `run_patch_magnitudes::spell` is safe and ends: the index stays within both lists, and the values keep their length. The measure is what is left.
+-- Assumes nothing.
 use mathlib.Core.Path.{_≡_, refl}
 use Prim.Native.Nat.{_≤_, _-_}
 use native.Mathlib.Omega.{arith}

@@ -42,7 +42,8 @@ loop-again c =
     let p = c .before in
     let l = p .before .before .before in
     let start = l .before .before in
-    let e = below-past (suc (key (start .args .level))) (now (start .args .values)) (l .loop .i) (omega arith) (ltb-true _ _ (sym (p .precedes .ensures) ∙ c .if1 .taken)) in
+    let e = below-past (suc (key (start .args .level))) (now (start .args .values)) (l .loop .i) (omega arith)
+    (ltb-true _ _ (sym (p .precedes .ensures) ∙ c .if1 .taken)) in
     (omega arith, omega arith, omega (arith, e, l .loop .inv .2))
 
 add-n : tie.Need-add-n Inv-loop μ-loop

@@ -14,7 +14,8 @@ use Rattle.section_peaks.proofs.group_of.Statement.{statement}
 use Rattle.section_peaks.proofs.group_of.Tie as tie
 
 abbrev Inv-loop : tie.InvT-loop
-Inv-loop curve level gap peak last best₀ t₀ best t = (last ≡ length curve - 1) × (peak < t) × (best < t) × (best < last) × AtPeak curve level t × (bests curve gap best (peaksFrom curve level t) ≡ keptFrom curve level gap peak)
+Inv-loop curve level gap peak last best₀ t₀ best t = (last ≡ length curve - 1) × (peak < t) × (best < t) × (best < last) × AtPeak curve level t
+    × (bests curve gap best (peaksFrom curve level t) ≡ keptFrom curve level gap peak)
 
 abbrev μ-loop : tie.MeasureT-loop
 μ-loop curve level gap peak last best₀ t₀ best t = length curve - t
@@ -32,8 +33,15 @@ loop-holds : tie.Need-loop-holds Inv-loop μ-loop
 loop-holds c =
     let start = c .before .before in
     let g = start .args in
-    let n = c .next-peak .ensures in
-    (refl, omega (arith, n .from), omega (arith, n .from), start .pre .1, n .stands, ap (bests (now (g .curve)) (g .gap) (g .peak)) (sym (n .same)) ∙ kept-here _ _ _ _ (start .pre .1) (start .pre .2))
+    let n = c .next-peak .ensures in (
+      refl,
+      omega (arith, n .from),
+      omega (arith, n .from),
+      start .pre .1,
+      n .stands,
+      ap (bests (now (g .curve)) (g .gap) (g .peak)) (sym (n .same))
+          ∙ kept-here _ _ _ _ (start .pre .1) (start .pre .2),
+    )
 
 sub-if1 : tie.Need-sub-if1 Inv-loop μ-loop
 sub-if1 c = search needs

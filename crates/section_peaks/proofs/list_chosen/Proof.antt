@@ -61,7 +61,8 @@ loop-again c =
     let v = l .loop .inv in
     let a = l .before .before .before .before .before .args in
     let curve = now (a .curve) in
-    let left = chosen-left curve (key (a .cut .level)) (l .loop .spare) (gr .group-of .result .best) (keptFrom curve (a .level) (a .gap) (gr .group-of .result .next)) (sym (j .judge .ensures .taken-is) ∙ not-true _ (c .if1 .taken)) in (
+    let left = chosen-left curve (key (a .cut .level)) (l .loop .spare) (gr .group-of .result .best)
+    (keptFrom curve (a .level) (a .gap) (gr .group-of .result .next)) (sym (j .judge .ensures .taken-is) ∙ not-true _ (c .if1 .taken)) in (
       v .0,
       omega (arith, g .past),
       v .2,
@@ -93,7 +94,8 @@ loop-again-2 c =
     let v = l .loop .inv in
     let a = l .before .before .before .before .before .args in
     let curve = now (a .curve) in
-    let more = chosen-taken curve (key (a .cut .level)) (l .loop .spare) (gr .group-of .result .best) (keptFrom curve (a .level) (a .gap) (gr .group-of .result .next)) (sym (j .judge .ensures .taken-is) ∙ not-false _ (c .if1 .left)) in (
+    let more = chosen-taken curve (key (a .cut .level)) (l .loop .spare) (gr .group-of .result .best)
+    (keptFrom curve (a .level) (a .gap) (gr .group-of .result .next)) (sym (j .judge .ensures .taken-is) ∙ not-false _ (c .if1 .left)) in (
       v .0,
       omega (arith, g .past),
       simp length-set (v .2),

@@ -14,7 +14,9 @@ use Rattle.section_peaks.proofs.note_values.Statement.{statement}
 use Rattle.section_peaks.proofs.note_values.Tie as tie
 
 abbrev Inv-loop : tie.InvT-loop
-Inv-loop curve level gap work₀ last count₀ t₀ work count t = (last ≡ length curve - 1) × (count < t) × (length work ≡ length work₀) × AtPeak curve level t × Sofar (map (at curve) (keptFrom curve level gap 1)) (map (at curve) (keptFrom curve level gap t)) work₀ work count
+Inv-loop curve level gap work₀ last count₀ t₀ work count t =
+    (last ≡ length curve - 1) × (count < t) × (length work ≡ length work₀) × AtPeak curve level t
+    × Sofar (map (at curve) (keptFrom curve level gap 1)) (map (at curve) (keptFrom curve level gap t)) work₀ work count
 
 abbrev μ-loop : tie.MeasureT-loop
 μ-loop curve level gap work₀ last count₀ t₀ work count t = length curve - t

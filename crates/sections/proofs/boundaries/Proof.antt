@@ -1,4 +1,5 @@
--- `sections::boundaries` meets its contract: a number other than 0 returns at once, number 0 says all that the inner call asks (`boundaries-told`), and a curve that is too
+-- `sections::boundaries` meets its contract: a number other than 0 returns at once, number 0 says all that the inner call asks (`boundaries-told`),
+-- and a curve that is too
 -- short has no boundary. Assumes nothing.
 use mathlib.Core.Path.{_≡_, refl, sym, ap, _∙_}
 use Prim.Native.Nat.{ℕ, _-_}

@@ -19,15 +19,21 @@ use Rattle.sections.proofs.find.Tie as tie
 -- what is picked
 picked : (c : tie.After-pick-boundaries)
     → PickedIn (length (now (c .before .before .before .before .before .before .before .before .before .before .before .before .before .before .args .novelty)))
-    (keptGreatest (now (c .before .before .before .before .before .before .before .before .before .before .before .before .before .before .args .novelty)) (c .before .before .before .before .before .before .before .before .before .before .before .before .before .before .args .most) (sectionPeaks (now (c .before .before .before .before .before .before .before .before .before .before .before .before .before .before .args .novelty)) (c .before .before .before .before .before .before .before .before .before .before .before .before .before .before .args .gap)))
-    (now (c .before .before .before .before .before .before .before .before .before .before .before .before .before .before .args .rows)) (c .before .before .before .before .before .mad-in .last .1 .1 .0) (c .pick-boundaries .result) (c .pick-boundaries .last .1 .1 .1 .1 .0) (c .pick-boundaries .last .1 .1 .1 .1 .1 .0)
+    (keptGreatest (now (c .before .before .before .before .before .before .before .before .before .before .before .before .before .before .args
+    .novelty)) (c .before .before .before .before .before .before .before .before .before .before .before .before .before .before .args .most)
+    (sectionPeaks (now (c .before .before .before .before .before .before .before .before .before .before .before .before .before .before .args
+    .novelty)) (c .before .before .before .before .before .before .before .before .before .before .before .before .before .before .args .gap)))
+    (now (c .before .before .before .before .before .before .before .before .before .before .before .before .before .before .args .rows))
+    (c .before .before .before .before .before .mad-in .last .1 .1 .0) (c .pick-boundaries .result) (c .pick-boundaries .last .1 .1 .1 .1 .0)
+    (c .pick-boundaries .last .1 .1 .1 .1 .1 .0)
 picked c =
     let mad = c .before .before .before .before .before in
     let med = mad .before .before .before .before in
     picked-at _ _ _ _ _ (med .median-in .ensures .value) (mad .mad-in .ensures .value) (c .pick-boundaries .ensures)
 
 -- no more than the curve has slots
-few : (c : tie.After-pick-boundaries) → c .pick-boundaries .result ≤ length (now (c .before .before .before .before .before .before .before .before .before .before .before .before .before .before .args .novelty)) - 2
+few : (c : tie.After-pick-boundaries) → c .pick-boundaries .result ≤ length
+    (now (c .before .before .before .before .before .before .before .before .before .before .before .before .before .before .args .novelty)) - 2
 few c =
     let start = c .before .before .before .before .before .before .before .before .before .before .before .before .before .before in
     let n = picked c .picked .count-is in
@@ -56,8 +62,11 @@ part-confidence-of-end c =
 confidence-of-requires : tie.Need-confidence-of-requires
 confidence-of-requires c κs =
     let p = c .before .before .before .before .before .before in
-    let start = p .before .before .before .before .before .before .before .before .before .before .before .before .before .before in
-    (p .before .before .before .before .before .before .before .before .before .median-in .ensures .value, rw (picked-part _ _ _ _ (picked p .picked)) (picked-inside (now (start .args .novelty)) (start .args .gap) (start .args .most)))
+    let start = p .before .before .before .before .before .before .before .before .before .before .before .before .before .before in (
+      p .before .before .before .before .before .before .before .before .before .median-in .ensures .value,
+      rw (picked-part _ _ _ _ (picked p .picked))
+          (picked-inside (now (start .args .novelty)) (start .args .gap) (start .args .most)),
+    )
 
 add-t21 : tie.Need-add-t21
 add-t21 c = omega (arith, few (c .before .before .before .before .before .before .before))
@@ -74,7 +83,8 @@ returns c =
     let mad = p .before .before .before .before .before in
     let med = mad .before .before .before .before in
     let start = p .before .before .before .before .before .before .before .before .before .before .before .before .before .before in
-    found-picked _ _ _ _ _ _ _ _ (start .pre .0) refl refl (c .confidence-of .ensures ∙ ap (confidenceOf (now (start .args .novelty))) (picked-part _ _ _ _ (picked p .picked)))
+    found-picked _ _ _ _ _ _ _ _ (start .pre .0) refl refl (c .confidence-of .ensures
+    ∙ ap (confidenceOf (now (start .args .novelty))) (picked-part _ _ _ _ (picked p .picked)))
     (open-then _ _ _ _ (med .median-in .ensures .works) (mad .mad-in .ensures .works)) (picked p)
 
 pub find-spec : {M : Type 1} → statement M

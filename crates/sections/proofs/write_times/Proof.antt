@@ -1,4 +1,5 @@
--- `sections::write_times` meets its contract. The invariant: the slots up to i are written by the rule, and the list is as long as it was. The measure is what is left of
+-- `sections::write_times` meets its contract. The invariant: the slots up to i are written by the rule, and the list is as long as it was. The
+-- measure is what is left of
 -- the rows. Slot by slot is entry by entry (`filled-map`). Assumes nothing.
 use mathlib.Core.Path.{_≡_, refl, sym, ap, _∙_}
 use Prim.Native.Nat.{ℕ, _≤_, _-_}

@@ -88,7 +88,8 @@ loop-again c =
       omega arith,
       simp length-set (l .loop .inv .1),
       rw (l .loop .inv .2, c .settle .ensures)
-          (ap (λ (k : ℕ). set (filled f (now (a .similarity)) at (at + d)) (at + d) (settled (getD (now (a .quotients)) k nan) (getD (now (a .norms)) (a .c) nan) (getD (now (a .norms)) (a .c + k) nan))) (sym e)
+          (ap (λ (k : ℕ). set (filled f (now (a .similarity)) at (at + d)) (at + d)
+          (settled (getD (now (a .quotients)) k nan) (getD (now (a .norms)) (a .c) nan) (getD (now (a .norms)) (a .c + k) nan))) (sym e)
           ∙ filled-to f (now (a .similarity)) at (at + d) (at + (d + 1)) (omega arith) nan (omega arith) (omega arith)),
     )
 

@@ -59,13 +59,15 @@ returns c =
     let sums : List Float = d .row-dots .result in
     let quotients : List Float = v .divide .last .0 in
     let place : a .first + column ≡ i = omega arith in
-    let wrote : c .before .before .put-row .last .1 .1 .1 .1 .0 ≡ filled (settledFrom quotients norms column (i * 17)) (now (a .similarity)) (i * 17) (i * 17 + 17) =
+    let wrote : c .before .before .put-row .last .1 .1 .1 .1 .0 ≡ filled (settledFrom quotients norms column (i * 17)) (now (a .similarity)) (i * 17)
+    (i * 17 + 17) =
     c .before .before .put-row .ensures in
     let divided : quotients ≡ filled (laneQuotient sums norms column) sums 0 17 = v .divide .ensures in
     let others : (e : ℕ) → 0 < e → e < 17 → getD sums e nan ≡ dotOf (featureRow features i) (turnedColumn (now (a .turned)) (column + e)) =
     λ e p q. d .row-dots .ensures .2 e p q ∙ ap (λ (x : List Float). dotOf x (turnedColumn (now (a .turned)) (column + e))) (f .feature-row .ensures) in
     wrote
-    ∙ row-slots features (a .rows) (a .first) (now (a .turned)) (now (a .squares)) norms (s .pre .0) (s .pre .5) i column place (omega arith) (s .pre .2) sums quotients
+    ∙ row-slots features (a .rows) (a .first) (now (a .turned)) (now (a .squares)) norms (s .pre .0) (s .pre .5) i column place (omega arith)
+    (s .pre .2) sums quotients
     (d .row-dots .ensures .0) (d .row-dots .ensures .1) others divided (now (a .similarity))
 
 pub put-slots-spec : {M : Type 1} → statement M

@@ -33,8 +33,11 @@ same-length-3 c = search needs
 
 returns-2 : tie.Need-returns-2
 returns-2 c =
-    let a = both-accepted _ _ _ _ _ _ _ (sym (c .before .before .before .before .before .before .before .before .before .before .before .before .refusal .ensures) ∙ c .before .before .before .before .before .before .before .before .before .before .before .if1 .left) in
-    steadied-shared _ _ _ _ _ _ _ _ _ _ _ _ _ (c .before .before .before .before .before .before .before .before .before .before .before .before .refusal .ensures) (c .before .before .before .before .before .before .before .before .before .before .before .if1 .left) (ranged _ _ _ (c .before .before .before .before .before .before .before .before .before .before .lag-range .ensures) (a .bounds))
+    let a = both-accepted _ _ _ _ _ _ _ (sym (c .before .before .before .before .before .before .before .before .before .before .before .before
+    .refusal .ensures) ∙ c .before .before .before .before .before .before .before .before .before .before .before .if1 .left) in
+    steadied-shared _ _ _ _ _ _ _ _ _ _ _ _ _ (c .before .before .before .before .before .before .before .before .before .before .before .before
+    .refusal .ensures) (c .before .before .before .before .before .before .before .before .before .before .before .if1 .left)
+    (ranged _ _ _ (c .before .before .before .before .before .before .before .before .before .before .lag-range .ensures) (a .bounds))
     (c .before .before .before .before .before .before .share .ensures)
 
 pub stability-of-spec : {M : Type 1} → statement M

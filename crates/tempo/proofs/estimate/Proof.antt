@@ -32,8 +32,11 @@ same-length-2 c = search needs
 
 returns-2 : tie.Need-returns-2
 returns-2 c =
-    let a = accepted _ _ _ _ _ _ (sym (c .before .before .before .before .before .before .before .before .before .search-refusal .ensures) ∙ c .before .before .before .before .before .before .before .before .if1 .left) in
-    estimated-told _ _ _ _ _ _ _ _ _ _ _ _ (c .before .before .before .before .before .before .before .before .before .search-refusal .ensures) (c .before .before .before .before .before .before .before .before .if1 .left) (ranged _ _ _ (c .before .before .before .before .before .before .before .lag-range .ensures) (a .bounds))
+    let a = accepted _ _ _ _ _ _ (sym (c .before .before .before .before .before .before .before .before .before .search-refusal .ensures)
+    ∙ c .before .before .before .before .before .before .before .before .if1 .left) in
+    estimated-told _ _ _ _ _ _ _ _ _ _ _ _ (c .before .before .before .before .before .before .before .before .before .search-refusal .ensures)
+    (c .before .before .before .before .before .before .before .before .if1 .left)
+    (ranged _ _ _ (c .before .before .before .before .before .before .before .lag-range .ensures) (a .bounds))
     (c .before .before .before .before .tempo-in .ensures)
 
 pub estimate-spec : {M : Type 1} → statement M

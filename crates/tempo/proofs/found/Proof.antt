@@ -26,12 +26,14 @@ returns c =
 
 candidate-at-requires-2 : tie.Need-candidate-at-requires-2
 candidate-at-requires-2 c κs =
-    let h : c .before .first-apart .result < length (c .before .before .before .before .before .before .args .weight .now) = first-slot _ _ _ (c .before .first-apart .ensures) (c .if1 .left) in
+    let h : c .before .first-apart .result < length (c .before .before .before .before .before .before .args .weight .now) =
+    first-slot _ _ _ (c .before .first-apart .ensures) (c .if1 .left) in
     search needs
 
 first-apart-requires-2 : tie.Need-first-apart-requires-2
 first-apart-requires-2 c κs =
-    let h : c .before .before .first-apart .result < length (c .before .before .before .before .before .before .before .args .weight .now) = first-slot _ _ _ (c .before .before .first-apart .ensures) (c .before .if1 .left) in
+    let h : c .before .before .first-apart .result < length (c .before .before .before .before .before .before .before .args .weight .now) =
+    first-slot _ _ _ (c .before .before .first-apart .ensures) (c .before .if1 .left) in
     search needs
 
 returns-2 : tie.Need-returns-2
@@ -46,7 +48,8 @@ returns-2 c =
 
 candidate-at-requires-3 : tie.Need-candidate-at-requires-3
 candidate-at-requires-3 c κs =
-    let h : c .before .first-apart2 .result < length (c .before .before .before .before .before .before .before .before .before .args .weight .now) = first-slot _ _ _ (c .before .first-apart2 .ensures) (c .if2 .left) in
+    let h : c .before .first-apart2 .result < length (c .before .before .before .before .before .before .before .before .before .args .weight .now) =
+    first-slot _ _ _ (c .before .first-apart2 .ensures) (c .if2 .left) in
     search needs
 
 returns-3 : tie.Need-returns-3

@@ -19,16 +19,24 @@ has-room-requires : tie.Need-has-room-requires
 has-room-requires c κs = sym (c .before .bounds-fine .ensures) ∙ not-false _ (c .if2 .left)
 
 returns-3 : tie.Need-returns-3
-returns-3 c = too-little-room _ _ _ _ _ _ (c .before .before .before .before .if1 .left) (sym (c .before .before .before .bounds-fine .ensures) ∙ not-false _ (c .before .before .if2 .left)) (sym (c .before .has-room .ensures) ∙ not-true _ (c .if3 .taken))
+returns-3 c = too-little-room _ _ _ _ _ _ (c .before .before .before .before .if1 .left)
+    (sym (c .before .before .before .bounds-fine .ensures) ∙ not-false _ (c .before .before .if2 .left))
+    (sym (c .before .has-room .ensures) ∙ not-true _ (c .if3 .taken))
 
 values-fine-requires : tie.Need-values-fine-requires
 values-fine-requires c κs = search needs
 
 returns-4 : tie.Need-returns-4
-returns-4 c = wrong-value _ _ _ _ _ _ (c .before .before .before .before .before .before .if1 .left) (sym (c .before .before .before .before .before .bounds-fine .ensures) ∙ not-false _ (c .before .before .before .before .if2 .left)) (sym (c .before .before .before .has-room .ensures) ∙ not-false _ (c .before .before .if3 .left)) (sym (c .before .values-fine .ensures) ∙ not-true _ (c .if4 .taken))
+returns-4 c = wrong-value _ _ _ _ _ _ (c .before .before .before .before .before .before .if1 .left)
+    (sym (c .before .before .before .before .before .bounds-fine .ensures) ∙ not-false _ (c .before .before .before .before .if2 .left))
+    (sym (c .before .before .before .has-room .ensures) ∙ not-false _ (c .before .before .if3 .left))
+    (sym (c .before .values-fine .ensures) ∙ not-true _ (c .if4 .taken))
 
 returns-5 : tie.Need-returns-5
-returns-5 c = nothing-refused _ _ _ _ _ _ (c .before .before .before .before .before .before .if1 .left) (sym (c .before .before .before .before .before .bounds-fine .ensures) ∙ not-false _ (c .before .before .before .before .if2 .left)) (sym (c .before .before .before .has-room .ensures) ∙ not-false _ (c .before .before .if3 .left)) (sym (c .before .values-fine .ensures) ∙ not-false _ (c .if4 .left))
+returns-5 c = nothing-refused _ _ _ _ _ _ (c .before .before .before .before .before .before .if1 .left)
+    (sym (c .before .before .before .before .before .bounds-fine .ensures) ∙ not-false _ (c .before .before .before .before .if2 .left))
+    (sym (c .before .before .before .has-room .ensures) ∙ not-false _ (c .before .before .if3 .left))
+    (sym (c .before .values-fine .ensures) ∙ not-false _ (c .if4 .left))
 
 pub search-refusal-spec : {M : Type 1} → statement M
 search-refusal-spec =

@@ -31,7 +31,11 @@ same-length-2 c = search needs
 
 returns-2 : tie.Need-returns-2
 returns-2 c =
-    told-none _ _ _ _ _ _ _ _ _ _ (c .before .before .before .before .before .before .winning-lag .ensures) (sym (c .before .before .before .before .before .before .before .before .before .before .too-little .ensures) ∙ c .before .before .before .before .before .before .before .before .before .if1 .left) _ (c .before .before .before .before .before .before .before .before .before .before .before .before .before .before .pre .0 .0) (c .before .if2 .taken) (c .without-tempo2 .ensures)
+    told-none _ _ _ _ _ _ _ _ _ _ (c .before .before .before .before .before .before .winning-lag .ensures)
+    (sym (c .before .before .before .before .before .before .before .before .before .before .too-little .ensures)
+    ∙ c .before .before .before .before .before .before .before .before .before .if1 .left) _
+    (c .before .before .before .before .before .before .before .before .before .before .before .before .before .before .pre .0 .0)
+    (c .before .if2 .taken) (c .without-tempo2 .ensures)
 
 lag-slots-requires : tie.Need-lag-slots-requires
 lag-slots-requires c κs = search needs
@@ -56,13 +60,19 @@ part-found-end-2 c = search needs
 
 sub-found-3 : tie.Need-sub-found-3
 sub-found-3 c =
-    let h = lag-is _ _ _ _ _ _ _ _ _ _ (c .before .before .before .before .before .before .before .before .before .before .winning-lag .ensures) (sym (c .before .before .before .before .before .before .before .before .before .before .before .before .before .before .too-little .ensures) ∙ c .before .before .before .before .before .before .before .before .before .before .before .before .before .if1 .left) (c .before .before .before .before .before .if2 .left) in
+    let h = lag-is _ _ _ _ _ _ _ _ _ _ (c .before .before .before .before .before .before .before .before .before .before .winning-lag .ensures)
+    (sym (c .before .before .before .before .before .before .before .before .before .before .before .before .before .before .too-little .ensures)
+    ∙ c .before .before .before .before .before .before .before .before .before .before .before .before .before .if1 .left)
+    (c .before .before .before .before .before .if2 .left) in
     search needs
 
 found-requires : tie.Need-found-requires
 found-requires c κs =
     let s = c .before .before .before .before .before .before .before .before .before .before .before .before .before .before .before .before .before .before in
-    found-asks _ _ _ _ _ _ _ _ _ _ (c .before .before .before .before .before .before .before .before .before .before .winning-lag .ensures) (sym (c .before .before .before .before .before .before .before .before .before .before .before .before .before .before .too-little .ensures) ∙ c .before .before .before .before .before .before .before .before .before .before .before .before .before .if1 .left) (c .before .before .before .before .before .if2 .left) _ (c .before .before .before .before .lag-slots .ensures)
+    found-asks _ _ _ _ _ _ _ _ _ _ (c .before .before .before .before .before .before .before .before .before .before .winning-lag .ensures)
+    (sym (c .before .before .before .before .before .before .before .before .before .before .before .before .before .before .too-little .ensures)
+    ∙ c .before .before .before .before .before .before .before .before .before .before .before .before .before .if1 .left)
+    (c .before .before .before .before .before .if2 .left) _ (c .before .before .before .before .lag-slots .ensures)
     (s .pre .0 .0)
     (s .pre .0 .1)
     (s .pre .0 .2)
@@ -75,7 +85,10 @@ same-length-4 c = search needs
 
 returns-3 : tie.Need-returns-3
 returns-3 c =
-    told-found _ _ _ _ _ _ _ _ _ _ (c .before .before .before .before .before .before .before .before .before .before .before .winning-lag .ensures) (sym (c .before .before .before .before .before .before .before .before .before .before .before .before .before .before .before .too-little .ensures) ∙ c .before .before .before .before .before .before .before .before .before .before .before .before .before .before .if1 .left) (c .before .before .before .before .before .before .if2 .left) _ (c .before .before .before .before .before .lag-slots .ensures) _ (c .found .ensures)
+    told-found _ _ _ _ _ _ _ _ _ _ (c .before .before .before .before .before .before .before .before .before .before .before .winning-lag .ensures)
+    (sym (c .before .before .before .before .before .before .before .before .before .before .before .before .before .before .before .too-little
+    .ensures) ∙ c .before .before .before .before .before .before .before .before .before .before .before .before .before .before .if1 .left)
+    (c .before .before .before .before .before .before .if2 .left) _ (c .before .before .before .before .before .lag-slots .ensures) _ (c .found .ensures)
 
 pub tempo-in-spec : {M : Type 1} → statement M
 tempo-in-spec =

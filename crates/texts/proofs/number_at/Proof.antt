@@ -29,15 +29,19 @@ returns : tie.Need-returns Inv-loop μ-loop
 returns c =
     let l = c .before .before .before in
     let text = now (l .before .before .args .text) in
-    let e : leading (drop (l .loop .place) text) ≡ [] = leading-other text (l .loop .place) (omega arith) (digit-low (getD text (l .loop .place) 0) (c .if1 .taken)) in
-    sym (l .loop .inv .1 ∙ ap (λ (r : List ℕ). min (numberFrom (l .loop .v) r) (l .before .before .args .most)) e ∙ held-none (l .before .before .args .most) (l .loop .v) (l .loop .inv .0))
+    let e : leading (drop (l .loop .place) text) ≡ [] = leading-other text (l .loop .place) (omega arith)
+    (digit-low (getD text (l .loop .place) 0) (c .if1 .taken)) in
+    sym (l .loop .inv .1 ∙ ap (λ (r : List ℕ). min (numberFrom (l .loop .v) r) (l .before .before .args .most)) e
+    ∙ held-none (l .before .before .args .most) (l .loop .v) (l .loop .inv .0))
 
 returns-2 : tie.Need-returns-2 Inv-loop μ-loop
 returns-2 c =
     let l = c .before .before .before .before in
     let text = now (l .before .before .args .text) in
-    let e : leading (drop (l .loop .place) text) ≡ [] = leading-other text (l .loop .place) (omega arith) (digit-high (getD text (l .loop .place) 0) (c .if2 .taken)) in
-    sym (l .loop .inv .1 ∙ ap (λ (r : List ℕ). min (numberFrom (l .loop .v) r) (l .before .before .args .most)) e ∙ held-none (l .before .before .args .most) (l .loop .v) (l .loop .inv .0))
+    let e : leading (drop (l .loop .place) text) ≡ [] = leading-other text (l .loop .place) (omega arith)
+    (digit-high (getD text (l .loop .place) 0) (c .if2 .taken)) in
+    sym (l .loop .inv .1 ∙ ap (λ (r : List ℕ). min (numberFrom (l .loop .v) r) (l .before .before .args .most)) e
+    ∙ held-none (l .before .before .args .most) (l .loop .v) (l .loop .inv .0))
 
 one-more-requires : tie.Need-one-more-requires Inv-loop μ-loop
 one-more-requires c κs = omega arith
@@ -53,7 +57,8 @@ loop-again c =
     let l = c .before .before .before .before .before in
     let text = now (l .before .before .args .text) in
     let x = getD text (l .loop .place) 0 in
-    let e : leading (drop (l .loop .place) text) ≡ x ∷ leading (drop (l .loop .place + 1) text) = leading-digit text (l .loop .place) (omega arith) (digit-in x (omega arith) (omega arith)) in
+    let e : leading (drop (l .loop .place) text) ≡ x ∷ leading (drop (l .loop .place + 1) text) =
+    leading-digit text (l .loop .place) (omega arith) (digit-in x (omega arith) (omega arith)) in
     let rest = leading (drop (l .loop .place + 1) text) in (
       omega (arith, c .one-more .ensures),
       l .loop .inv .1
@@ -67,7 +72,8 @@ returns-3 c =
     let l = c .before in
     let text = now (l .before .before .args .text) in
     let e : leading (drop (l .loop .place) text) ≡ [] = leading-end text (l .loop .place) (omega arith) in
-    sym (l .loop .inv .1 ∙ ap (λ (r : List ℕ). min (numberFrom (l .loop .v) r) (l .before .before .args .most)) e ∙ held-none (l .before .before .args .most) (l .loop .v) (l .loop .inv .0))
+    sym (l .loop .inv .1 ∙ ap (λ (r : List ℕ). min (numberFrom (l .loop .v) r) (l .before .before .args .most)) e
+    ∙ held-none (l .before .before .args .most) (l .loop .v) (l .loop .inv .0))
 
 pub number-at-spec : {M : Type 1} → statement M
 number-at-spec =

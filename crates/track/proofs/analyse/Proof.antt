@@ -23,7 +23,13 @@ follow-requires c κs =
     let l = e .before .before .before .before .before .before .before .before .before .before in
     let r = l .before .before .before .before .before .before .before .before .before .before .before .before .before .before .before .before .pre in
     let long = work-long _ _ _ _ _ _ _ _ _ _ _ _ _ _ r _ _ _ _ (l .list-onsets .ensures) _ _ _ _ (e .estimate .ensures) in (
-      (r .rows, r .values, lag-most _ _ _ _ _ _ _ _ _ _ _ _ _ _ r _ _ _ _ (l .list-onsets .ensures) _ _ _ _ (e .estimate .ensures) _ (w .winners-lag .ensures), r .bounds),
+      (
+        r .rows,
+        r .values,
+        lag-most _ _ _ _ _ _ _ _ _ _ _ _ _ _ r _ _ _ _ (l .list-onsets .ensures) _ _ _ _ (e .estimate .ensures) _
+            (w .winners-lag .ensures),
+        r .bounds,
+      ),
       (
         (r .scores, r .links, r .beat-lists, r .downbeat-lists),
         (r .window-clarities, r .window-weights, omega (arith, r .lag-works, long)),
@@ -31,37 +37,53 @@ follow-requires c κs =
     )
 
 same-length : tie.Need-same-length
-same-length c = c .before .before .before .before .before .before .before .before .before .before .before .before .before .before .before .before .before .before .before .before .before .before .before .before .before .before .before .before .before .before .before .before .before .before .before .before .before .before .before .before .list-onsets .kept .1 .1 .0
+same-length c = c .before .before .before .before .before .before .before .before .before .before .before .before .before .before .before .before
+    .before .before .before .before .before .before .before .before .before .before .before .before .before .before .before .before .before .before
+    .before .before .before .before .before .before .list-onsets .kept .1 .1 .0
 
 same-length-2 : tie.Need-same-length-2
-same-length-2 c = c .before .before .before .before .before .before .before .before .before .before .before .before .before .before .before .before .before .before .before .before .before .before .before .before .before .before .before .before .before .before .before .before .before .before .before .before .before .before .before .before .list-onsets .kept .1 .1 .1 .0
+same-length-2 c = c .before .before .before .before .before .before .before .before .before .before .before .before .before .before .before .before
+    .before .before .before .before .before .before .before .before .before .before .before .before .before .before .before .before .before .before
+    .before .before .before .before .before .before .list-onsets .kept .1 .1 .1 .0
 
 same-length-3 : tie.Need-same-length-3
-same-length-3 c = c .before .before .before .before .before .before .before .before .before .before .before .before .before .before .before .before .before .before .before .before .before .before .before .before .before .before .before .before .before .before .estimate .kept .1 .1 .1 .1 .0
+same-length-3 c = c .before .before .before .before .before .before .before .before .before .before .before .before .before .before .before .before
+    .before .before .before .before .before .before .before .before .before .before .before .before .before .before .estimate .kept .1 .1 .1 .1 .0
 
 same-length-4 : tie.Need-same-length-4
-same-length-4 c = c .before .before .before .before .before .before .before .before .before .before .before .before .before .before .before .before .before .before .before .before .before .before .before .before .before .before .before .before .before .before .estimate .kept .1 .1 .1 .1 .1 .0
+same-length-4 c = c .before .before .before .before .before .before .before .before .before .before .before .before .before .before .before .before
+    .before .before .before .before .before .before .before .before .before .before .before .before .before .before .estimate .kept .1 .1 .1 .1 .1 .0
 
 same-length-5 : tie.Need-same-length-5
 same-length-5 c = c .before .before .before .before .before .before .before .before .before .before .before .before .before .before .follow .kept .1 .1 .1 .1 .0
 
 same-length-6 : tie.Need-same-length-6
-same-length-6 c = c .before .before .before .before .before .before .before .before .before .before .before .before .before .before .follow .kept .1 .1 .1 .1 .1 .0
+same-length-6 c = c .before .before .before .before .before .before .before .before .before .before .before .before .before .before .follow .kept .1
+    .1 .1 .1 .1 .0
 
 same-length-7 : tie.Need-same-length-7
-same-length-7 c = c .before .before .before .before .before .before .before .before .before .before .before .before .before .before .follow .kept .1 .1 .1 .1 .1 .1 .0
+same-length-7 c = c .before .before .before .before .before .before .before .before .before .before .before .before .before .before .follow .kept .1
+    .1 .1 .1 .1 .1 .0
 
 same-length-8 : tie.Need-same-length-8
-same-length-8 c = c .before .before .before .before .before .before .before .before .before .before .before .before .before .before .follow .kept .1 .1 .1 .1 .1 .1 .1 .0
+same-length-8 c = c .before .before .before .before .before .before .before .before .before .before .before .before .before .before .follow .kept .1
+    .1 .1 .1 .1 .1 .1 .0
 
 same-length-9 : tie.Need-same-length-9
-same-length-9 c = c .before .before .before .before .before .before .before .before .before .before .before .before .before .before .follow .kept .1 .1 .1 .1 .1 .1 .1 .1 .0
+same-length-9 c = c .before .before .before .before .before .before .before .before .before .before .before .before .before .before .follow .kept .1
+    .1 .1 .1 .1 .1 .1 .1 .0
 
 same-length-10 : tie.Need-same-length-10
-same-length-10 c = c .before .before .before .before .before .before .before .before .before .before .before .before .before .before .follow .kept .1 .1 .1 .1 .1 .1 .1 .1 .1 .0
+same-length-10 c = c .before .before .before .before .before .before .before .before .before .before .before .before .before .before .follow .kept .1
+    .1 .1 .1 .1 .1 .1 .1 .1 .0
 
 same-length-11 : tie.Need-same-length-11
-same-length-11 c = c .before .before .before .before .before .before .before .before .before .before .before .before .before .before .follow .kept .1 .1 .1 .1 .1 .1 .1 .1 .1 .1 .0 ∙ c .before .before .before .before .before .before .before .before .before .before .before .before .before .before .before .before .before .before .before .before .before .before .before .before .before .before .before .before .before .before .estimate .kept .1 .1 .1 .1 .1 .1 .0 ∙ c .before .before .before .before .before .before .before .before .before .before .before .before .before .before .before .before .before .before .before .before .before .before .before .before .before .before .before .before .before .before .before .before .before .before .before .before .before .before .before .before .list-onsets .kept .1 .1 .1 .1 .0
+same-length-11 c = c .before .before .before .before .before .before .before .before .before .before .before .before .before .before .follow .kept .1
+    .1 .1 .1 .1 .1 .1 .1 .1 .1 .0 ∙ c .before .before .before .before .before .before .before .before .before .before .before .before .before .before
+    .before .before .before .before .before .before .before .before .before .before .before .before .before .before .before .before .estimate .kept .1
+    .1 .1 .1 .1 .1 .0 ∙ c .before .before .before .before .before .before .before .before .before .before .before .before .before .before .before
+    .before .before .before .before .before .before .before .before .before .before .before .before .before .before .before .before .before .before
+    .before .before .before .before .before .before .before .list-onsets .kept .1 .1 .1 .1 .0
 
 returns : tie.Need-returns
 returns c =
@@ -70,7 +92,8 @@ returns c =
     let e = w .before .before .before .before .before .before .before .before in
     let l = e .before .before .before .before .before .before .before .before .before .before in
     let r = l .before .before .before .before .before .before .before .before .before .before .before .before .before .before .before .before .pre in
-    analysed-by _ _ _ _ _ _ _ _ _ _ _ _ _ _ r _ _ _ _ (l .list-onsets .ensures) _ _ _ _ (e .estimate .ensures) _ (w .winners-lag .ensures) _ _ _ _ _ _ _ _ (f .follow .ensures)
+    analysed-by _ _ _ _ _ _ _ _ _ _ _ _ _ _ r _ _ _ _ (l .list-onsets .ensures) _ _ _ _ (e .estimate .ensures) _ (w .winners-lag .ensures) _ _ _ _ _ _
+    _ _ (f .follow .ensures)
 
 pub analyse-spec : {M : Type 1} → statement M
 analyse-spec =

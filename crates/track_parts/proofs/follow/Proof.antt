@@ -39,7 +39,8 @@ returns-2 c =
     let l = c .before .before .before .before .before .before .before .before in
     let s = l .before .before .before .before .before .before .before .before .before .before .before in
     let p = s .before .before .before .before .before .before .before .before .before .before .before .before .before .pre in
-    followed-by _ _ _ _ _ _ _ _ _ _ _ _ _ _ _ _ _ _ _ _ (p .0 .0) (p .0 .3) (p .0 .1) (p .0 .2) (p .1 .1 .0) (p .1 .1 .1) (p .1 .1 .2) (s .before .before .before .before .if1 .left) (s .stability-of .ensures) (l .lay-beats .ensures)
+    followed-by _ _ _ _ _ _ _ _ _ _ _ _ _ _ _ _ _ _ _ _ (p .0 .0) (p .0 .3) (p .0 .1) (p .0 .2) (p .1 .1 .0) (p .1 .1 .1) (p .1 .1 .2)
+    (s .before .before .before .before .if1 .left) (s .stability-of .ensures) (l .lay-beats .ensures)
 
 pub follow-spec : {M : Type 1} → statement M
 follow-spec =

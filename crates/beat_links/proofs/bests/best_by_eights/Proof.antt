@@ -64,16 +64,19 @@ loop-again c =
     let s = k .least .result in
     let is = k .least .ensures in
     let m : min (u + 8) (a .end) ≡ s + 8 = omega arith in
-    let now-lt : lt (l .loop .value) (topOfEight f s) ≡ lt (l .loop .value) (t .top-of-eight .result) = ap (lt (l .loop .value)) (sym (t .top-of-eight .ensures)) in (
+    let now-lt : lt (l .loop .value) (topOfEight f s) ≡ lt (l .loop .value) (t .top-of-eight .result) =
+    ap (lt (l .loop .value)) (sym (t .top-of-eight .ensures)) in (
       omega arith,
       omega arith,
       ⊎-elim
           (λ w.
           moved f (a .lo) (s + 8) (min (u + 8) (a .end)) (a .end) (c .if1 .value) (topOfEight f s) (c .if1 .at) s m (w .1 ∙ t .top-of-eight .ensures) (w .2)
-          (rises f (a .lo) (min u (a .end)) (a .end) (l .loop .value) (l .loop .at) s (s + 8) (omega arith) (omega arith) refl (omega arith) (omega arith) (l .loop .inv .2) (now-lt ∙ w .0 .taken)))
+          (rises f (a .lo) (min u (a .end)) (a .end) (l .loop .value) (l .loop .at) s (s + 8) (omega arith) (omega arith) refl (omega arith)
+          (omega arith) (l .loop .inv .2) (now-lt ∙ w .0 .taken)))
           (λ w.
           moved f (a .lo) (s + 8) (min (u + 8) (a .end)) (a .end) (c .if1 .value) (l .loop .value) (c .if1 .at) (l .loop .at) m (w .1) (w .2)
-          (stays f (a .lo) (min u (a .end)) (a .end) (l .loop .value) (l .loop .at) s (s + 8) (omega arith) (omega arith) refl (omega arith) (omega arith) (l .loop .inv .2) (now-lt ∙ w .0 .left)))
+          (stays f (a .lo) (min u (a .end)) (a .end) (l .loop .value) (l .loop .at) s (s + 8) (omega arith) (omega arith) refl (omega arith)
+          (omega arith) (l .loop .inv .2) (now-lt ∙ w .0 .left)))
           (c .if1 .came),
     )
 

@@ -46,7 +46,8 @@ loop-holds c =
     let f = extended (a .period) (now (a .score)) (a .t) in
     let is = c .up .ensures ∙ ap (larger nought) (e .extended-at .ensures ∙ ap f (l .less .ensures)) in (
       omega arith,
-      subst (λ (w : Float). le w (greatest f (a .lo) (a .end - a .lo) unlinked .value) ≡ true) (sym is) (greatest-reaches f (a .lo) (a .end - a .lo) (a .t - a .period) (omega arith) (omega arith)),
+      subst (λ (w : Float). le w (greatest f (a .lo) (a .end - a .lo) unlinked .value) ≡ true) (sym is)
+          (greatest-reaches f (a .lo) (a .end - a .lo) (a .t - a .period) (omega arith) (omega arith)),
       refl,
     )
 
@@ -88,7 +89,8 @@ loop-again c =
           (λ w.
           ap (λ (y : Float). greatest f (u + 1) (a .end - (u + 1)) (best y (c .if1 .at))) (w .1)
           ∙ ap (λ (k : ℕ). greatest f (u + 1) (a .end - (u + 1)) (best v k)) (w .2)
-          ∙ greatest-skip f u (a .end) v (l .before .up .result) b h reaches (not-reached (a .period) (now (a .score)) (a .t) u (l .before .up .result) holds (w .0 .left)))))
+          ∙ greatest-skip f u (a .end) v (l .before .up .result) b h reaches
+          (not-reached (a .period) (now (a .score)) (a .t) u (l .before .up .result) holds (w .0 .left)))))
           (c .if1 .came)
           ∙ l .loop .inv .2,
     )
@@ -97,7 +99,8 @@ returns : tie.Need-returns Inv-loop μ-loop
 returns c =
     let l = c .before in
     let a = l .before .before .before .before .before .args in
-    greatest-end (extended (a .period) (now (a .score)) (a .t)) (l .loop .u) (a .end) (best (l .loop .value) (l .loop .at)) (c .loop-test .left) ∙ l .loop .inv .2
+    greatest-end (extended (a .period) (now (a .score)) (a .t)) (l .loop .u) (a .end) (best (l .loop .value) (l .loop .at)) (c .loop-test .left)
+    ∙ l .loop .inv .2
 
 pub best-computed-spec : {M : Type 1} → statement M
 best-computed-spec =

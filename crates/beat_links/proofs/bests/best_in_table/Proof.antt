@@ -43,7 +43,8 @@ loop-again c =
     let a = l .before .before .before .args in
     let h : l .loop .u < a .end = omega arith in
     let step =
-    greatest-step (tabled (now (a .table)) (now (a .score)) (a .first) (a .lo)) (l .loop .u) (a .end) (l .loop .value) (c .if1 .value) (k .result) (l .loop .at) (c .if1 .at)
+    greatest-step (tabled (now (a .table)) (now (a .score)) (a .first) (a .lo)) (l .loop .u) (a .end) (l .loop .value) (c .if1 .value) (k .result)
+    (l .loop .at) (c .if1 .at)
     in (
       omega arith,
       ⊎-elim (λ w. step true h (k .ensures) (w .0 .taken) (w .1) (w .2)) (λ w. step false h (k .ensures) (w .0 .left) (w .1) (w .2)) (c .if1 .came)
@@ -54,7 +55,8 @@ returns : tie.Need-returns Inv-loop μ-loop
 returns c =
     let l = c .before in
     let a = l .before .before .before .args in
-    greatest-end (tabled (now (a .table)) (now (a .score)) (a .first) (a .lo)) (l .loop .u) (a .end) (best (l .loop .value) (l .loop .at)) (c .loop-test .left) ∙ l .loop .inv .1
+    greatest-end (tabled (now (a .table)) (now (a .score)) (a .first) (a .lo)) (l .loop .u) (a .end) (best (l .loop .value) (l .loop .at))
+    (c .loop-test .left) ∙ l .loop .inv .1
 
 pub best-in-table-spec : {M : Type 1} → statement M
 best-in-table-spec =

@@ -59,7 +59,8 @@ loop-again c =
       omega arith,
       omega arith,
       λ i p q. ⊎-elim (λ (h : i < u). l .loop .inv .2 i p h)
-          (λ (h : u ≤ i). let z : i ≡ u = omega arith in ap (λ (j : ℕ). le (a .value) (f j)) z ∙ ap (le (a .value)) (sym (k .tabled-at .ensures)) ∙ c .if1 .left)
+          (λ (h : u ≤ i). let z : i ≡ u = omega arith in ap (λ (j : ℕ). le (a .value) (f j)) z ∙ ap (le (a .value)) (sym (k .tabled-at .ensures))
+          ∙ c .if1 .left)
           (lt-or-le i u),
     )
 
@@ -67,7 +68,8 @@ returns-2 : tie.Need-returns-2 Inv-loop μ-loop
 returns-2 c =
     let l = c .before in
     let a = l .before .before .before .args in
-    missed (tabled (now (a .table)) (now (a .score)) (a .first) (a .lo)) (a .lo) (a .end) (a .at) (a .value) (l .before .before .before .pre .3) (l .loop .u) (omega arith) (l .loop .inv .2)
+    missed (tabled (now (a .table)) (now (a .score)) (a .first) (a .lo)) (a .lo) (a .end) (a .at) (a .value) (l .before .before .before .pre .3)
+    (l .loop .u) (omega arith) (l .loop .inv .2)
 
 pub first-reaching-spec : {M : Type 1} → statement M
 first-reaching-spec =

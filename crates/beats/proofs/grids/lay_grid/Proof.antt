@@ -21,12 +21,15 @@ use borrow.Author.Needs.{needs}
 use Rattle.beats.proofs.grids.lay_grid.Statement.{statement}
 use Rattle.beats.proofs.grids.lay_grid.Tie as tie
 
-module _ (period : ℕ) (flux : ℕ → Float) (n : ℕ) (score₀ score : List Float) (back₀ back : List ℕ) (some : 1 ≤ period) (w : Tracked period flux n score₀ score back₀ back) where
+module _ (period : ℕ) (flux : ℕ → Float) (n : ℕ) (score₀ score : List Float) (back₀ back : List ℕ) (some : 1 ≤ period)
+    (w : Tracked period flux n score₀ score back₀ back) where
   value-read : (t : ℕ) → t < n → valueAt score t ≡ valueAt (scores period flux n) t
-  value-read t h = ap (λ (l : List Float). getD l t nan) (w .scores-are) ∙ getD-listed-in (scores period flux n) score₀ t nan (omega (arith, length-scores period flux n))
+  value-read t h = ap (λ (l : List Float). getD l t nan) (w .scores-are)
+      ∙ getD-listed-in (scores period flux n) score₀ t nan (omega (arith, length-scores period flux n))
 
   link-written : (t : ℕ) → t < n → linkAt back t ≡ linkAt (links period flux n) t
-  link-written t h = ap (λ (l : List ℕ). getD l t noLink) (w .links-are) ∙ getD-listed-in (links period flux n) back₀ t noLink (omega (arith, length-links period flux n))
+  link-written t h = ap (λ (l : List ℕ). getD l t noLink) (w .links-are)
+      ∙ getD-listed-in (links period flux n) back₀ t noLink (omega (arith, length-links period flux n))
 
   module _ (end : ℕ) (inside : end < n) where
     down : Descends (linkAt back) end
@@ -58,8 +61,13 @@ store-beats-requires : tie.Need-store-beats-requires
 store-beats-requires c κs =
     let f = c .before .before .before .before .first-greatest in
     let t = c .before .before .before .before .before .before .before .before .before .before in
-    let p = t .before .before .before .before .before .before .before .pre in
-    (omega arith, omega arith, omega arith, down _ _ _ _ _ _ _ (p .0 .0) (t .track .ensures) (f .result) (f .ensures .0), c .before .before .count-beats .ensures)
+    let p = t .before .before .before .before .before .before .before .pre in (
+      omega arith,
+      omega arith,
+      omega arith,
+      down _ _ _ _ _ _ _ (p .0 .0) (t .track .ensures) (f .result) (f .ensures .0),
+      c .before .before .count-beats .ensures,
+    )
 
 same-length : tie.Need-same-length
 same-length c = search needs
@@ -79,7 +87,8 @@ returns c =
     record {
       tracked = t .track .ensures;
       count-is = c .before .before .before .before .before .count-beats .ensures ∙ ap length e;
-      beats-are = c .before .before .store-beats .ensures ∙ ap (λ (l : List ℕ). listed l (now (t .before .before .before .before .before .before .before .args .beats))) e;
+      beats-are = c .before .before .store-beats .ensures ∙ ap
+          (λ (l : List ℕ). listed l (now (t .before .before .before .before .before .before .before .args .beats))) e;
     }
 
 pub lay-grid-spec : {M : Type 1} → statement M

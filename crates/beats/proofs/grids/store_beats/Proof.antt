@@ -17,7 +17,8 @@ use borrow.Author.Needs.{needs}
 use Rattle.beats.proofs.grids.store_beats.Statement.{statement}
 use Rattle.beats.proofs.grids.store_beats.Tie as tie
 
-module _ (back : List ℕ) (end t i : ℕ) (down : Descends (linkAt back) end) (in-list : end < length back) (h : t ≤ end) (n : i ≡ length (beatsTo (linkAt back) t)) where
+module _ (back : List ℕ) (end t i : ℕ) (down : Descends (linkAt back) end) (in-list : end < length back) (h : t ≤ end)
+    (n : i ≡ length (beatsTo (linkAt back) t)) where
   is : getD back t 0 ≡ linkAt back t
   is = link-read back t (omega arith)
 

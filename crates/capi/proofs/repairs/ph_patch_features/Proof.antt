@@ -20,7 +20,8 @@ same-length-3 : tie.Need-same-length-3
 same-length-3 c = search needs
 
 returns : tie.Need-returns
-returns c = features-told (c .before .before .before .before .before .before .before .before .before .before .before .patch-features .ensures) (c .put-features .ensures)
+returns c = features-told (c .before .before .before .before .before .before .before .before .before .before .before .patch-features .ensures)
+    (c .put-features .ensures)
 
 pub ph-patch-features-spec : {M : Type 1} → statement M
 ph-patch-features-spec = tie.close (tie.spec patch-features-requires put-features-requires same-length same-length-2 same-length-3 returns)

@@ -23,7 +23,8 @@ same-length-4 : tie.Need-same-length-4
 same-length-4 c = search needs
 
 returns : tie.Need-returns
-returns c = rows-told (c .before .before .before .before .before .before .before .before .before .before .before .before .before .patch-magnitudes .ensures) (c .put-rows .ensures)
+returns c = rows-told (c .before .before .before .before .before .before .before .before .before .before .before .before .before .patch-magnitudes
+    .ensures) (c .put-rows .ensures)
 
 pub ph-patch-magnitudes-spec : {M : Type 1} → statement M
 ph-patch-magnitudes-spec = tie.close (tie.spec patch-magnitudes-requires put-rows-requires same-length same-length-2 same-length-3 same-length-4 returns)

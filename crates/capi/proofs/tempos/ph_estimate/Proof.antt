@@ -23,7 +23,9 @@ same-length-3 : tie.Need-same-length-3
 same-length-3 c = search needs
 
 returns : tie.Need-returns
-returns c = rw (c .before .before .before .before .before .before .before .before .before .before .before .before .before .before .before .before .before .between .ensures) at (estimate-told (c .before .before .before .before .before .before .before .before .before .before .before .before .before .estimate .ensures) (c .put-estimate .ensures))
+returns c = rw (c .before .before .before .before .before .before .before .before .before .before .before .before .before .before .before .before
+    .before .between .ensures) at (estimate-told (c .before .before .before .before .before .before .before .before .before .before .before .before
+    .before .estimate .ensures) (c .put-estimate .ensures))
 
 pub ph-estimate-spec : {M : Type 1} → statement M
 ph-estimate-spec = tie.close (tie.spec between-requires estimate-requires put-estimate-requires same-length same-length-2 same-length-3 returns)

@@ -23,7 +23,9 @@ same-length-3 : tie.Need-same-length-3
 same-length-3 c = search needs
 
 returns : tie.Need-returns
-returns c = rw (c .before .before .before .before .before .before .before .before .before .before .before .before .before .before .before .between .ensures) at (stability-told (c .before .before .before .before .before .before .before .before .before .before .before .stability-of .ensures) (c .put-steadiness .ensures))
+returns c = rw (c .before .before .before .before .before .before .before .before .before .before .before .before .before .before .before .between
+    .ensures) at (stability-told (c .before .before .before .before .before .before .before .before .before .before .before .stability-of .ensures)
+    (c .put-steadiness .ensures))
 
 pub ph-stability-of-spec : {M : Type 1} → statement M
 ph-stability-of-spec = tie.close (tie.spec between-requires stability-of-requires put-steadiness-requires same-length same-length-2 same-length-3 returns)

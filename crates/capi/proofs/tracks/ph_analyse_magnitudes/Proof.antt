@@ -5,7 +5,9 @@ use Rattle.capi.proofs.tracks.ph_analyse_magnitudes.Tie as tie
 
 -- where the proved call has returned
 abbrev analysed : tie.After-put-analysis → tie.After-analyse-magnitudes
-analysed c = c .before .before .before .before .before .before .before .before .before .before .before .before .before .before .before .before .before .before .before .before .before .before .before .before .before .before .before .before .before .before .before .before .before .before .before .before .before .before
+analysed c = c .before .before .before .before .before .before .before .before .before .before .before .before .before .before .before .before .before
+    .before .before .before .before .before .before .before .before .before .before .before .before .before .before .before .before .before .before
+    .before .before .before
 
 between-requires : tie.Need-between-requires
 between-requires c κs = tt
@@ -53,7 +55,9 @@ same-length-12 : tie.Need-same-length-12
 same-length-12 c = analysed c .analyse-magnitudes .kept .1 .1 .1 .1 .1 .1 .1 .1 .1 .1 .1 .1 .1 .1 .1 .1 .0
 
 returns : tie.Need-returns
-returns c = magnitudes-told (analysed c .before .before .before .before .before .before .before .before .before .before .before .before .before .between .ensures) (analysed c .analyse-magnitudes .ensures) (c .put-analysis .ensures)
+returns c = magnitudes-told (analysed c .before .before .before .before .before .before .before .before .before .before .before .before .before
+    .between .ensures) (analysed c .analyse-magnitudes .ensures) (c .put-analysis .ensures)
 
 pub ph-analyse-magnitudes-spec : {M : Type 1} → statement M
-ph-analyse-magnitudes-spec = tie.close (tie.spec between-requires analyse-magnitudes-requires put-analysis-requires same-length same-length-2 same-length-3 same-length-4 same-length-5 same-length-6 same-length-7 same-length-8 same-length-9 same-length-10 same-length-11 same-length-12 returns)
+ph-analyse-magnitudes-spec = tie.close (tie.spec between-requires analyse-magnitudes-requires put-analysis-requires same-length same-length-2
+    same-length-3 same-length-4 same-length-5 same-length-6 same-length-7 same-length-8 same-length-9 same-length-10 same-length-11 same-length-12 returns)

@@ -14,7 +14,9 @@ put-candidates-requires : tie.Need-put-candidates-requires
 put-candidates-requires c κs = search needs
 
 returns-2 : tie.Need-returns-2
-returns-2 c = let t = c .before .before .before .put-tempo .ensures in let k = c .put-candidates .ensures in handed-done _ _ _ _ (c .before .before .before .before .before .before .before .before .if1 .left) (rw (t .0, t .1, t .2, k .0, k .1))
+returns-2 c = let t = c .before .before .before .put-tempo .ensures in let k =
+    c .put-candidates .ensures in handed-done _ _ _ _ (c .before .before .before .before .before .before .before .before .if1 .left)
+    (rw (t .0, t .1, t .2, k .0, k .1))
 
 pub put-estimate-spec : {M : Type 1} → statement M
 put-estimate-spec = tie.close (tie.spec returns put-tempo-requires put-candidates-requires returns-2)

@@ -20,7 +20,8 @@ returns-2 : tie.Need-returns-2
 returns-2 c =
     let t = c .before .before .before .before .before .before .before .before .put-tempo .ensures in
     let k = c .before .before .before .before .before .put-candidates .ensures in
-    handed-done _ _ _ _ (c .before .before .before .before .before .before .before .before .before .before .before .before .before .if1 .left) (track-made _ _ _ (tempo-made _ (t .0) (t .1) (t .2) (k .0) (k .1)) (c .put-stability .ensures))
+    handed-done _ _ _ _ (c .before .before .before .before .before .before .before .before .before .before .before .before .before .if1 .left)
+    (track-made _ _ _ (tempo-made _ (t .0) (t .1) (t .2) (k .0) (k .1)) (c .put-stability .ensures))
 
 pub put-analysis-spec : {M : Type 1} → statement M
 put-analysis-spec = tie.close (tie.spec returns put-tempo-requires put-candidates-requires put-stability-requires returns-2)

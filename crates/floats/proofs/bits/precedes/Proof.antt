@@ -9,10 +9,12 @@ use Rattle.floats.proofs.bits.precedes.Statement.{statement}
 use Rattle.floats.proofs.bits.precedes.Tie as tie
 
 returns : tie.Need-returns
-returns c = let g = c .before .good in sym (lt-ltb _ _ (key-lt _ _ (subst T (sym (g .0 .1)) tt) (subst T (sym (g .1 .0 .1)) tt) (subst T (sym (c .if1 .taken)) tt)))
+returns c = let g = c .before .good in sym (lt-ltb _ _ (key-lt _ _ (subst T (sym (g .0 .1)) tt) (subst T (sym (g .1 .0 .1)) tt)
+    (subst T (sym (c .if1 .taken)) tt)))
 
 returns-2 : tie.Need-returns-2
-returns-2 c = let g = c .before .before .good in sym (le-ltb _ _ (le-of-lt (key-lt _ _ (subst T (sym (g .1 .0 .1)) tt) (subst T (sym (g .0 .1)) tt) (subst T (sym (c .if2 .taken)) tt))))
+returns-2 c = let g = c .before .before .good in sym (le-ltb _ _
+    (le-of-lt (key-lt _ _ (subst T (sym (g .1 .0 .1)) tt) (subst T (sym (g .0 .1)) tt) (subst T (sym (c .if2 .taken)) tt))))
 
 key-of-requires : tie.Need-key-of-requires
 key-of-requires c κs = search needs

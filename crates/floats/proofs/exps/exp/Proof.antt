@@ -25,14 +25,21 @@ returns-3 c = let d = c .before .before in rw (← d .before .bits-of .ensures, 
 
 returns-4 : tie.Need-returns-4
 unfolding expOf expAt
-returns-4 c = let d = c .before .before .before in rw (← d .before .bits-of .ensures, le-ltb _ _ (d .if1 .left), c .before .before .if2 .left, c .before .if3 .left, c .if4 .taken)
+returns-4 c = let d = c .before .before .before in rw (
+  ← d .before .bits-of .ensures,
+  le-ltb _ _ (d .if1 .left),
+  c .before .before .if2 .left,
+  c .before .if3 .left,
+  c .if4 .taken,
+)
 
 exp-sized-requires-2 : tie.Need-exp-sized-requires-2
 exp-sized-requires-2 c κs = search needs
 
 returns-5 : tie.Need-returns-5
 unfolding expOf expAt
-returns-5 c = let e = c .before in let d = e .before .before .before in rw (← d .before .bits-of .ensures, le-ltb _ _ (d .if1 .left), e .before .before .if2 .left, e .before .if3 .left, e .if4 .left) (c .exp-sized2 .ensures)
+returns-5 c = let e = c .before in let d = e .before .before .before in rw
+    (← d .before .bits-of .ensures, le-ltb _ _ (d .if1 .left), e .before .before .if2 .left, e .before .if3 .left, e .if4 .left) (c .exp-sized2 .ensures)
 
 pub exp-spec : {M : Type 1} → statement M
 exp-spec =

@@ -15,7 +15,8 @@ scale-down-requires c κs = search needs
 
 returns : tie.Need-returns
 unfolding expBy
-returns c = let k = c .before .before .before .nearest-u64-to-f64 .ensures in rw (c .before .before .if1 .taken, ← k, ← c .before .exp-less .ensures) (c .scale-down .ensures)
+returns c = let k = c .before .before .before .nearest-u64-to-f64 .ensures in rw (c .before .before .if1 .taken, ← k, ← c .before .exp-less .ensures)
+    (c .scale-down .ensures)
 
 exp-less-requires-2 : tie.Need-exp-less-requires-2
 exp-less-requires-2 c κs = search needs
@@ -25,7 +26,8 @@ scale-up-requires c κs = search needs
 
 returns-2 : tie.Need-returns-2
 unfolding expBy
-returns-2 c = let k = c .before .before .before .nearest-u64-to-f64 .ensures in rw (c .before .before .if1 .left, ← k, ← c .before .exp-less2 .ensures) (c .scale-up .ensures)
+returns-2 c = let k = c .before .before .before .nearest-u64-to-f64 .ensures in rw
+    (c .before .before .if1 .left, ← k, ← c .before .exp-less2 .ensures) (c .scale-up .ensures)
 
 pub exp-by-spec : {M : Type 1} → statement M
 exp-by-spec =

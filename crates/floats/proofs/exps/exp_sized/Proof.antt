@@ -27,7 +27,8 @@ exp-near-requires c κs = search needs
 
 returns-3 : tie.Need-returns-3
 unfolding expSized
-returns-3 c = rw (lt-leb _ _ (c .before .before .before .if1 .left), le-ltb _ _ (c .before .before .if2 .left), lt-ltb _ _ (c .before .if3 .taken)) (c .exp-near .ensures)
+returns-3 c = rw (lt-leb _ _ (c .before .before .before .if1 .left), le-ltb _ _ (c .before .before .if2 .left), lt-ltb _ _ (c .before .if3 .taken))
+    (c .exp-near .ensures)
 
 returns-4 : tie.Need-returns-4
 unfolding expSized

@@ -19,7 +19,16 @@ upper-half-requires c κs = search needs
 
 returns : tie.Need-returns
 unfolding log2Of
-returns c = let h = c .before .before .before .before .before in let d = h .before .before in let v = d .reduced .ensures in let i = d .before .before in rw (← i .before .bits-of .ensures, sym (i .in-sequence .ensures) ∙ d .before .if1 .taken, h .upper-half .ensures, v .0, v .1, v .2, v .3)
+returns c = let h = c .before .before .before .before .before in let d = h .before .before in let v = d .reduced .ensures in let i =
+    d .before .before in rw (
+      ← i .before .bits-of .ensures,
+      sym (i .in-sequence .ensures) ∙ d .before .if1 .taken,
+      h .upper-half .ensures,
+      v .0,
+      v .1,
+      v .2,
+      v .3,
+    )
 
 apart-of-requires : tie.Need-apart-of-requires
 apart-of-requires c κs = search needs

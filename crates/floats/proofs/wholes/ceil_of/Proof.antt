@@ -17,10 +17,14 @@ add-result : tie.Need-add-result
 add-result c = search needs
 
 returns : tie.Need-returns
-returns c = let d = c .before .before in let w = d .before .whole-of .ensures in let g = d .before .before .good in rw w (ceil-below _ true (subst T (sym (g .0 .1)) tt) (rw w at (d .if1 .taken)) (rw (c .before .nearest-u64-to-f64 .ensures, w) at (c .if2 .taken)))
+returns c = let d = c .before .before in let w = d .before .whole-of .ensures in let g =
+    d .before .before .good in rw w (ceil-below _ true (subst T (sym (g .0 .1)) tt) (rw w at (d .if1 .taken))
+    (rw (c .before .nearest-u64-to-f64 .ensures, w) at (c .if2 .taken)))
 
 returns-2 : tie.Need-returns-2
-returns-2 c = let d = c .before .before in let w = d .before .whole-of .ensures in let g = d .before .before .good in rw w (ceil-below _ false (subst T (sym (g .0 .1)) tt) (rw w at (d .if1 .taken)) (rw (c .before .nearest-u64-to-f64 .ensures, w) at (c .if2 .left)))
+returns-2 c = let d = c .before .before in let w = d .before .whole-of .ensures in let g =
+    d .before .before .good in rw w (ceil-below _ false (subst T (sym (g .0 .1)) tt) (rw w at (d .if1 .taken))
+    (rw (c .before .nearest-u64-to-f64 .ensures, w) at (c .if2 .left)))
 
 returns-3 : tie.Need-returns-3
 returns-3 c = let w = c .before .whole-of .ensures in let g = c .before .before .good in w ∙ ceil-above _ (subst T (sym (g .0 .1)) tt) (rw w at (c .if1 .left))

@@ -34,7 +34,8 @@ returns : tie.Need-returns
 returns c =
     let a = c .before .before .before .before .before .before .before .before .before .before in
     c .thirty-two-run .ensures
-    ∙ block-is (now (a .args .envelope)) (a .args .mean) (a .args .lag) (a .args .t) (a .args .sums) _ _ (a .pre .1) (c .before .before .before .before .before .before .before .centre .ensures)
+    ∙ block-is (now (a .args .envelope)) (a .args .mean) (a .args .lag) (a .args .t) (a .args .sums) _ _ (a .pre .1)
+    (c .before .before .before .before .before .before .before .centre .ensures)
     (c .before .before .before .before .centre2 .ensures)
 
 pub block-spec : {M : Type 1} → statement M

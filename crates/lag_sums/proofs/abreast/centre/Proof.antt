@@ -51,7 +51,8 @@ loop-again c =
     let v = l .loop .inv in (
       omega arith,
       simp length-set (v .1),
-      rw (v .2) (filled-to (centredFrom (now (a .envelope)) (a .mean) (a .from)) (now (a .out)) 0 (l .loop .i) (l .loop .i + 1) (omega arith) nan (omega arith) refl),
+      rw (v .2) (filled-to (centredFrom (now (a .envelope)) (a .mean) (a .from)) (now (a .out)) 0 (l .loop .i) (l .loop .i + 1) (omega arith) nan
+          (omega arith) refl),
     )
 
 same-length : tie.Need-same-length Inv-loop μ-loop

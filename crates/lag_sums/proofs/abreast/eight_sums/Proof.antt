@@ -64,7 +64,8 @@ loop-again c =
     let a = l .before .before .args in (
       omega arith,
       omega arith,
-      eight-two (now (a .envelope)) (a .mean) (a .lag) (l .loop .t) (l .loop .s) (f .eight-more-centred .result) (c .eight-more-centred2 .result) (l .loop .inv .2) (f .eight-more-centred .ensures)
+      eight-two (now (a .envelope)) (a .mean) (a .lag) (l .loop .t) (l .loop .s) (f .eight-more-centred .result) (c .eight-more-centred2 .result)
+          (l .loop .inv .2) (f .eight-more-centred .ensures)
           (c .eight-more-centred2 .ensures),
     )
 

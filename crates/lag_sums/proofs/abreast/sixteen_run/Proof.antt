@@ -24,8 +24,12 @@ abbrev μ-loop : tie.MeasureT-loop
 
 loop-holds : tie.Need-loop-holds Inv-loop μ-loop
 loop-holds c =
-    let a = c .before .before .args in
-    (search needs, refl, ap (eightRun (a .low) (now (a .times)) (now (a .later))) (sym (add-zero (a .at))), ap (eightRun (a .high) (now (a .times)) (now (a .later))) (sym (add-zero (a .at + 8))))
+    let a = c .before .before .args in (
+      search needs,
+      refl,
+      ap (eightRun (a .low) (now (a .times)) (now (a .later))) (sym (add-zero (a .at))),
+      ap (eightRun (a .high) (now (a .times)) (now (a .later))) (sym (add-zero (a .at + 8))),
+    )
 
 mul-v : tie.Need-mul-v Inv-loop μ-loop
 mul-v c = search needs

@@ -1,4 +1,5 @@
--- `onsets::peaks::join` meets its contract: each way is one clause of the definition, in `Steps`: a peak opens the first group, joins the open one, or opens the
+-- `onsets::peaks::join` meets its contract: each way is one clause of the definition, in `Steps`: a peak opens the first group, joins the open one,
+-- or opens the
 -- next one, and then the best of the one before it is listed. Assumes nothing.
 use mathlib.Core.Path.{refl}
 use native.Mathlib.Nat.{le-refl}

@@ -31,7 +31,8 @@ and-false false = refl
 -- both tests of the list from i on: of its first entry, and of the rest
 split : (slots low : ℕ) (peaks : List ℕ) (i : ℕ) → i < length peaks
     → (ascending low (drop i peaks) && pointInto slots (drop i peaks))
-    ≡ ((leb low (getD peaks i 0) && ascending (getD peaks i 0 + 1) (drop (i + 1) peaks)) && (ltb (getD peaks i 0) slots && pointInto slots (drop (i + 1) peaks)))
+    ≡ ((leb low (getD peaks i 0) && ascending (getD peaks i 0 + 1) (drop (i + 1) peaks))
+    && (ltb (getD peaks i 0) slots && pointInto slots (drop (i + 1) peaks)))
 split slots low peaks i h = rw (ascending-step low peaks i h, every-step (λ (x : ℕ). ltb x slots) peaks i 0 h)
 
 loop-holds : tie.Need-loop-holds Inv-loop μ-loop
@@ -80,7 +81,10 @@ returns-3 : tie.Need-returns-3 Inv-loop μ-loop
 returns-3 c =
     let l = c .before in
     let peaks = now (l .before .args .peaks) in
-    sym (l .loop .inv .1 ∙ simp (ascending-end (l .loop .low) peaks (l .loop .i) (c .loop-test .left), every-end (λ (x : ℕ). ltb x (l .before .args .slots)) peaks (l .loop .i) (c .loop-test .left)))
+    sym (l .loop .inv .1 ∙ simp (
+      ascending-end (l .loop .low) peaks (l .loop .i) (c .loop-test .left),
+      every-end (λ (x : ℕ). ltb x (l .before .args .slots)) peaks (l .loop .i) (c .loop-test .left),
+    ))
 
 pub peaks-fine-spec : {M : Type 1} → statement M
 peaks-fine-spec =

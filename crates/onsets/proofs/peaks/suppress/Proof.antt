@@ -47,7 +47,8 @@ join-requires c κs =
     let start = l .before .before .before .before in
     let peaks = now (start .args .peaks) in
     let i = l .loop .i in
-    let inside = ltb-true (getD peaks i 0) (length (now (start .args .curve))) (every-at (λ (x : ℕ). ltb x (length (now (start .args .curve)))) peaks i 0 (start .pre .1 .0 .1) (omega arith)) in
+    let inside = ltb-true (getD peaks i 0) (length (now (start .args .curve)))
+    (every-at (λ (x : ℕ). ltb x (length (now (start .args .curve)))) peaks i 0 (start .pre .1 .0 .1) (omega arith)) in
     let above = ascending-at _ peaks i (omega arith) (l .loop .inv .4) in
     (start .pre .0, inside, above, omega arith)
 
@@ -64,10 +65,18 @@ loop-again c =
     let start = l .before .before .before .before in
     let peaks = now (start .args .peaks) in
     let i = l .loop .i in
-    let inside = ltb-true (getD peaks i 0) (length (now (start .args .curve))) (every-at (λ (x : ℕ). ltb x (length (now (start .args .curve)))) peaks i 0 (start .pre .1 .0 .1) (omega arith)) in
+    let inside = ltb-true (getD peaks i 0) (length (now (start .args .curve)))
+    (every-at (λ (x : ℕ). ltb x (length (now (start .args .curve)))) peaks i 0 (start .pre .1 .0 .1) (omega arith)) in
     let s = j .join .ensures in
-    let v = l .loop .inv in
-    (omega arith, omega arith, omega (arith, s .counted), omega (arith, s .best-at, inside), ascending-rest _ _ peaks i (omega arith) (s .best-at) (v .4), going-next _ _ peaks i (omega arith) s (v .5))
+    let v = l .loop .inv in (
+      omega arith,
+      omega arith,
+      omega (arith, s .counted),
+      omega (arith, s .best-at, inside),
+      ascending-rest _ _ peaks i (omega arith) (s .best-at)
+          (v .4),
+      going-next _ _ peaks i (omega arith) s (v .5),
+    )
 
 close-requires : tie.Need-close-requires Inv-loop μ-loop
 close-requires c κs = let v = c .before .before .loop .inv in (v .3, omega arith)

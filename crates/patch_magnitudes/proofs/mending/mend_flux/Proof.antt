@@ -1,4 +1,5 @@
--- `patch_magnitudes::mending::mend_flux` meets its contract: the new rows fit (`fits`), and the flux is written from the rows with them copied in. Assumes nothing.
+-- `patch_magnitudes::mending::mend_flux` meets its contract: the new rows fit (`fits`), and the flux is written from the rows with them copied in.
+-- Assumes nothing.
 use mathlib.Core.Path.{_∙_}
 use Prim.Native.Nat.{_+_, _*_, _≤_}
 use native.Mathlib.Omega.{arith}

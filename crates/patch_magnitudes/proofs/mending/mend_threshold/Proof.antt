@@ -50,7 +50,11 @@ returns : tie.Need-returns
 returns c =
     let s = c .before .before .before .before .before .before .before .before .before .before .before .before .before in
     let f = c .before .before .before .before .fill-threshold in (
-      (c .before .before .before .before .before .before .before .before .before .less .ensures, c .before .before .before .before .before .before .before .before .least .ensures),
+      (
+        c .before .before .before .before .before .before .before .before .before .less .ensures,
+        c .before .before .before .before .before .before
+            .before .before .least .ensures,
+      ),
       (rw (sub-zero (s .args .rows)) at (f .ensures .0), rw (lent s) at (f .ensures .1)),
     )
 

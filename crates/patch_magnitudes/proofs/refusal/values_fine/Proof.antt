@@ -21,7 +21,11 @@ magnitudes-fine-requires-2 c κs = search needs
 
 returns-2 : tie.Need-returns-2
 unfolding patchValues
-returns-2 c = rw (sym (c .before .before .before .magnitudes-fine .ensures) ∙ not-false _ (c .before .before .if1 .left), sym (c .before .magnitudes-fine2 .ensures) ∙ not-true _ (c .if2 .taken))
+returns-2 c = rw (
+  sym (c .before .before .before .magnitudes-fine .ensures)
+      ∙ not-false _ (c .before .before .if1 .left),
+  sym (c .before .magnitudes-fine2 .ensures) ∙ not-true _ (c .if2 .taken),
+)
 
 sub-values-fine : tie.Need-sub-values-fine
 sub-values-fine c = search needs
@@ -39,7 +43,14 @@ returns-3 : tie.Need-returns-3
 unfolding patchValues
 returns-3 c =
     let g = c .before .before .before .before .before .before .before .before .before .before .before .args in
-    rw (sym (c .before .before .before .before .before .before .magnitudes-fine .ensures) ∙ not-false _ (c .before .before .before .before .before .if1 .left), sym (c .before .before .before .before .magnitudes-fine2 .ensures) ∙ not-false _ (c .before .before .before .if2 .left), first-slots valueFine (now (g .flux)) (g .rows) _ (c .before .values-fine .ensures) ∙ not-true _ (c .if3 .taken))
+    rw (
+      sym (c .before .before .before .before .before .before .magnitudes-fine .ensures)
+          ∙ not-false _ (c .before .before .before .before .before .if1 .left),
+      sym (c .before .before .before .before .magnitudes-fine2 .ensures)
+          ∙ not-false _ (c .before .before .before .if2 .left),
+      first-slots valueFine (now (g .flux)) (g .rows) _ (c .before .values-fine .ensures)
+          ∙ not-true _ (c .if3 .taken),
+    )
 
 sub-values-fine-2 : tie.Need-sub-values-fine-2
 sub-values-fine-2 c = search needs
@@ -57,7 +68,14 @@ returns-4 : tie.Need-returns-4
 unfolding patchValues
 returns-4 c =
     let g = c .before .before .before .before .before .before .before .before .before .before .before .before .before .args in
-    rw (sym (c .before .before .before .before .before .before .before .before .magnitudes-fine .ensures) ∙ not-false _ (c .before .before .before .before .before .before .before .if1 .left), sym (c .before .before .before .before .before .before .magnitudes-fine2 .ensures) ∙ not-false _ (c .before .before .before .before .before .if2 .left), first-slots valueFine (now (g .flux)) (g .rows) _ (c .before .before .before .values-fine .ensures) ∙ not-false _ (c .before .before .if3 .left))
+    rw (
+      sym (c .before .before .before .before .before .before .before .before .magnitudes-fine .ensures)
+          ∙ not-false _ (c .before .before .before .before .before .before .before .if1 .left),
+      sym (c .before .before .before .before .before .before .magnitudes-fine2 .ensures)
+          ∙ not-false _ (c .before .before .before .before .before .if2 .left),
+      first-slots valueFine (now (g .flux)) (g .rows) _
+          (c .before .before .before .values-fine .ensures) ∙ not-false _ (c .before .before .if3 .left),
+    )
     (sym (first-slots valueFine (now (g .threshold)) (g .rows) _ (c .values-fine2 .ensures)))
 
 pub values-fine-spec : {M : Type 1} → statement M

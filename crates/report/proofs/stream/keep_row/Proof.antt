@@ -30,7 +30,8 @@ returns : tie.Need-returns
 returns c =
     let shifted = c .before .before .before .before .before .before in
     let start = shifted .before .before .before .before in
-    kept-put (now (start .args .kept)) _ _ (now (start .args .bytes)) (start .args .bins) (start .pre .1) (start .pre .0) (shifted .shift .ensures) (c .before .before .read-values .ensures)
+    kept-put (now (start .args .kept)) _ _ (now (start .args .bytes)) (start .args .bins) (start .pre .1) (start .pre .0) (shifted .shift .ensures)
+    (c .before .before .read-values .ensures)
 
 pub keep-row-spec : {M : Type 1} → statement M
 keep-row-spec =

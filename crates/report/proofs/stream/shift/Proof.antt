@@ -44,8 +44,12 @@ loop-less c = omega arith
 loop-again : tie.Need-loop-again Inv-loop μ-loop
 loop-again c =
     let l = c .before .before in
-    let start = l .before in
-    (omega arith, simp length-set (l .loop .inv .1), shift-more (now (start .args .kept)) (start .args .bins) (start .pre) (l .loop .kept) (l .loop .i) (omega arith) (l .loop .inv .2))
+    let start = l .before in (
+      omega arith,
+      simp length-set (l .loop .inv .1),
+      shift-more (now (start .args .kept)) (start .args .bins) (start .pre) (l .loop .kept)
+          (l .loop .i) (omega arith) (l .loop .inv .2),
+    )
 
 same-length : tie.Need-same-length Inv-loop μ-loop
 same-length c = omega arith

@@ -72,7 +72,8 @@ returns-2 c =
     let start = c .before .before .before .before .before .before .before .before .before .before .before .before in
     let on = not-false (start .args .fine) (c .before .before .before .before .if1 .left) in
     let off = not-true (tested .magnitudes-fine .result) (c .if2 .taken) in
-    let told = part-fine (now (start .args .kept)) _ (now (start .args .bytes)) (start .args .bins) _ (start .pre .0 .1) (start .pre .0 .0) (keeping .keep-row .ensures) (tested .magnitudes-fine .ensures) in
+    let told = part-fine (now (start .args .kept)) _ (now (start .args .bytes)) (start .args .bins) _ (start .pre .0 .1) (start .pre .0 .0)
+    (keeping .keep-row .ensures) (tested .magnitudes-fine .ensures) in
     record { fine-is = sym off ∙ told ∙ and-held (start .args .fine) _ on; kept-is = keeping .keep-row .ensures; flux-is = refl }
 
 least-requires : tie.Need-least-requires
@@ -119,12 +120,14 @@ returns-3 c =
     let bins = start .args .bins in
     let on = not-false (start .args .fine) (c .before .before .before .before .before .before .before .if1 .left) in
     let passed = not-false (tested .magnitudes-fine .result) (c .before .before .before .if2 .left) in
-    let told = part-fine (now (start .args .kept)) _ (now (start .args .bytes)) bins _ (start .pre .0 .1) (start .pre .0 .0) (keeping .keep-row .ensures) (tested .magnitudes-fine .ensures) in
+    let told = part-fine (now (start .args .kept)) _ (now (start .args .bytes)) bins _ (start .pre .0 .1) (start .pre .0 .0)
+    (keeping .keep-row .ensures) (tested .magnitudes-fine .ensures) in
     record {
       fine-is = sym passed ∙ told ∙ and-held (start .args .fine) _ on;
       kept-is = keeping .keep-row .ensures;
       flux-is = ap (set (now (start .args .flux)) (start .args .t)) (c .flux-slot .ensures
-          ∙ ap (fluxAt _ (slabOf 2 bins)) (c .before .least .ensures) ∙ ap (λ (r : List Float). fluxAt r (slabOf 2 bins) (min (start .args .t) 1)) (keeping .keep-row .ensures));
+          ∙ ap (fluxAt _ (slabOf 2 bins)) (c .before .least .ensures) ∙ ap (λ (r : List Float). fluxAt r (slabOf 2 bins) (min (start .args .t) 1))
+          (keeping .keep-row .ensures));
     }
 
 pub take-row-spec : {M : Type 1} → statement M

@@ -38,7 +38,8 @@ returns-3 c =
     let g = p .before .before in
     let start = g .before .before .before .before in
     let range = range-is _ _ _ (g .greatest-of .ensures) (start .pre .0) in
-    let mean = mean-is (now (start .args .novelty)) (now (start .args .rows)) (p .prominences .result) (start .args .med) (n .nearest-u64-to-f64 .result) (p .prominences .ensures) (start .pre .0) (n .nearest-u64-to-f64 .ensures) in
+    let mean = mean-is (now (start .args .novelty)) (now (start .args .rows)) (p .prominences .result) (start .args .med)
+    (n .nearest-u64-to-f64 .result) (p .prominences .ensures) (start .pre .0) (n .nearest-u64-to-f64 .ensures) in
     c .unit-of .ensures ∙ rw (mean, range) (sym (confidence-some _ _ (g .before .if1 .left) (rw range at (p .before .if2 .left))))
 
 pub confidence-of-spec : {M : Type 1} → statement M

@@ -1,4 +1,5 @@
--- `sections::confidence::greatest_of` meets its contract. The invariant: the greatest of what was found and of what is left is the whole's. The measure is what is
+-- `sections::confidence::greatest_of` meets its contract. The invariant: the greatest of what was found and of what is left is the whole's. The
+-- measure is what is
 -- left of the list. Assumes nothing.
 use mathlib.Core.Path.{_≡_, refl, sym, ap, _∙_}
 use Prim.Native.Nat.{_≤_, _-_}

@@ -1,4 +1,5 @@
--- `sections::confidence::prominences` meets its contract. The invariant: the sum so far and the sum of what is left is the whole sum. The measure is what is left of the
+-- `sections::confidence::prominences` meets its contract. The invariant: the sum so far and the sum of what is left is the whole sum. The measure is
+-- what is left of the
 -- rows. Assumes nothing.
 use mathlib.Core.Path.{_≡_, refl, sym, ap, _∙_}
 use mathlib.Core.List.{map}
@@ -17,7 +18,8 @@ use Rattle.sections.proofs.confidence.prominences.Statement.{statement}
 use Rattle.sections.proofs.confidence.prominences.Tie as tie
 
 abbrev Inv-loop : tie.InvT-loop
-Inv-loop novelty med rows sum₀ i₀ sum i = (i ≤ length rows) × (sumFrom sum (map (prominence novelty med) (drop i rows)) ≡ sumOf (map (prominence novelty med) rows))
+Inv-loop novelty med rows sum₀ i₀ sum i = (i ≤ length rows) ×
+    (sumFrom sum (map (prominence novelty med) (drop i rows)) ≡ sumOf (map (prominence novelty med) rows))
 
 abbrev μ-loop : tie.MeasureT-loop
 μ-loop novelty med rows sum₀ i₀ sum i = length rows - i
@@ -49,8 +51,11 @@ loop-less c = search needs
 loop-again : tie.Need-loop-again Inv-loop μ-loop
 loop-again c =
     let l = c .before .before .before in
-    let start = l .before .before .before in
-    (omega arith, rw (c .prominence-of .ensures) (sym (map-sum-step (prominence (now (start .args .novelty)) (start .args .med)) _ (now (start .args .rows)) (l .loop .i) (omega arith)) ∙ l .loop .inv .1))
+    let start = l .before .before .before in (
+      omega arith,
+      rw (c .prominence-of .ensures) (sym (map-sum-step (prominence (now (start .args .novelty)) (start .args .med)) _
+          (now (start .args .rows)) (l .loop .i) (omega arith)) ∙ l .loop .inv .1),
+    )
 
 returns : tie.Need-returns Inv-loop μ-loop
 returns c =
