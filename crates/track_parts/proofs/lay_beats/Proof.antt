@@ -1,6 +1,8 @@
 -- `track_parts::lay_beats` meets its contract: a grid's beats are frames of the envelope, no more than it has, so neither call refuses. Assumes nothing.
 use native.Mathlib.Omega.{arith}
 use denote.Ref.{now}
+use lib.ListN.{length}
+use Rattle.beats.specs.Grids.{gridRefusal}
 use Rattle.track_parts.proofs.Together.{beats-counted, laid-by}
 use borrow.Author.Needs.{needs}
 use Rattle.track_parts.proofs.lay_beats.Statement.{statement}
@@ -19,7 +21,8 @@ part-downbeats-end : tie.Need-part-downbeats-end
 part-downbeats-end c =
     let g = c .before .before .before .before .before .before .before in
     let a = g .before .before .before .before .before .before .before .before .before .args in
-    omega (arith, beats-counted (now (a .envelope)) (a .period) _ (g .beat-grid .result .count) (g .beat-grid .ensures .count-is))
+    let number = gridRefusal (now (a .envelope)) (a .period) (length (now (a .score))) (length (now (a .back))) (length (now (a .beats))) in
+    omega (arith, beats-counted (now (a .envelope)) (a .period) number (g .beat-grid .result .count) (g .beat-grid .ensures .count-is))
 
 downbeats-requires : tie.Need-downbeats-requires
 downbeats-requires c κs = search needs
