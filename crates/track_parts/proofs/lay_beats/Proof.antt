@@ -21,7 +21,7 @@ part-downbeats-end : tie.Need-part-downbeats-end
 part-downbeats-end c =
     let g = c .before .before .before .before .before .before .before in
     let a = g .before .before .before .before .before .before .before .before .before .args in
-    let number = gridRefusal (now (a .envelope)) (a .period) (length (now (a .score))) (length (now (a .back))) (length (now (a .beats))) in
+    let number = gridRefusal (now (a .envelope)) (a .period) (length (now (a .score))) (length (now (a .back))) (length (now (a .frames))) in
     omega (arith, beats-counted (now (a .envelope)) (a .period) number (g .beat-grid .result .count) (g .beat-grid .ensures .count-is))
 
 downbeats-requires : tie.Need-downbeats-requires
