@@ -176,10 +176,10 @@ beat-grid p q = (
 )
 
 -- `downbeats`
-pub downbeats : {envelope : List Float} {beats : List ℕ} {meter : ℕ} {frames : List ℕ} {a b : Listing} {x y : List ℕ}
+pub downbeats : (envelope : List Float) (beats : List ℕ) (meter : ℕ) (frames : List ℕ) {a b : Listing} {x y : List ℕ}
     → DownbeatsPromise envelope beats meter frames a x → DownbeatsPromise envelope beats meter frames b y
     → (a .number ≡ b .number) × (a .count ≡ b .count) × (x ≡ y)
-downbeats p q = listing _ _ _ p q
+downbeats envelope beats meter frames = listing _ _ frames
 
 -- `similarity`, `novelty`
 pub similarity : {features : List Float} {rows : ℕ} {was : List Float} {m n : ℕ} {x y : List Float}
