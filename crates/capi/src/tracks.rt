@@ -69,18 +69,18 @@ pub extern "C" fn ph_analyse_envelope(
     ensures { λ r. ⌜
         PhEnvelopePromise (now (envelope .entry)) rate (optionsOf «min_bpm» «max_bpm»)
         (results (now (threshold .entry)) (now (onsets .entry)) (now («clarity_curve» .entry)) (now («weight_curve» .entry)) (now (score .entry))
-            (now (back .entry)) (now (beats .entry)) (now (downbeats .entry)))
+        (now (back .entry)) (now (beats .entry)) (now (downbeats .entry)))
         (spare (now («window_clarity» .entry)) (now («window_weight» .entry)) (now (work .entry)))
         (trackLent (now («onset_count» .entry)) (now (found .entry)) (now (bpm .entry)) (now (clarity .entry)) (now (lags .entry))
-            (now (saliences .entry)) (now (count .entry)) (now (steady .entry)) (now (fraction .entry)) (now (agreeing .entry)) (now (windows .entry))
-            (now («beat_count» .entry)) (now («downbeat_count» .entry)))
+        (now (saliences .entry)) (now (count .entry)) (now (steady .entry)) (now (fraction .entry)) (now (agreeing .entry)) (now (windows .entry))
+        (now («beat_count» .entry)) (now («downbeat_count» .entry)))
         r
         (results (now (threshold .exit)) (now (onsets .exit)) (now («clarity_curve» .exit)) (now («weight_curve» .exit)) (now (score .exit))
-            (now (back .exit)) (now (beats .exit)) (now (downbeats .exit)))
+        (now (back .exit)) (now (beats .exit)) (now (downbeats .exit)))
         (spare (now («window_clarity» .exit)) (now («window_weight» .exit)) (now (work .exit)))
         (trackLent (now («onset_count» .exit)) (now (found .exit)) (now (bpm .exit)) (now (clarity .exit)) (now (lags .exit))
-            (now (saliences .exit)) (now (count .exit)) (now (steady .exit)) (now (fraction .exit)) (now (agreeing .exit)) (now (windows .exit))
-            (now («beat_count» .exit)) (now («downbeat_count» .exit)))
+        (now (saliences .exit)) (now (count .exit)) (now (steady .exit)) (now (fraction .exit)) (now (agreeing .exit)) (now (windows .exit))
+        (now («beat_count» .exit)) (now («downbeat_count» .exit)))
         ⌝ }
 {
     let answer = analysis::analyse_envelope(
@@ -155,18 +155,18 @@ pub extern "C" fn ph_analyse_magnitudes(
     ensures { λ r. ⌜
         PhMagnitudesPromise (now (magnitudes .entry)) (slabOf rows bins) rate (optionsOf «min_bpm» «max_bpm») (now (flux .entry))
         (results (now (threshold .entry)) (now (onsets .entry)) (now («clarity_curve» .entry)) (now («weight_curve» .entry)) (now (score .entry))
-            (now (back .entry)) (now (beats .entry)) (now (downbeats .entry)))
+        (now (back .entry)) (now (beats .entry)) (now (downbeats .entry)))
         (spare (now («window_clarity» .entry)) (now («window_weight» .entry)) (now (work .entry)))
         (trackLent (now («onset_count» .entry)) (now (found .entry)) (now (bpm .entry)) (now (clarity .entry)) (now (lags .entry))
-            (now (saliences .entry)) (now (count .entry)) (now (steady .entry)) (now (fraction .entry)) (now (agreeing .entry)) (now (windows .entry))
-            (now («beat_count» .entry)) (now («downbeat_count» .entry)))
+        (now (saliences .entry)) (now (count .entry)) (now (steady .entry)) (now (fraction .entry)) (now (agreeing .entry)) (now (windows .entry))
+        (now («beat_count» .entry)) (now («downbeat_count» .entry)))
         r (now (flux .exit))
         (results (now (threshold .exit)) (now (onsets .exit)) (now («clarity_curve» .exit)) (now («weight_curve» .exit)) (now (score .exit))
-            (now (back .exit)) (now (beats .exit)) (now (downbeats .exit)))
+        (now (back .exit)) (now (beats .exit)) (now (downbeats .exit)))
         (spare (now («window_clarity» .exit)) (now («window_weight» .exit)) (now (work .exit)))
         (trackLent (now («onset_count» .exit)) (now (found .exit)) (now (bpm .exit)) (now (clarity .exit)) (now (lags .exit))
-            (now (saliences .exit)) (now (count .exit)) (now (steady .exit)) (now (fraction .exit)) (now (agreeing .exit)) (now (windows .exit))
-            (now («beat_count» .exit)) (now («downbeat_count» .exit)))
+        (now (saliences .exit)) (now (count .exit)) (now (steady .exit)) (now (fraction .exit)) (now (agreeing .exit)) (now (windows .exit))
+        (now («beat_count» .exit)) (now («downbeat_count» .exit)))
         ⌝ }
 {
     let answer = analysis::analyse_magnitudes(

@@ -48,12 +48,12 @@ pub fn put_analysis(
     ensures { λ r. ⌜
         Handed (answer .number) (trackParts answer)
         (trackLent (now («onset_count» .entry)) (now (found .entry)) (now (bpm .entry)) (now (clarity .entry)) (now (lags .entry))
-            (now (saliences .entry)) (now (count .entry)) (now (steady .entry)) (now (fraction .entry)) (now (agreeing .entry)) (now (windows .entry))
-            (now («beat_count» .entry)) (now («downbeat_count» .entry)))
+        (now (saliences .entry)) (now (count .entry)) (now (steady .entry)) (now (fraction .entry)) (now (agreeing .entry)) (now (windows .entry))
+        (now («beat_count» .entry)) (now («downbeat_count» .entry)))
         r
         (trackLent (now («onset_count» .exit)) (now (found .exit)) (now (bpm .exit)) (now (clarity .exit)) (now (lags .exit))
-            (now (saliences .exit)) (now (count .exit)) (now (steady .exit)) (now (fraction .exit)) (now (agreeing .exit)) (now (windows .exit))
-            (now («beat_count» .exit)) (now («downbeat_count» .exit)))
+        (now (saliences .exit)) (now (count .exit)) (now (steady .exit)) (now (fraction .exit)) (now (agreeing .exit)) (now (windows .exit))
+        (now («beat_count» .exit)) (now («downbeat_count» .exit)))
         ⌝ }
 {
     if answer.number != 0 {

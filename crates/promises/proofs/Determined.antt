@@ -21,7 +21,7 @@ use Rattle.frames.proofs.Laws.{one-part}
 use Rattle.median.specs.Answers.{Answered}
 use Rattle.median.proofs.Outcomes.{answered-unique}
 use Rattle.median.specs.declared.Answer.{Answer}
-use Rattle.flux.specs.Flux.{fluxAt}
+use Rattle.flux.specs.Flux.{fluxAt, FluxPromise}
 use Rattle.threshold.specs.Threshold.{sortingRoom, thresholdRefusal, ThresholdPromise}
 use Rattle.onsets.specs.Peaks.{SuppressionPromise}
 use Rattle.onsets.specs.Onsets.{OnsetsPromise, FrameTimesPromise}
@@ -98,10 +98,15 @@ pub with-max-bpm : (bpm : Float) (o : TempoOpts) {a b : TempoOpts} → a ≡ wit
     → (a ≡ b) × ((a .«min_bpm» ≡ o .«min_bpm») × (a .«max_bpm» ≡ bpm))
 with-max-bpm bpm o p q = (p ∙ sym q, each-bound p)
 
--- `spectral_flux`, and the two below: a number, and one lent list
+-- a number, and one lent list
 pub written : {A : Type 0} (number : ℕ) (done was : List A) {a b : ℕ} {x y : List A} → Written number done was a x → Written number done was b y
     → (a ≡ b) × (x ≡ y)
 written number done was = written-unique number done was
+
+-- `spectral_flux`
+pub spectral-flux : (magnitudes : List Float) (slab : Slab) (was : List Float) {a b : ℕ} {x y : List Float}
+    → FluxPromise magnitudes slab was a x → FluxPromise magnitudes slab was b y → (a ≡ b) × (x ≡ y)
+spectral-flux magnitudes slab was = written _ _ was
 
 -- `frame_times`, `boundary_times`
 pub frame-times : (frames : List ℕ) (rate : ℕ) (was : List Float) {a b : ℕ} {x y : List Float}

@@ -11,7 +11,6 @@ use Rattle.numbers.specs.Limits.{mostRows, mostPeriod, valueFine}
 use Rattle.numbers.specs.Lists.{every, listed}
 use Rattle.numbers.proofs.Tests.{and-both, lowest-0, passed-does, pick-true}
 use Rattle.numbers.proofs.Tabs.{listed-none}
-use Rattle.numbers.proofs.Outcomes.{open-same}
 use Rattle.numbers.specs.Rounded.{epsilon}
 use Rattle.options.specs.declared.TempoOpts.{TempoOpts}
 use Rattle.lags.specs.Lags.{minLag, maxLag, boundsFine}
