@@ -2,8 +2,8 @@
 use mathlib.Core.List.{List}
 use Prim.Native.Nat.{ℕ, zero, suc, _+_, _-_, _*_, _/_, _≤_, _<_}
 use lib.ListN.{getD}
-use lib.Ieee.{Float, nan, neg, lt}
-use Rattle.numbers.specs.Rounded.{_⊕_, _⊗_, _⊘_, bits, real, nought, pick}
+use lib.Ieee.{Float, nan, neg}
+use Rattle.numbers.specs.Rounded.{_⊕_, _⊗_, _⊘_, bits, real, nought}
 use Rattle.floats.specs.Logs.{logOf}
 use Rattle.lists.specs.declared.Best.{Best}
 use Rattle.lists.specs.Greatest.{greatest}

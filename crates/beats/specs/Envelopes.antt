@@ -6,7 +6,7 @@ use Prim.Native.Nat.{ℕ}
 use lib.Dec.{eqb}
 use lib.ListN.{length, getD}
 use lib.Ieee.{Float, nan, le}
-use Rattle.numbers.specs.Rounded.{_⊖_, _⊗_, _⊘_, bits, real, sumOf, epsilon, one}
+use Rattle.numbers.specs.Rounded.{_⊖_, _⊗_, _⊘_, real, sumOf, epsilon, one}
 use Rattle.lists.specs.Means.{meanOf}
 use Rattle.roots.specs.Roots.{sqrtOf}
 

@@ -28,7 +28,7 @@ use Rattle.capi.specs.Medians.{Valued}
 use Rattle.capi.specs.Tempos.{PhEstimatePromise, PhStabilityPromise}
 use Rattle.capi.specs.Grids.{PhGridPromise}
 use Rattle.capi.specs.Forms.{BoundariesTold}
-use Rattle.capi.specs.Repairs.{PhRowsPromise, PhFeaturesPromise}
+use Rattle.capi.specs.Repairs.{PhPatchMagnitudesPromise, PhPatchFeaturesPromise}
 
 -- the number and what is lent; `ph_lag_range` and `ph_room_of` by itself
 pub handed-unique : {A : Type 0} {number : ℕ} {parts lent₀ : A} {a b : ℕ} {x y : A}
@@ -98,7 +98,7 @@ boundaries-unique p q = (
 
 pub rows-unique : {slab : Slab} {was : tracks.MagnitudeTrack} {patch : Patch} {work : List Float} {lent₀ : List ℕ}
     {a b : ℕ} {x y : tracks.MagnitudeTrack} {u v : List Float} {s t : List ℕ}
-    → PhRowsPromise slab was patch work lent₀ a x u s → PhRowsPromise slab was patch work lent₀ b y v t
+    → PhPatchMagnitudesPromise slab was patch work lent₀ a x u s → PhPatchMagnitudesPromise slab was patch work lent₀ b y v t
     → let sorted = magnitudes.patchSortedIn (tracks.patchNumber slab was patch (length work)) (slab .rows) patch in
     ((a ≡ b) × (s ≡ t)) × ((x ≡ y) × (length u ≡ length v) × (drop sorted u ≡ drop sorted v))
 rows-unique p q = (
@@ -112,5 +112,5 @@ rows-unique p q = (
 )
 
 pub features-unique : {rows : ℕ} {was : features.FeatureTrack} {patch : Patch} {lent₀ : List ℕ} {a b : ℕ} {x y : features.FeatureTrack} {s t : List ℕ}
-    → PhFeaturesPromise rows was patch lent₀ a x s → PhFeaturesPromise rows was patch lent₀ b y t → ((a ≡ b) × (s ≡ t)) × (x ≡ y)
+    → PhPatchFeaturesPromise rows was patch lent₀ a x s → PhPatchFeaturesPromise rows was patch lent₀ b y t → ((a ≡ b) × (s ≡ t)) × (x ≡ y)
 features-unique p q = (handed-unique (p .handed) (q .handed), p .slices .track-is ∙ sym (q .slices .track-is))

@@ -123,7 +123,7 @@ module _ {p q r s answer : ℕ} {lent : List ℕ} where
   pub rows-told : {slab : Slab} {was : tracks.MagnitudeTrack} {patch : Patch} {work : List Float} {own : rows-done.Patched}
       {now : tracks.MagnitudeTrack} {work′ : List Float}
       → magnitudes.PatchMagnitudesPromise slab was patch work own now work′ → SlotsHanded (magnitudes.patchedSays own) (ranges p q r s) answer lent
-      → repairs.PhRowsPromise slab was patch work (ranges p q r s) answer now work′ lent
+      → repairs.PhPatchMagnitudesPromise slab was patch work (ranges p q r s) answer now work′ lent
   rows-told {slab} {was} {patch} {work} done h =
       record {
         handed = ranges-handed (tracks.patchNumber slab was patch (length work)) (patch .new) _ _ _ _ _ _ _ _ (done .answer-is) h;
@@ -137,7 +137,7 @@ module _ {p q r s answer : ℕ} {lent : List ℕ} where
 
   pub features-told : {rows : ℕ} {was : features.FeatureTrack} {patch : Patch} {own : features-done.PatchedFeatures} {now : features.FeatureTrack}
       → features.PatchFeaturesPromise rows was patch own now → SlotsHanded (features.patchedFeaturesSays own) (ranges p q r s) answer lent
-      → repairs.PhFeaturesPromise rows was patch (ranges p q r s) answer now lent
+      → repairs.PhPatchFeaturesPromise rows was patch (ranges p q r s) answer now lent
   features-told {rows} {was} {patch} done h =
       record {
         handed = ranges-handed (features.featurePatchNumber rows was patch) (patch .new) _ _ _ _ _ _ _ _ (done .answer-is) h;

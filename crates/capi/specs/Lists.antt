@@ -3,12 +3,28 @@ use Prim.Native.Nat.{ℕ}
 use mathlib.Core.Path.{_≡_}
 use mathlib.Core.List.{List}
 use lib.ListN.{length}
+use lib.Ieee.{Float}
 use Rattle.numbers.specs.Lists.{listed}
 use Rattle.numbers.specs.Refusals.{unlessRefused}
+use Rattle.onsets.specs.Peaks.{suppressed, suppressionRefusal}
+use Rattle.onsets.specs.Onsets.{onsetsOf, onsetsRefusal}
+use Rattle.bars.specs.Downbeats.{downbeatRefusal, downbeatsOf}
 use Rattle.capi_answers.specs.Handed.{Handed}
 
--- What `ph_pick_onsets`, `ph_suppress_close_peaks` and `ph_downbeats` promise, of the entries that the proved call lists: the lent count is how
--- many they are, and the lent list, which was `was`, has them first, as that call leaves it.
+-- Of the entries that the proved call lists: the lent count is how many they are, and the lent list, which was `was`, has them first, as that call
+-- leaves it.
 pub record ListHanded (number : ℕ) (entries was : List ℕ) (count₀ answer : ℕ) (after : List ℕ) (count : ℕ) : Type 0 where
   pub handed : Handed number (length entries) count₀ answer count
   pub frames-are : after ≡ unlessRefused number (listed entries was) was
+
+-- what `ph_pick_onsets` promises
+abbrev pub PhOnsetsPromise : (flux threshold : List Float) (rate : ℕ) (was : List ℕ) (count₀ answer : ℕ) (after : List ℕ) (count : ℕ) → Type 0
+PhOnsetsPromise flux threshold rate was = ListHanded (onsetsRefusal flux threshold rate (length was)) (onsetsOf flux threshold rate) was
+
+-- what `ph_suppress_close_peaks` promises
+abbrev pub PhSuppressionPromise : (peaks : List ℕ) (curve : List Float) (gap : ℕ) (was : List ℕ) (count₀ answer : ℕ) (after : List ℕ) (count : ℕ) → Type 0
+PhSuppressionPromise peaks curve gap was = ListHanded (suppressionRefusal peaks curve (length was)) (suppressed curve gap peaks) was
+
+-- what `ph_downbeats` promises
+abbrev pub PhDownbeatsPromise : (envelope : List Float) (beats : List ℕ) (meter : ℕ) (was : List ℕ) (count₀ answer : ℕ) (after : List ℕ) (count : ℕ) → Type 0
+PhDownbeatsPromise envelope beats meter was = ListHanded (downbeatRefusal envelope beats meter (length was)) (downbeatsOf envelope beats meter) was

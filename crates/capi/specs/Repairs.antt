@@ -20,9 +20,9 @@ pub record RowsTold
   pub handed : Handed number (magnitudes.rowsNamed slab patch) lent₀ answer lent
   pub slices : magnitudes.PatchMagnitudesPromise slab was patch work (magnitudes.patchAnswered number slab patch) now work′
 
-abbrev pub PhRowsPromise : (slab : Slab) (was : tracks.MagnitudeTrack) (patch : Patch) (work : List Float) (lent₀ : List ℕ)
+abbrev pub PhPatchMagnitudesPromise : (slab : Slab) (was : tracks.MagnitudeTrack) (patch : Patch) (work : List Float) (lent₀ : List ℕ)
     (answer : ℕ) (now : tracks.MagnitudeTrack) (work′ : List Float) (lent : List ℕ) → Type 0
-PhRowsPromise slab was patch work = RowsTold (tracks.patchNumber slab was patch (length work)) slab was patch work
+PhPatchMagnitudesPromise slab was patch work = RowsTold (tracks.patchNumber slab was patch (length work)) slab was patch work
 
 -- the track that is lent
 abbrev pub rowsLent : (magnitudes flux threshold : List Float) → tracks.MagnitudeTrack
@@ -35,9 +35,9 @@ pub record FeaturesTold
   pub handed : Handed number (features.featuresNamed rows patch) lent₀ answer lent
   pub slices : features.PatchFeaturesPromise rows was patch (features.featuresAnswered number rows patch) now
 
-abbrev pub PhFeaturesPromise : (rows : ℕ) (was : features.FeatureTrack) (patch : Patch) (lent₀ : List ℕ) (answer : ℕ) (now : features.FeatureTrack)
+abbrev pub PhPatchFeaturesPromise : (rows : ℕ) (was : features.FeatureTrack) (patch : Patch) (lent₀ : List ℕ) (answer : ℕ) (now : features.FeatureTrack)
     (lent : List ℕ) → Type 0
-PhFeaturesPromise rows was patch = FeaturesTold (features.featurePatchNumber rows was patch) rows was patch
+PhPatchFeaturesPromise rows was patch = FeaturesTold (features.featurePatchNumber rows was patch) rows was patch
 
 abbrev pub featuresLent : (slab similarity novelty : List Float) → features.FeatureTrack
 featuresLent slab similarity novelty = features.featureTrack slab similarity novelty

@@ -1,15 +1,20 @@
--- The C interface to `estimate` and `stability_of`; `ph_lag_range` promises `Handed` of both lags.
+-- The C interface to `lag_range`, `estimate` and `stability_of`. Each promise is its last line; the record before it says how an answer is handed over.
 use Prim.Native.Nat.{ℕ}
 use mathlib.Core.List.{List}
 use lib.ListN.{length}
 use lib.Ieee.{Float}
 use Rattle.options.specs.declared.TempoOpts.{TempoOpts}
+use Rattle.lags.specs.Lags.{lagRange}
 use Rattle.tempo.specs.declared.TempoEstimate.{TempoEstimate}
 use Rattle.tempo.specs.Answers.{estimateOf, EstimatePromise}
 use Rattle.stability.specs.declared.Steadiness.{Steadiness}
 use Rattle.stability.specs.Answers.{steadinessOf, StabilityPromise}
 use Rattle.capi_answers.specs.Handed.{Handed}
-use Rattle.capi_answers.specs.Tempos.{TempoLent, tempoParts, ShareLent, shareParts}
+use Rattle.capi_answers.specs.Tempos.{LagsLent, lagParts, TempoLent, tempoParts, ShareLent, shareParts}
+
+-- what `ph_lag_range` promises: the lent numbers are both lags
+abbrev pub PhLagRangePromise : (rate : ℕ) (o : TempoOpts) (lent₀ : LagsLent) (answer : ℕ) (lent : LagsLent) → Type 0
+PhLagRangePromise rate o = Handed (lagRange rate o .number) (lagParts (lagRange rate o))
 
 -- what `ph_estimate` promises, where `estimate` gives the answer `told`: the lent numbers are its parts, and the slices are as that call leaves them
 pub record EstimateTold

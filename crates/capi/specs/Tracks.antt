@@ -1,4 +1,5 @@
--- The C interface to `analyse_envelope` and `analyse_magnitudes` of crate analysis; `ph_room_of` promises `Handed` of the three numbers of a room.
+-- The C interface to `room_of` of crate rooms, and to `analyse_envelope` and `analyse_magnitudes` of crate analysis. Each promise is its last line; the
+-- record before it says how an answer is handed over.
 use Prim.Native.Nat.{ℕ}
 use mathlib.Core.Path.{_≡_}
 use mathlib.Core.List.{List}
@@ -8,10 +9,14 @@ use Rattle.numbers.specs.declared.Slab.{Slab}
 use Rattle.numbers.specs.Refusals.{unlessRefused}
 use Rattle.flux.specs.Flux.{fluxAt}
 use Rattle.options.specs.declared.TempoOpts.{TempoOpts}
-use Rattle.rooms.specs.Rooms.{Results, Spare, envelopeNumber, magnitudesNumber}
+use Rattle.rooms.specs.Rooms.{Results, Spare, roomOf, envelopeNumber, magnitudesNumber}
 use Rattle.track.specs.Analyses.{analysisOf, withoutAnalysis, Analysed}
 use Rattle.capi_answers.specs.Handed.{Handed}
-use Rattle.capi_answers.specs.Tracks.{TrackLent, trackParts}
+use Rattle.capi_answers.specs.Tracks.{RoomLent, roomParts, TrackLent, trackParts}
+
+-- what `ph_room_of` promises: the lent numbers are the three of a room
+abbrev pub PhRoomPromise : (rows rate : ℕ) (o : TempoOpts) (lent₀ : RoomLent) (answer : ℕ) (lent : RoomLent) → Type 0
+PhRoomPromise rows rate o = Handed (roomOf rows rate o .number) (roomParts (roomOf rows rate o))
 
 -- An analysis of `env` with this number, as `Analysed` of crate track has it: the lent numbers hold the parts of its answer, and the slices
 -- are as that call leaves them.

@@ -2,7 +2,7 @@
 use capi_answers::forms::put_sections;
 ghost use Rattle.similarities.specs.Similarity.{SimilarityPromise};
 ghost use Rattle.novelties.specs.Novelty.{NoveltyPromise};
-ghost use Rattle.sections.specs.Outcomes.{RowTimesPromise};
+ghost use Rattle.sections.specs.Outcomes.{BoundaryTimesPromise};
 ghost use Rattle.capi_answers.specs.Forms.{sectionsLent};
 ghost use Rattle.capi.specs.Forms.{PhBoundariesPromise};
 
@@ -48,7 +48,7 @@ pub extern "C" fn ph_boundaries(
 // `sections::boundary_times`, for C.
 #[no_mangle]
 pub extern "C" fn ph_boundary_times(rows: &[u32], length: u64, rate: u32, ms: &mut [f64]) -> u32
-    ensures { λ r. ⌜ RowTimesPromise (now (rows .entry)) length rate (now (ms .entry)) r (now (ms .exit)) ⌝ }
+    ensures { λ r. ⌜ BoundaryTimesPromise (now (rows .entry)) length rate (now (ms .entry)) r (now (ms .exit)) ⌝ }
 {
     sections::boundary_times(rows, length, rate, ms)
 }

@@ -1,12 +1,9 @@
 // `beat_grid`, `downbeats` and `bar_beat_at`, for C.
 use capi_answers::counts::counted;
 use capi_answers::grids::put_place;
-ghost use lib.ListN.{length};
-ghost use Rattle.bars.specs.Downbeats.{downbeatRefusal, downbeatsOf, commonMeter};
-ghost use Rattle.bars.specs.BarBeats.{barAndBeat};
-ghost use Rattle.capi_answers.specs.Grids.{Placed};
-ghost use Rattle.capi.specs.Lists.{ListHanded};
-ghost use Rattle.capi.specs.Grids.{PhGridPromise};
+ghost use Rattle.bars.specs.Downbeats.{commonMeter};
+ghost use Rattle.capi.specs.Lists.{PhDownbeatsPromise};
+ghost use Rattle.capi.specs.Grids.{PhGridPromise, PhBarBeatPromise};
 
 // `beats::beat_grid`, for C.
 #[no_mangle]
@@ -39,9 +36,7 @@ pub extern "C" fn ph_downbeats(
     count: &mut usize,
 ) -> u32
     ensures { λ r. ⌜
-        ListHanded (downbeatRefusal (now (envelope .entry)) (now (beats .entry)) commonMeter (length (now (frames .entry))))
-        (downbeatsOf (now (envelope .entry)) (now (beats .entry)) commonMeter)
-        (now (frames .entry)) (now (count .entry))
+        PhDownbeatsPromise (now (envelope .entry)) (now (beats .entry)) commonMeter (now (frames .entry)) (now (count .entry))
         r (now (frames .exit)) (now (count .exit))
         ⌝ }
 {
@@ -59,7 +54,7 @@ pub extern "C" fn ph_bar_beat_at(
     beat: &mut usize,
 ) -> u32
     ensures { λ r. ⌜
-        Placed (0, barAndBeat time (now (downbeats .entry)) (now (beats .entry)))
+        PhBarBeatPromise time (now (downbeats .entry)) (now (beats .entry))
         r (now (found .exit)) (now (bar .exit)) (now (beat .exit))
         ⌝ }
 {

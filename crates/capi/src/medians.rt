@@ -1,16 +1,12 @@
 // `median_of` and `mad_of`, for C.
 use capi_answers::medians::told;
-ghost use lib.ListN.{length};
-ghost use Rattle.median.specs.Median.{medianOf, madOf};
-ghost use Rattle.median.specs.Answers.{medianRefusal, madRefusal};
-ghost use Rattle.capi.specs.Medians.{Valued};
+ghost use Rattle.capi.specs.Medians.{PhMedianPromise, PhMadPromise};
 
 // `median::median_of`, for C.
 #[no_mangle]
 pub extern "C" fn ph_median_of(values: &[f64], work: &mut [f64], median: &mut f64) -> u32
     ensures { λ r. ⌜
-        Valued (medianRefusal (now (values .entry)) (length (now (work .entry)))) (medianOf (now (values .entry))) (now (values .entry))
-        (now (work .entry)) (now (median .entry))
+        PhMedianPromise (now (values .entry)) (now (work .entry)) (now (median .entry))
         r (now (work .exit)) (now (median .exit))
         ⌝ }
 {
@@ -21,8 +17,7 @@ pub extern "C" fn ph_median_of(values: &[f64], work: &mut [f64], median: &mut f6
 #[no_mangle]
 pub extern "C" fn ph_mad_of(values: &[f64], median: f64, work: &mut [f64], mad: &mut f64) -> u32
     ensures { λ r. ⌜
-        Valued (madRefusal (now (values .entry)) median (length (now (work .entry)))) (madOf (now (values .entry)) median) (now (values .entry))
-        (now (work .entry)) (now (mad .entry))
+        PhMadPromise (now (values .entry)) median (now (work .entry)) (now (mad .entry))
         r (now (work .exit)) (now (mad .exit))
         ⌝ }
 {

@@ -3,7 +3,7 @@ use capi_answers::repairs::put_features;
 use capi_answers::repairs::put_rows;
 ghost use Rattle.numbers.specs.Limits.{slabOf};
 ghost use Rattle.patches.specs.Patches.{patchOf, ranges};
-ghost use Rattle.capi.specs.Repairs.{rowsLent, PhRowsPromise, featuresLent, PhFeaturesPromise};
+ghost use Rattle.capi.specs.Repairs.{rowsLent, PhPatchMagnitudesPromise, featuresLent, PhPatchFeaturesPromise};
 
 // `patch_magnitudes::patch_magnitudes`, for C.
 #[no_mangle]
@@ -22,7 +22,7 @@ pub extern "C" fn ph_patch_magnitudes(
     threshold_past: &mut usize,
 ) -> u32
     ensures { λ r. ⌜
-        PhRowsPromise (slabOf rows bins)
+        PhPatchMagnitudesPromise (slabOf rows bins)
         (rowsLent (now (magnitudes .entry)) (now (flux .entry)) (now (threshold .entry))) (patchOf start (now («new_rows» .entry))) (now (work .entry))
         (ranges (now («flux_first» .entry)) (now («flux_past» .entry)) (now («threshold_first» .entry)) (now («threshold_past» .entry)))
         r (rowsLent (now (magnitudes .exit)) (now (flux .exit)) (now (threshold .exit))) (now (work .exit))
@@ -63,7 +63,7 @@ pub extern "C" fn ph_patch_features(
     novelty_past: &mut usize,
 ) -> u32
     ensures { λ r. ⌜
-        PhFeaturesPromise rows
+        PhPatchFeaturesPromise rows
         (featuresLent (now (features .entry)) (now (similarity .entry)) (now (novelty .entry))) (patchOf start (now («new_rows» .entry)))
         (ranges (now («similarity_first» .entry)) (now («similarity_past» .entry)) (now («novelty_first» .entry)) (now («novelty_past» .entry)))
         r (featuresLent (now (features .exit)) (now (similarity .exit)) (now (novelty .exit)))

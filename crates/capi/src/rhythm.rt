@@ -1,13 +1,10 @@
 // The calls of crates flux, threshold and onsets, for C.
 use capi_answers::counts::counted;
-ghost use lib.ListN.{length};
 ghost use Rattle.numbers.specs.Limits.{slabOf};
-ghost use Rattle.numbers.specs.Outcomes.{Written};
 ghost use Rattle.flux.specs.Flux.{FluxPromise};
 ghost use Rattle.threshold.specs.Threshold.{ThresholdPromise};
-ghost use Rattle.onsets.specs.Peaks.{suppressed, suppressionRefusal};
-ghost use Rattle.onsets.specs.Onsets.{onsetsOf, onsetsRefusal, FrameTimesPromise};
-ghost use Rattle.capi.specs.Lists.{ListHanded};
+ghost use Rattle.onsets.specs.Onsets.{FrameTimesPromise};
+ghost use Rattle.capi.specs.Lists.{PhOnsetsPromise, PhSuppressionPromise};
 
 // `flux::spectral_flux`, for C.
 #[no_mangle]
@@ -44,8 +41,7 @@ pub extern "C" fn ph_pick_onsets(
     count: &mut usize,
 ) -> u32
     ensures { λ r. ⌜
-        ListHanded (onsetsRefusal (now (flux .entry)) (now (threshold .entry)) rate (length (now (frames .entry))))
-        (onsetsOf (now (flux .entry)) (now (threshold .entry)) rate) (now (frames .entry)) (now (count .entry))
+        PhOnsetsPromise (now (flux .entry)) (now (threshold .entry)) rate (now (frames .entry)) (now (count .entry))
         r (now (frames .exit)) (now (count .exit))
         ⌝ }
 {
@@ -62,8 +58,7 @@ pub extern "C" fn ph_suppress_close_peaks(
     count: &mut usize,
 ) -> u32
     ensures { λ r. ⌜
-        ListHanded (suppressionRefusal (now (peaks .entry)) (now (curve .entry)) (length (now (frames .entry))))
-        (suppressed (now (curve .entry)) gap (now (peaks .entry))) (now (frames .entry)) (now (count .entry))
+        PhSuppressionPromise (now (peaks .entry)) (now (curve .entry)) gap (now (frames .entry)) (now (count .entry))
         r (now (frames .exit)) (now (count .exit))
         ⌝ }
 {

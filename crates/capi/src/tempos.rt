@@ -4,10 +4,8 @@ use capi_answers::tempos::put_range;
 use capi_answers::tempos::put_steadiness;
 use options::TempoOpts;
 ghost use Rattle.options.specs.Options.{optionsOf};
-ghost use Rattle.lags.specs.Lags.{lagRange};
-ghost use Rattle.capi_answers.specs.Handed.{Handed};
-ghost use Rattle.capi_answers.specs.Tempos.{lagsLent, lagParts, tempoLent, shareLent};
-ghost use Rattle.capi.specs.Tempos.{PhEstimatePromise, PhStabilityPromise};
+ghost use Rattle.capi_answers.specs.Tempos.{lagsLent, tempoLent, shareLent};
+ghost use Rattle.capi.specs.Tempos.{PhLagRangePromise, PhEstimatePromise, PhStabilityPromise};
 
 // `lags::lag_range`, for C.
 #[no_mangle]
@@ -19,7 +17,7 @@ pub extern "C" fn ph_lag_range(
     max_lag: &mut usize,
 ) -> u32
     ensures { λ r. ⌜
-        Handed (lagRange rate (optionsOf «min_bpm» «max_bpm») .number) (lagParts (lagRange rate (optionsOf «min_bpm» «max_bpm»)))
+        PhLagRangePromise rate (optionsOf «min_bpm» «max_bpm»)
         (lagsLent (now («min_lag» .entry)) (now («max_lag» .entry)))
         r (lagsLent (now («min_lag» .exit)) (now («max_lag» .exit)))
         ⌝ }

@@ -4,10 +4,9 @@ use capi_answers::tracks::put_room;
 use options::TempoOpts;
 ghost use Rattle.numbers.specs.Limits.{slabOf};
 ghost use Rattle.options.specs.Options.{optionsOf};
-ghost use Rattle.rooms.specs.Rooms.{results, spare, roomOf};
-ghost use Rattle.capi_answers.specs.Handed.{Handed};
-ghost use Rattle.capi_answers.specs.Tracks.{roomLent, roomParts, trackLent};
-ghost use Rattle.capi.specs.Tracks.{PhEnvelopePromise, PhMagnitudesPromise};
+ghost use Rattle.rooms.specs.Rooms.{results, spare};
+ghost use Rattle.capi_answers.specs.Tracks.{roomLent, trackLent};
+ghost use Rattle.capi.specs.Tracks.{PhRoomPromise, PhEnvelopePromise, PhMagnitudesPromise};
 
 // `rooms::room_of`, for C.
 #[no_mangle]
@@ -21,7 +20,7 @@ pub extern "C" fn ph_room_of(
     work_slots: &mut usize,
 ) -> u32
     ensures { λ r. ⌜
-        Handed (roomOf rows rate (optionsOf «min_bpm» «max_bpm») .number) (roomParts (roomOf rows rate (optionsOf «min_bpm» «max_bpm»)))
+        PhRoomPromise rows rate (optionsOf «min_bpm» «max_bpm»)
         (roomLent (now («row_slots» .entry)) (now («lag_slots» .entry)) (now («work_slots» .entry)))
         r (roomLent (now («row_slots» .exit)) (now («lag_slots» .exit)) (now («work_slots» .exit)))
         ⌝ }

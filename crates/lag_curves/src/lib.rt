@@ -31,6 +31,11 @@ ghost use Rattle.lag_curves.specs.Curves.{
   weightedBy,
 };
 
+// the tempo that is heard most, in beats a minute
+const LIKELIEST: f64 = 120.0;
+// how many octaves from it a tempo is still likely
+const LIKELY_WIDTH: f64 = 1.3;
+
 // x held to 0..1
 fn unit_of(x: f64) -> f64
     ensures { λ r. ⌜ r ≡ held nought one x ⌝ }
@@ -205,7 +210,7 @@ pub fn fill_clarity(
 fn prior_of(bpm: f64) -> f64
     ensures { λ r. ⌜ r ≡ priorOf bpm ⌝ }
 {
-    let z = log2(bpm / 120.0) / 1.3;
+    let z = log2(bpm / LIKELIEST) / LIKELY_WIDTH;
     exp(-0.5 * z * z)
 }
 

@@ -3,7 +3,7 @@ use Prim.Native.Nat.{ℕ, _+_, _-_}
 use mathlib.Core.List.{List}
 use lib.ListN.{length, getD}
 use lib.Ieee.{Float, nan}
-use Rattle.numbers.specs.Rounded.{_⊖_, _⊗_, _⊘_, bits, real, sumOf}
+use Rattle.numbers.specs.Rounded.{_⊖_, _⊗_, _⊘_, sumOf}
 use Rattle.numbers.specs.Lists.{curve}
 
 -- the slot at t less the mean

@@ -3,6 +3,7 @@
 // Document 01, Tempo and candidates. The Rust: tempo.rs, what `pick_tempo_peaks` and `stability_of` are made of.
 use floats::wholes::round_of;
 use lists::float_of;
+use numbers::HOP;
 use numbers::OUT_OF_BOUNDS;
 use numbers::greatest;
 use numbers::rate_fine;
@@ -26,8 +27,6 @@ ghost use Rattle.lags.specs.Lags.{
 
 pub mod pairs;
 
-// samples from a frame to the next
-const HOP: f64 = 256.0;
 // seconds of a minute
 const SIXTY: f64 = 60.0;
 

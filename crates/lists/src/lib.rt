@@ -1,6 +1,6 @@
 // What is asked of a list: whether each entry is at most so much, its sum and its mean, and which value is the first greatest.
 //
-// docs/RULES.md, "Sums" and "The first greatest". Inner calls all: the crates above share them, and no caller of the library needs them.
+// docs/RULES.md, L7 (sums) and L11 (first greatest). Inner calls all: the crates above share them, and no caller of the library needs them.
 ghost use mathlib.Core.Path.{_≡_};
 ghost use Prim.Native.Nat.{_≤_, _<_};
 ghost use lib.ListN.{length};

@@ -26,6 +26,10 @@ pub const MOST_LENGTH: u64 = 2_147_483_648;
 pub const MOST_FRAME: u32 = 1_048_575;
 // a listed row of a feature curve
 pub const MOST_LISTED_ROW: u32 = 49_999;
+// samples from a frame to the next
+pub const HOP: f64 = 256.0;
+// milliseconds of a second
+pub const THOUSAND: f64 = 1000.0;
 // 2^-52: an energy or a variance of at most so much is none
 pub const EPSILON: f64 = 0.0000000000000002220446049250313080847263336181640625;
 // the size of a value of an envelope, curve, median or feature row, 2 ^ 150

@@ -3,7 +3,9 @@
 // Document 01, Onsets. The Rust: onsets.rs; here its `analyze_stft`, which picks the onsets and gives their times.
 pub mod peaks; // peaks.rt: peaks of a curve, and the best of each group of close ones
 
+use numbers::HOP;
 use numbers::Listing;
+use numbers::THOUSAND;
 ghost use mathlib.Core.Path.{_≡_};
 ghost use mathlib.Core.List.{map};
 ghost use Prim.Native.Nat.{_≤_};
@@ -16,12 +18,8 @@ ghost use Rattle.onsets.specs.Steps.{OnsetsListed};
 
 // the least time between two onsets, in milliseconds
 const MIN_GAP_MS: f64 = 30.0;
-// samples from a frame to the next
-const HOP: f64 = 256.0;
 // samples from a frame's start to its centre, half of the transform's 1,024
 const CENTRE: f64 = 512.0;
-// milliseconds of a second
-const THOUSAND: f64 = 1000.0;
 
 // Lists the frames of the onsets of a flux with its threshold, at a sample rate. Room: one slot for each slot of flux.
 // Refuses: 1 a flux longer than 1,048,576 or a rate outside 1 to 192,000; 2 a threshold of another length; 3 frames shorter than

@@ -9,7 +9,7 @@ use lib.Ieee.{Float, nan}
 use lib.ListN.{length, take, drop}
 use Rattle.numbers.proofs.Slabs.{slab-fits}
 use Rattle.numbers.proofs.Overs.{length-over, every-over, patch-fits, row-over, row-over-in, over-none}
-use Rattle.numbers.proofs.Tabs.{length-tab, length-filled, filled-outside}
+use Rattle.numbers.proofs.Tabs.{length-tab, length-filled, filled-outside, filled-first}
 use Rattle.numbers.proofs.Tests.{passed-does, and-both, lowest-0}
 use Rattle.numbers.specs.Limits.{magnitudeFine, valueFine}
 use Rattle.numbers.specs.Lists.{curve, every, filled, row}
@@ -19,7 +19,7 @@ use Rattle.flux.proofs.Fluxes.{FluxFine, flux-asked}
 use Rattle.onsets.proofs.Onsets.{threshold-takes}
 use Rattle.flux.specs.Flux.{fluxAt, FluxPromise}
 use Rattle.threshold.specs.Threshold.{thresholdAt, windowRoom, thresholdRefusal, ThresholdPromise}
-use Rattle.patches.proofs.Parts.{filled-first, filled-rest, filled-by}
+use Rattle.patches.proofs.Parts.{filled-rest, filled-by}
 use Rattle.patches.proofs.Wholes.{new-asked}
 use Rattle.patches.specs.Patches.{Patch, patchOf, newRows, edited, unlessEmpty}
 use Rattle.patch_magnitudes.specs.declared.Patched.{Patched}

@@ -40,9 +40,6 @@ module _ {A : Type 0} where
 
   -- ---- a curve written from nothing into a lent list
 
-  pub filled-first : (f : ℕ → A) (d : List A) (n : ℕ) → take n (filled f d 0 n) ≡ curve f n
-  filled-first f d n = ap (take n) (filled-whole f d n) ∙ take-at (curve f n) (drop n d) n (length-tab f 0 n)
-
   pub filled-rest : (f : ℕ → A) (d : List A) (n : ℕ) → drop n (filled f d 0 n) ≡ drop n d
   filled-rest f d n = ap (drop n) (filled-whole f d n) ∙ drop-at (curve f n) (drop n d) n (length-tab f 0 n)
 

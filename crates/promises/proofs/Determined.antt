@@ -44,7 +44,7 @@ use Rattle.bars.specs.declared.BarBeat.{BarBeat}
 use Rattle.bars.proofs.BarBeats.{says-one}
 use Rattle.similarities.specs.Similarity.{SimilarityPromise}
 use Rattle.novelties.specs.Novelty.{NoveltyPromise}
-use Rattle.sections.specs.Outcomes.{workedIn, Found, RowTimesPromise}
+use Rattle.sections.specs.Outcomes.{workedIn, Found, BoundaryTimesPromise}
 use Rattle.sections.specs.declared.Sections.{Sections}
 use Rattle.sections.proofs.Outcomes.{found-unique}
 use Rattle.patches.specs.Patches.{Patch}
@@ -114,7 +114,7 @@ pub frame-times : (frames : List ℕ) (rate : ℕ) (was : List Float) {a b : ℕ
 frame-times frames rate was = written _ _ was
 
 pub boundary-times : (rows : List ℕ) (samples rate : ℕ) (was : List Float) {a b : ℕ} {x y : List Float}
-    → RowTimesPromise rows samples rate was a x → RowTimesPromise rows samples rate was b y → (a ≡ b) × (x ≡ y)
+    → BoundaryTimesPromise rows samples rate was a x → BoundaryTimesPromise rows samples rate was b y → (a ≡ b) × (x ≡ y)
 boundary-times rows samples rate was = written _ _ was
 
 -- a number, a count, and one lent list

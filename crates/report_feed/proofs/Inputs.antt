@@ -11,7 +11,7 @@ use lib.Seq.{take-append-seam, drop-append-seam, take-at, drop-at, take-all}
 use borrow.Author.Tests.{le-leb, lt-leb, leb-true, ne-eqb}
 use Rattle.numbers.proofs.Tests.{and-left, and-right, pick-true, pick-false, lowest-1, lowest-2}
 use Rattle.numbers.proofs.Tabs.{length-tab, filled-whole}
-use Rattle.numbers.specs.Limits.{magnitudeFine, valueFine, slabOf}
+use Rattle.numbers.specs.Limits.{mostBins, magnitudeFine, valueFine, slabOf}
 use Rattle.numbers.specs.Lists.{every, curve}
 use Rattle.numbers.specs.Rounded.{pick}
 use Rattle.report_npy.specs.declared.Preamble.{Preamble}
@@ -41,13 +41,13 @@ use Rattle.report_feed.specs.Feeds.{Told}
 -- ---- bounds
 
 module _ (rows bins : ℕ) (e : shapeFine rows bins ≡ true) where
-  pub rows-fit : rows ≤ 8000
+  pub rows-fit : rows ≤ mostReported
   rows-fit = leb-true _ _ (and-left (leb rows mostReported) _ e)
 
   pub bins-some : 1 ≤ bins
   bins-some = leb-true _ _ (and-left (leb 1 bins) _ (and-right (leb rows mostReported) _ e))
 
-  pub bins-fit : bins ≤ 4096
+  pub bins-fit : bins ≤ mostBins
   bins-fit = leb-true _ _ (and-right (leb 1 bins) _ (and-right (leb rows mostReported) _ e))
 
 -- ---- the number of an input

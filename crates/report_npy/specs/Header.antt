@@ -2,7 +2,7 @@
 -- `{'descr': '<f4', 'fortran_order': False, 'shape': (N, B), }`, then any number of spaces and a line feed that ends the stated header
 -- length, N and B without needless zeros". A text is the list of its bytes.
 use Prim.Native.Nat.{ℕ, _+_, _*_, min}
-use mathlib.Core.Bool.{Bool, true, false, _&&_}
+use mathlib.Core.Bool.{Bool, false, _&&_}
 use mathlib.Core.List.{List, [], _∷_, _++_}
 use lib.Dec.{leb, eqb}
 use lib.ListN.{length, getD, drop, replicate}

@@ -201,7 +201,7 @@ module _ (env : List Float) (rate : ℕ) (o : TempoOpts) (r : Results) (s : Spar
 -- ---- magnitudes
 
 -- what number 0 says
-pub record Told (m : List Float) (slab : Slab) (rate : ℕ) (o : TempoOpts) (flux : ℕ) (r : Results) (s : Spare) : Type 0 where
+pub record MagnitudesTold (m : List Float) (slab : Slab) (rate : ℕ) (o : TempoOpts) (flux : ℕ) (r : Results) (s : Spare) : Type 0 where
   pub flux-takes : FluxFine m slab flux
   pub numbers : analysisNumbersFine (slab .rows) rate o ≡ true
   pub room : Enough (inBounds (slab .rows) rate o) r s
@@ -213,7 +213,7 @@ module _ (m : List Float) (slab : Slab) (rate : ℕ) (o : TempoOpts) (flux : Lis
   abbrev wide? : Bool
   wide? = leb (slab .rows) (length flux) && enough? (roomOf (slab .rows) rate o) r s
 
-  pub told : magnitudesNumber m slab rate o flux r s ≡ 0 → Told m slab rate o (length flux) r s
+  pub told : magnitudesNumber m slab rate o flux r s ≡ 0 → MagnitudesTold m slab rate o (length flux) r s
   unfolding magnitudesRefusal
   told e =
       let f = flux-asks m slab rate o (length flux) (frameSlots r) (lagSlots r s) (length (s .work)) e in
@@ -257,10 +257,10 @@ module _ (m : List Float) (slab : Slab) (rate : ℕ) (o : TempoOpts) (flux : Lis
   flux-long : length envelope ≡ slab .rows
   flux-long = length-tab (fluxAt m slab) 0 (slab .rows)
 
-  flux-loud : Told m slab rate o (length flux) r s → every valueFine envelope ≡ true
+  flux-loud : MagnitudesTold m slab rate o (length flux) r s → every valueFine envelope ≡ true
   flux-loud t = flux-curve-fine m slab (t .flux-takes .fine) (slab-fits slab (t .flux-takes .shape) .bins-fit)
 
-  pub flux-ready : Told m slab rate o (length flux) r s → Ready envelope rate o r s
+  pub flux-ready : MagnitudesTold m slab rate o (length flux) r s → Ready envelope rate o r s
   flux-ready t = room-ready envelope rate o r s (rw flux-long (t .numbers)) (rw flux-long (t .room)) (flux-loud t)
 
   pub flux-taken : magnitudesNumber m slab rate o flux r s ≡ 0 → envelopeNumber envelope rate o r s ≡ 0

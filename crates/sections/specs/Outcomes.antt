@@ -39,5 +39,5 @@ BoundariesPromise novelty samples rate maxSections rows work =
     Found (boundariesRefusal novelty samples rate (length rows) (length work)) novelty (boundariesOf novelty samples rate maxSections) rows work
 
 -- what `boundary_times` promises
-abbrev pub RowTimesPromise : (rows : List ℕ) (samples rate : ℕ) (ms : List Float) (answer : ℕ) (ms′ : List Float) → Type 0
-RowTimesPromise rows samples rate ms = Written (rowTimesRefusal rows samples rate (length ms)) (listed (map (rowTime samples rate) rows) ms) ms
+abbrev pub BoundaryTimesPromise : (rows : List ℕ) (samples rate : ℕ) (ms : List Float) (answer : ℕ) (ms′ : List Float) → Type 0
+BoundaryTimesPromise rows samples rate ms = Written (rowTimesRefusal rows samples rate (length ms)) (listed (map (rowTime samples rate) rows) ms) ms

@@ -1,12 +1,12 @@
 -- Document 01, Sections: "listed ascending as rows (time: row·frame ms)".
 use Prim.Native.Nat.{ℕ}
-use mathlib.Core.Bool.{Bool, true, _&&_}
+use mathlib.Core.Bool.{true, _&&_}
 use mathlib.Core.List.{List}
-use lib.Dec.{leb, ltb}
+use lib.Dec.{leb}
 use lib.ListN.{length}
 use lib.Ieee.{Float}
 use Rattle.numbers.specs.Rounded.{_⊗_, real}
-use Rattle.numbers.specs.Limits.{mostFeatures, rowFine}
+use Rattle.numbers.specs.Limits.{rowFine}
 use Rattle.numbers.specs.Refusals.{lowest}
 use Rattle.numbers.specs.Lists.{every}
 use Rattle.sections.specs.Boundaries.{frameMs, gridFine}

@@ -3,6 +3,7 @@
 // Document 01, Sections. The Rust: structure.rs `confidence_of`, and the end of `detect_structure`.
 mod confidence; // confidence.rt: how far they stand out
 
+use numbers::THOUSAND;
 ghost use mathlib.Core.Path.{_≡_};
 ghost use mathlib.Core.List.{map};
 ghost use Prim.Native.Nat.{_≤_};
@@ -13,7 +14,7 @@ ghost use Rattle.numbers.specs.Lists.{every, listed};
 ghost use Rattle.section_peaks.specs.Greatest.{keptGreatest};
 ghost use Rattle.sections.specs.Boundaries.{leastRows, frameMs, sectionGap, sectionPeaks, gridFine, boundariesRefusal};
 ghost use Rattle.sections.specs.Times.{rowTimesRefusal};
-ghost use Rattle.sections.specs.Outcomes.{Found, BoundariesPromise, RowTimesPromise};
+ghost use Rattle.sections.specs.Outcomes.{Found, BoundariesPromise, BoundaryTimesPromise};
 
 // What `boundaries` answers: its number, how many sections there are, how many boundaries are listed (one less, or none), and how far
 // they stand out, from 0 to 1. All are 0 at a refusal, but the number.
@@ -30,8 +31,6 @@ const LEAST_ROWS: usize = 16;
 const MIN_GAP_MS: f64 = 4000.0;
 // a novelty counts from so many times the distance of the values from their median
 const MAD_SCALE: f64 = 1.5;
-// milliseconds of a second
-const THOUSAND: f64 = 1000.0;
 
 // Lists the rows of a novelty curve at which a section begins, at most max(1, max_sections) - 1, given a feature row's length in samples and the
 // sample rate. Room: a slot of rows and of work for each slot of novelty. Refuses: 1 a novelty longer than 50,000, a length outside
@@ -153,7 +152,7 @@ pub fn section_gap(length: u64, rate: u32) -> usize
 // Refuses: 1 a length outside 1 to 2^31, a rate outside 1 to 192,000 or a row of 50,000 and above; 3 ms shorter than rows. A refusal
 // writes nothing. The rows need not ascend. Slots past them stay.
 pub fn boundary_times(rows: &[u32], length: u64, rate: u32, ms: &mut [f64]) -> u32
-    ensures { λ r. ⌜ RowTimesPromise (now (rows .entry)) length rate (now (ms .entry)) r (now (ms .exit)) ⌝ }
+    ensures { λ r. ⌜ BoundaryTimesPromise (now (rows .entry)) length rate (now (ms .entry)) r (now (ms .exit)) ⌝ }
 {
     let number = times_refusal(rows, length, rate, ms.len());
     if number != 0 {

@@ -16,7 +16,6 @@ use Rattle.numbers.specs.Lists.{every, filled, listed}
 use Rattle.options.specs.declared.TempoOpts.{TempoOpts}
 use Rattle.lags.specs.Lags.{minLag, maxLag, lagRoom, boundsFine, bpmAt}
 use Rattle.tempo.specs.declared.Candidate.{Candidate}
-use Rattle.tempo.specs.declared.Tempo.{Tempo}
 use Rattle.tempo.specs.declared.Tempo.the-variants.{None, Found}
 use Rattle.tempo.specs.declared.TempoEstimate.{TempoEstimate}
 use Rattle.lag_candidates.specs.Candidates.{winnerOf, candidatesOf}

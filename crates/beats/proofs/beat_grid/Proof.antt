@@ -25,14 +25,14 @@ use Rattle.beats.proofs.beat_grid.Statement.{statement}
 use Rattle.beats.proofs.beat_grid.Tie as tie
 
 -- what number 0 tells
-pub record Told (envelope : List Float) (period score back beats : ℕ) : Type 0 where
+pub record GridTold (envelope : List Float) (period score back beats : ℕ) : Type 0 where
   pub rows : length envelope ≤ mostRows
   pub periods : period ≤ mostPeriod
   pub scores-room : length envelope ≤ score
   pub links-room : length envelope ≤ back
   pub beats-room : length envelope ≤ beats
 
-told : (envelope : List Float) (period score back beats : ℕ) → gridRefusal envelope period score back beats ≡ 0 → Told envelope period score back beats
+told : (envelope : List Float) (period score back beats : ℕ) → gridRefusal envelope period score back beats ≡ 0 → GridTold envelope period score back beats
 unfolding gridRefusal gridNumbersFine gridRoomFine
 told envelope period score back beats e =
     let p = lowest-zero (gridNumbersFine envelope period) true (gridRoomFine envelope score back beats) (every valueFine envelope) e in
