@@ -16,6 +16,7 @@ The exit is 0 with an answer ("no tempo" is one), 1 where the song can't be read
 import argparse
 import contextlib
 import json
+import math
 import os
 import re
 import shutil
@@ -494,6 +495,17 @@ def part_of(words):
     return start, end
 
 
+def bound_of(words):
+    """A bound of the tempo; None, where nothing is written, is an open one. A NaN is none: the library would take it, for another bound."""
+    try:
+        bound = float(words) if words.strip() else None
+    except ValueError:
+        bound = math.nan
+    if bound is not None and math.isnan(bound):
+        raise argparse.ArgumentTypeError("%r is no number of beats a minute; write '' for no limit" % words)
+    return bound
+
+
 def short(number):
     return ("%.1f" % number).rstrip("0").rstrip(".") or "0"
 
@@ -715,8 +727,10 @@ def arguments(words):
     parser.add_argument("--onsets", action="store_true", help="label the onsets too")
     parser.add_argument("--picture", metavar="FILE.svg", help="draw flux, threshold, onsets, beats, downbeats, sections and tempo, as SVG")
     parser.add_argument("--part", metavar="START-END", type=part_of, help="draw this part alone, for example 1:00-1:30; half a minute is easy to read")
-    parser.add_argument("--min-bpm", type=float, default=30.0, metavar="BPM", help="the slowest tempo that is looked for (30), to the nearest lag")
-    parser.add_argument("--max-bpm", type=float, default=300.0, metavar="BPM", help="the fastest tempo that is looked for (300), to the nearest lag")
+    parser.add_argument("--min-bpm", type=bound_of, default=30.0, metavar="BPM",
+                        help="the slowest tempo that is looked for (30), to the nearest lag; '' for no limit")
+    parser.add_argument("--max-bpm", type=bound_of, default=300.0, metavar="BPM",
+                        help="the fastest tempo that is looked for (300), to the nearest lag; '' or inf for no limit")
     parser.add_argument("--quiet", action="store_true", help="no progress bar, and no lines on standard output")
     given = parser.parse_args(words)
     if given.onsets and not given.labels:

@@ -261,8 +261,15 @@ class Answer(Room):
     def test_bounds_of_the_search(self):
         out, _ = self.run_tag(self.song, "--max-bpm", "100", "--json", "-")
         self.assertLessEqual(json.loads(out)["tempo"]["bpm"], 100)
-        _, err = self.run_tag(self.song, "--max-bpm", "nan", status=1)
-        self.assertIn("refused with 1", err)
+        # no limit: a tempo above 300 and one below 30 are looked for, and with it both ways the lags are all that there are
+        told = [json.loads(self.run_tag(self.song, "--json", "-", *words)[0]) for words in (
+            ["--min-bpm", "310", "--max-bpm", ""], ["--min-bpm", "310", "--max-bpm", "inf"], ["--min-bpm", "", "--max-bpm", "25"])]
+        self.assertEqual(told[0], told[1])
+        self.assertGreater(told[0]["tempo"]["bpm"], 301)
+        self.assertLess(told[2]["tempo"]["bpm"], 26)
+        for words in "nan", "fast":
+            _, err = self.run_tag(self.song, "--max-bpm", words, status=2)
+            self.assertIn("'%s' is no number of beats a minute; write '' for no limit" % words, err)
 
 
 class Parts(unittest.TestCase):
@@ -505,8 +512,12 @@ class Odd(Room):
         self.assertEqual(err, "")
 
     def test_a_refusal_names_the_song(self):
-        err = self.refused(self.song, "--max-bpm", "nan")
-        self.assertEqual(err, "tag: piece.wav: lag_range refused with 1: max_bpm nan, a finite number\n")
+        # the program asks before the library would refuse: here its own limit of the rate is lifted
+        high = self.put("high.wav", riff(1, 1, 192_001, 16, bytes(20_000)))
+        lifted = "import sys, tag; tag.MOST_RATE = 200_000; sys.exit(tag.main())"
+        done = subprocess.run([sys.executable, "-B", "-c", lifted, high], cwd=HERE, stdout=subprocess.PIPE, stderr=subprocess.PIPE)
+        self.assertEqual((done.returncode, done.stdout), (1, b""))
+        self.assertEqual(done.stderr.decode(), "tag: high.wav: pick_onsets refused with 1: rate 192,001, 1 to 192,000\n")
 
     def test_cut_short(self):
         data = struct.pack("<h", 1000) * 44_100

@@ -7,8 +7,8 @@
  *   0  answered ("no tempo" and "no stability" are answers)
  *   1  a number is out of bounds: a rate outside 1 to 192,000, more than 1,048,576 magnitude rows or slots of an input that is an envelope,
  *      a flux or the curve of ph_suppress_close_peaks, bins outside 1 to 4,096, more than 50,000 feature rows or slots of ph_boundaries'
- *      novelty, a feature length outside 1 to 2^31, a period or whole lag above 45,000, a bpm that isn't finite, a patch whose start is
- *      above its row count, a frame above 1,048,575, a listed row of 50,000 and above in ph_boundary_times, a peak list that doesn't ascend
+ *      novelty, a feature length outside 1 to 2^31, a period or whole lag above 45,000, a patch whose start is above its
+ *      row count, a frame above 1,048,575, a listed row of 50,000 and above in ph_boundary_times, a peak list that doesn't ascend
  *      strictly or points past its curve, or the median of nothing
  *   2  the length of an input isn't rows times width, a threshold isn't as long as its flux, however long it is, or a patch isn't whole rows
  *      or runs past the end
@@ -99,7 +99,8 @@ extern "C" {
 /* the largest size of a magnitude, 2^126, and of a value of an envelope, curve, median or feature row, 2^150 */
 #define PROHUNSEV_MOST_MAGNITUDE 85070591730234615865843651857942052864.0f
 #define PROHUNSEV_MOST_VALUE 1427247692705959881058285969449495136382746624.0
-/* the usual bounds of a tempo, in beats a minute: min_bpm and max_bpm */
+/* the usual bounds of a tempo, in beats a minute: min_bpm and max_bpm; INFINITY (math.h) as max_bpm is no upper limit, and -INFINITY as
+ * min_bpm, or anything up to 1, no lower one */
 #define PROHUNSEV_MIN_BPM 30.0
 #define PROHUNSEV_MAX_BPM 300.0
 
@@ -153,14 +154,18 @@ uint32_t ph_frame_times(const uint32_t *frames, size_t frames_len, uint32_t rate
 
 /* The lags, in frames, of the fastest and the slowest tempo that two bounds in beats a minute allow; reversed bounds are swapped.
  * *min_lag is at least 1, *max_lag at least one more and at most 45,000. The usual bounds are 30 and 300.
- * Refuses 1 for the rate or a bound that isn't finite. */
+ * Bounds, here and in every function below that takes them, are any two doubles, and none is refused. INFINITY as max_bpm means no upper
+ * limit, -INFINITY as min_bpm, or anything up to 1, no lower one; INFINITY as both gives the lags 1 and 2. The rule: unless
+ * min_bpm <= max_bpm they swap, so a NaN swaps them; then the lower is 1 where it is a NaN or less, and the upper is the lower + 1 where it is
+ * a NaN or less. So a NaN is not an open bound: NAN and 300 mean 300 to 301.
+ * Refuses 1 for the rate. */
 uint32_t ph_lag_range(uint32_t rate, double min_bpm, double max_bpm, size_t *min_lag, size_t *max_lag);
 
 /* The tempo of an envelope with this many onsets. With a tempo: *found is 1, *bpm and *clarity are its, and lags and saliences begin with
  * *count candidates, 1 to 3, the winner first, the slots behind them 0. Without a tempo: *found, *bpm, *clarity, *count and all slots are 0.
  * Room: L slots each of clarity_curve and weight_curve, which then hold the lag curves (unchanged where the envelope is too short, has fewer
  * than two onsets or is flat), and of work, unchanged.
- * Refuses 1 for the length, the rate or a bound, 3, and 4 for a value. */
+ * Refuses 1 for the length or the rate, 3, and 4 for a value. */
 uint32_t ph_estimate(const double *envelope, size_t envelope_len, size_t onsets, uint32_t rate, double min_bpm, double max_bpm,
                      double *clarity_curve, size_t clarity_curve_len, double *weight_curve, size_t weight_curve_len, double *work, size_t work_len,
                      uint32_t *found, double *bpm, double *clarity, size_t lags[3], double saliences[3], size_t *count);
@@ -168,7 +173,7 @@ uint32_t ph_estimate(const double *envelope, size_t envelope_len, size_t onsets,
 /* In how many of up to four windows the tempo is heard again; whole_lag is the winning candidate's lag, 0 for no tempo.
  * With a stability: *found is 1, *agreeing of *windows agree, and *fraction is *agreeing / *windows. Without one: all four numbers are 0.
  * Room: L slots each of clarity_curve, weight_curve and work, which hold anything where *found is 1 and else stay as they were.
- * Refuses 1 for the length, the rate, a bound or a lag above 45,000, 3, and 4 for a value. */
+ * Refuses 1 for the length, the rate or a lag above 45,000, 3, and 4 for a value. */
 uint32_t ph_stability_of(const double *envelope, size_t envelope_len, uint32_t rate, double min_bpm, double max_bpm, size_t whole_lag,
                          double *clarity_curve, size_t clarity_curve_len, double *weight_curve, size_t weight_curve_len, double *work, size_t work_len,
                          uint32_t *found, double *fraction, size_t *agreeing, size_t *windows);
@@ -241,14 +246,14 @@ uint32_t ph_patch_features(double *features, size_t features_len, size_t rows, s
 /* The room of a whole analysis: *row_slots each for flux, threshold, onsets, score, back, beats and downbeats, *lag_slots for each of the
  * four lag curves, *work_slots for work.
  * With exactly this room neither analysis below refuses with 3; with one slot fewer in a slice that it is lent it does, unless a lower number applies.
- * Refuses 1 for rows above 1,048,576, the rate or a bound that isn't finite. */
+ * Refuses 1 for rows above 1,048,576 or the rate. */
 uint32_t ph_room_of(size_t rows, uint32_t rate, double min_bpm, double max_bpm, size_t *row_slots, size_t *lag_slots, size_t *work_slots);
 
 /* Onsets, tempo, candidates, stability, beats and downbeats of an envelope, as the calls above give them one after the other: *found and what
  * follows it up to *count are ph_estimate's, *steady is the *found of ph_stability_of. Without a tempo there is no stability and no beat.
  * Room: by ph_room_of; with a stability window_clarity, window_weight and work then hold anything, in those slots, else only min(21, N) slots
  * of work do.
- * Refuses 1 for the length, the rate or a bound, 3, and 4 for a value; a threshold above 2^150, made from a lent envelope that large, refuses nothing here. */
+ * Refuses 1 for the length or the rate, 3, and 4 for a value; a threshold above 2^150, made from a lent envelope that large, refuses nothing here. */
 uint32_t ph_analyse_envelope(const double *envelope, size_t envelope_len, uint32_t rate, double min_bpm, double max_bpm,
                              double *threshold, size_t threshold_len, uint32_t *onsets, size_t onsets_len,
                              double *clarity_curve, size_t clarity_curve_len, double *weight_curve, size_t weight_curve_len,
@@ -260,7 +265,7 @@ uint32_t ph_analyse_envelope(const double *envelope, size_t envelope_len, uint32
 
 /* The same from magnitudes: their flux, which goes into flux, is the envelope.
  * Room: row_slots of flux, and else as ph_analyse_envelope.
- * Refuses 1 for rows, bins, the rate or a bound, 2 where there aren't rows times bins magnitudes, 3, and 4 for a magnitude. */
+ * Refuses 1 for rows, bins or the rate, 2 where there aren't rows times bins magnitudes, 3, and 4 for a magnitude. */
 uint32_t ph_analyse_magnitudes(const float *magnitudes, size_t magnitudes_len, size_t rows, size_t bins, uint32_t rate, double min_bpm, double max_bpm,
                                double *flux, size_t flux_len, double *threshold, size_t threshold_len, uint32_t *onsets, size_t onsets_len,
                                double *clarity_curve, size_t clarity_curve_len, double *weight_curve, size_t weight_curve_len,

@@ -24,6 +24,7 @@ are seen: that nothing else, such as NumPy in another thread, changes a lent buf
 import array
 import contextlib
 import ctypes
+import math
 import operator
 import os
 import pathlib
@@ -72,8 +73,8 @@ class Refused(Exception):
 
     WHY = {
         1: "a number is out of bounds: sample rate 1 to 192,000, at most 1,048,576 rows or slots of 1 to 4,096 bins, period at most"
-           " 45,000, at most 50,000 feature rows of 1 to 2**31 samples, finite BPM bounds, frames at most 1,048,575; or a patch starts"
-           " past its rows, a median's list is empty, or a peak list doesn't ascend or points past its curve",
+           " 45,000, at most 50,000 feature rows of 1 to 2**31 samples, frames at most 1,048,575; or a patch starts past its rows,"
+           " a median's list is empty, or a peak list doesn't ascend or points past its curve",
         2: "an input's length isn't rows times width, or a patch isn't whole rows or runs past the end",
         3: "an output or work slice has fewer slots than its formula, which the call's help says under Room, and docs/ROOM.md",
         4: "a value isn't finite or is too large: magnitudes up to 2**126, envelopes, curves, medians and features up to 2**150,"
@@ -89,9 +90,17 @@ class Refused(Exception):
 
 
 class TempoOpts(NamedTuple):
-    """The bounds of the tempo search in beats a minute, in either order; where a call takes one, it takes a pair of numbers too."""
-    min_bpm: float = 30.0
-    max_bpm: float = 300.0
+    """The bounds of the tempo search in beats a minute, in either order; where a call takes one, it takes a pair of numbers too.
+
+    None is an open bound: min_bpm=None looks for every slower tempo, as -math.inf and anything up to 1 do, max_bpm=None for every faster one,
+    as math.inf does. No bound is refused. A NaN is not an open bound: it swaps the pair, as a lower bound above the upper one does, and then
+    stands for 1 as the lower one, and for one beat a minute above the lower as the upper one; (math.nan, 300) means 300 to 301."""
+    min_bpm: Optional[float] = 30.0
+    max_bpm: Optional[float] = 300.0
+
+
+# a TempoOpts, or any pair of numbers, of which None is an open one
+Bounds = Sequence[Optional[float]]
 
 
 class LagRange(NamedTuple):
@@ -481,12 +490,19 @@ def _real(name, number):
 
 
 def _bounds(opts):
-    """The bounds of a tempo search: a TempoOpts, or any pair of numbers."""
+    """The bounds of a tempo search: a TempoOpts, or any pair of numbers; None is an open one."""
     try:
         first, second = opts
     except (TypeError, ValueError):
         raise TypeError(f"opts must be a TempoOpts or a pair of numbers, not {opts!r}") from None
-    return _real("min_bpm", first), _real("max_bpm", second)
+    return _real("min_bpm", -math.inf if first is None else first), _real("max_bpm", math.inf if second is None else second)
+
+
+def _written(n):
+    """The bounds of a refused call, as one may write them."""
+    def one(bound, open_):
+        return "None" if bound == open_ else str(bound) if math.isfinite(bound) else f"float('{bound}')"
+    return f"({one(n.min_bpm, -math.inf)}, {one(n.max_bpm, math.inf)})"
 
 
 def _size(name, number, taken=None):
@@ -602,13 +618,6 @@ def _number(name, least, most):
     return 1, look
 
 
-def _finite(name):
-    def look(n):
-        number = getattr(n, name)
-        return "" if abs(number) < float("inf") else f"{name} {number}, a finite number"
-    return 1, look
-
-
 def _at_most(name, most):
     return 1, lambda n: f"{name}: {_many(getattr(n, name), 'slot')} lent, at most {most:,}" if getattr(n, name) > most else ""
 
@@ -708,7 +717,7 @@ def _value(name):
     return 4, lambda n: "" if abs(getattr(n, name)) <= _VALUE[0] else f"{name} is {getattr(n, name)}: {_VALUE[1]}"
 
 
-_RATE, _OPTS = _number("rate", *_TAKEN["rate"]), (_finite("min_bpm"), _finite("max_bpm"))
+_RATE = _number("rate", *_TAKEN["rate"])
 _ROWS = (_number("rows", 0, _MOST_ROWS), _number("bins", *_TAKEN["bins"]), _table("magnitudes", "bins"))
 _FEATURE_ROWS, _LENGTH = _number("rows", 0, _MOST_FEATURE_ROWS), _number("length", *_TAKEN["length"])
 _LAG_CURVES = tuple(_room(name, lambda n: n.lags) for name in ("clarity", "weight", "work"))
@@ -721,14 +730,14 @@ def _frames_of(name):
 def _track(rows, input_, first):
     """The room of a whole track; `rows` is the name of its length."""
     def made(n):
-        return f"; Buffers({getattr(n, rows)}, {n.rate}, ({n.min_bpm}, {n.max_bpm})) has them"
+        return f"; Buffers({getattr(n, rows)}, {n.rate}, {_written(n)}) has them"
 
     def of_rows(n):
         return getattr(n, rows)
 
     by_row = tuple(_room(name, of_rows, made) for name in first + ("threshold", "onsets", "score", "back", "beats", "downbeats"))
     by_lag = tuple(_room(name, lambda n: n.lags, made) for name in ("clarity", "weight", "window_clarity", "window_weight"))
-    return (*input_, _RATE, *_OPTS, *by_row, *by_lag, _room("work", lambda n: max(n.lags, threshold_room(of_rows(n))), made))
+    return (*input_, _RATE, *by_row, *by_lag, _room("work", lambda n: max(n.lags, threshold_room(of_rows(n))), made))
 
 
 # what each call takes, in the order of its parameters, in the words of include/prohunsev.h; bar_beat_at refuses nothing
@@ -742,9 +751,9 @@ _TAKES = {
                     _values("threshold")),
     "suppress_close_peaks": (_frames_of("curve"), _peaks("peaks", "curve"), _room("frames", lambda n: n.peaks), _values("curve")),
     "frame_times": (_RATE, _entries("frames", _MOST_FRAME), _room("ms", lambda n: n.frames)),
-    "lag_range": (_RATE, *_OPTS),
-    "estimate": (_frames_of("envelope"), _RATE, *_OPTS, *_LAG_CURVES, _values("envelope")),
-    "stability_of": (_frames_of("envelope"), _RATE, *_OPTS, _number("whole_lag", *_TAKEN["whole_lag"]), *_LAG_CURVES, _values("envelope")),
+    "lag_range": (_RATE,),
+    "estimate": (_frames_of("envelope"), _RATE, *_LAG_CURVES, _values("envelope")),
+    "stability_of": (_frames_of("envelope"), _RATE, _number("whole_lag", *_TAKEN["whole_lag"]), *_LAG_CURVES, _values("envelope")),
     "beat_grid": (_frames_of("envelope"), _number("period", *_TAKEN["period"]),
                   *(_room(name, lambda n: n.envelope) for name in ("score", "back", "beats")), _values("envelope")),
     "downbeats": (_frames_of("envelope"), _entries("beats", _MOST_FRAME), _room("frames", lambda n: n.beats), _values("envelope")),
@@ -761,7 +770,7 @@ _TAKES = {
                        _room("similarity", lambda n: similarity_room(n.rows)), _room("novelty", lambda n: n.rows), _values("features"),
                        _values("new_rows"), _values("similarity", _SIMILARITY, lambda n: similarity_room(n.rows)),
                        _values("novelty", slots=lambda n: n.rows)),
-    "room_of": (_number("rows", 0, _MOST_ROWS), _RATE, *_OPTS),
+    "room_of": (_number("rows", 0, _MOST_ROWS), _RATE),
     "analyse_envelope": (*_track("envelope", (_frames_of("envelope"),), ()), _values("envelope")),
     "analyse_magnitudes": (*_track("rows", _ROWS, ("flux",)), _values("magnitudes", _MAGNITUDE)),
 }
@@ -829,14 +838,14 @@ def frame_times(frames: Lent, rate: int, ms: Lent) -> None:
 # ---- tempo
 
 
-def lag_range(rate: int, opts: Sequence[float] = TempoOpts()) -> LagRange:
-    """The lags that the bounds stand for; its `lags` is the room of each lag curve."""
+def lag_range(rate: int, opts: Bounds = TempoOpts()) -> LagRange:
+    """The lags that the bounds stand for; its `lags` is the room of each lag curve. Here, as in every call, a bound of None is open (TempoOpts)."""
     least, most = ctypes.c_size_t(), ctypes.c_size_t()
     _call("lag_range", _small("rate", rate), *_bounds(opts), ctypes.byref(least), ctypes.byref(most))
     return LagRange(least.value, most.value)
 
 
-def estimate(envelope: Lent, onsets: int, rate: int, opts: Sequence[float] = TempoOpts(), clarity: Lent = None, weight: Lent = None,
+def estimate(envelope: Lent, onsets: int, rate: int, opts: Bounds = TempoOpts(), clarity: Lent = None, weight: Lent = None,
              work: Lent = None) -> TempoEstimate:
     """The tempo of an envelope with so many onsets, and its candidates.
 
@@ -852,7 +861,7 @@ def estimate(envelope: Lent, onsets: int, rate: int, opts: Sequence[float] = Tem
     return TempoEstimate(tempo, tuple(Candidate(lags[k], saliences[k]) for k in range(count.value)))
 
 
-def stability_of(envelope: Lent, rate: int, opts: Sequence[float] = TempoOpts(), whole_lag: Optional[int] = None, clarity: Lent = None,
+def stability_of(envelope: Lent, rate: int, opts: Bounds = TempoOpts(), whole_lag: Optional[int] = None, clarity: Lent = None,
                  weight: Lent = None, work: Lent = None) -> Optional[Stability]:
     """How steady the tempo of this lag is, or None. Room: lag_range(rate, opts).lags slots of each of the last three.
 
@@ -970,8 +979,8 @@ class Room(NamedTuple):
         return 40 * self.rows + 32 * self.lags + 8 * self.sorting
 
 
-def room_of(rows: int, rate: int, opts: Sequence[float] = TempoOpts()) -> Room:
-    """The room for a track of at most so many rows."""
+def room_of(rows: int, rate: int, opts: Bounds = TempoOpts()) -> Room:
+    """The room for a track of at most so many rows. A bound of None is open (TempoOpts), and an open lower bound has the most lags."""
     slots = [ctypes.c_size_t() for _ in range(3)]
     _call("room_of", _size("rows", rows, (0, _MOST_ROWS)), _small("rate", rate), *_bounds(opts),
           *map(ctypes.byref, slots))
@@ -1015,11 +1024,14 @@ class Buffers:
     After analyse_magnitudes they hold the track's curves: flux, threshold, clarity and weight are read-only views of them, until the buffers
     are used again. patch_magnitudes mends flux and threshold where rows are replaced, and analyse_patched makes the new grid of them.
 
+    A bound of None is open, here and in the analyses (TempoOpts): a track may be analysed with other bounds than the buffers were made for, as
+    long as they have no more lags.
+
     One thread at a time: a call while another thread's is at work in the same Buffers raises ValueError. Once that one is done, a call
     writes over what its views show, so let each thread have Buffers of its own, or copy the views first. Nothing else may write the
     magnitudes or the envelope while a call reads them."""
 
-    def __init__(self, rows: int, rate: int, opts: Sequence[float] = TempoOpts()) -> None:
+    def __init__(self, rows: int, rate: int, opts: Bounds = TempoOpts()) -> None:
         try:
             self.room = room_of(rows, rate, opts)
         except Refused as refused:
@@ -1046,7 +1058,7 @@ class Buffers:
         return f"<Buffers for {self.room.rows:,} rows and {self.room.lags:,} lags, {self.room.bytes:,} bytes; analysed last: {told}>"
 
     def analyse_magnitudes(self, magnitudes: Lent, rows: Optional[int] = None, bins: Optional[int] = None, rate: Optional[int] = None,
-                           opts: Sequence[float] = TempoOpts()) -> Analysis:
+                           opts: Bounds = TempoOpts()) -> Analysis:
         """Analyses a track from its magnitudes, rows rows of bins float32 values; an array of two dimensions needs neither told:
         analyse_magnitudes(magnitudes, rate=48000)."""
         call = "analyse_magnitudes"
@@ -1054,7 +1066,7 @@ class Buffers:
         _given(call, rate=rate)
         return self._analyse(call, parts, parts[2].value, rate, opts, (_reals_out("flux", self._flux),))
 
-    def analyse_envelope(self, envelope: Lent, rate: int, opts: Sequence[float] = TempoOpts()) -> Analysis:
+    def analyse_envelope(self, envelope: Lent, rate: int, opts: Bounds = TempoOpts()) -> Analysis:
         """Analyses a track from its envelope of float64 values, one slot a frame."""
         return self._analyse("analyse_envelope", (_reals("envelope", envelope),), None, rate, opts, ())
 

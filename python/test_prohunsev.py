@@ -255,6 +255,64 @@ class Answers(unittest.TestCase):
             self.assertEqual(buffers.room.bytes, 40 * expected[0] + 32 * expected[1] + 8 * expected[2])
             buffers.analyse_envelope(array("d", [1.0]) * rows, rate, opts)
 
+    # bounds that are open or not finite, finite ones that mean the same, and the lags of both at 48,000 by the original
+    MOST, INF, NAN = 1.7976931348623157e308, math.inf, math.nan
+    OPEN = (
+        ((INF, INF), (MOST, MOST), (1, 2)),
+        ((30, INF), (30, MOST), (1, 375)),
+        ((INF, 30), (30, MOST), (1, 375)),
+        ((-INF, INF), (1, MOST), (1, 11_250)),
+        ((-INF, -INF), (1, 2), (5_625, 11_250)),
+        ((NAN, 300), (300, 301), (37, 38)),
+        ((30, NAN), (1, 30), (375, 11_250)),
+        ((NAN, NAN), (1, 2), (5_625, 11_250)),
+        # None: no lower limit, no upper one, whatever the other is
+        ((None, 300), (1, 300), (38, 11_250)),
+        ((30, None), (30, MOST), (1, 375)),
+        ((None, None), (1, MOST), (1, 11_250)),
+        ((None, -INF), (1, 2), (5_625, 11_250)),
+        ((INF, None), (MOST, MOST), (1, 2)),
+        ((None, NAN), (1, 2), (5_625, 11_250)),
+        (ph.TempoOpts(min_bpm=None), (1, 300), (38, 11_250)),
+        (ph.TempoOpts(max_bpm=None), (30, MOST), (1, 375)),
+        (ph.TempoOpts(None, None), (1, MOST), (1, 11_250)),
+    )
+
+    def test_open_bounds(self):
+        envelope, rate, tempos = turn(), 12_000, 0
+        rows = array("f", envelope)
+
+        def told(opts):
+            """Every call that takes bounds, each told from the others."""
+            lags = ph.lag_range(rate, opts)
+            self.assertEqual(ph.room_of(len(rows), rate, opts), (len(rows), lags.lags, max(lags.lags, 21)))
+            curves = [room(lags.lags) for _ in range(5)]
+            found = ph.estimate(envelope, 47, rate, opts, curves[0], curves[1], curves[2])
+            lag = found.candidates[0].lag if found.candidates else 0
+            steady = ph.stability_of(envelope, rate, opts, lag, curves[2], curves[3], curves[4])
+            said = [found, steady, list(curves[0]), list(curves[1])]
+            buffers = ph.Buffers(len(rows), rate, opts)
+            self.assertEqual(buffers.room.lags, lags.lags)
+
+            def kept(track):
+                self.assertEqual((buffers.lags, track[:3]), (lags, (*found, steady)))
+                said.append([list(view) for view in track[3:]] + [list(buffers.clarity), list(buffers.weight)])
+
+            kept(buffers.analyse_envelope(envelope, rate, opts))
+            kept(buffers.analyse_magnitudes(rows, len(rows), 1, rate, opts))
+            buffers.patch_magnitudes(rows, len(rows), 1, 0, rows[:1])
+            kept(buffers.analyse_patched())
+            return said
+
+        for opts, same, lags in self.OPEN:
+            with self.subTest(opts=opts):
+                self.assertEqual(ph.lag_range(RATE, opts), lags)
+                self.assertEqual(ph.lag_range(RATE, same), lags)
+                said = told(opts)
+                self.assertEqual(said, told(same))
+                tempos += said[0].tempo is not None
+        self.assertGreaterEqual(tempos, 10, "too few of them have a tempo to compare")
+
 
 def value(named):
     """What is said of a value that is too large, or isn't finite."""
@@ -327,23 +385,26 @@ class Refusals(unittest.TestCase):
     def test_tempo(self):
         a, b, c, short = room(338), room(338), room(338), room(337)
         self.refuses(1, "rate 192,001, 1 to 192,000", ph.lag_range, 192_001)
-        self.refuses(1, "min_bpm nan, a finite number", ph.lag_range, RATE, ph.TempoOpts(math.nan, 300))
-        self.refuses(1, "max_bpm -inf, a finite number", ph.lag_range, RATE, (30, -math.inf))
+        # an open bound is no refusal (test_open_bounds), and hides none
+        self.refuses(1, "rate 0, 1 to 192,000", ph.lag_range, 0, ph.TempoOpts(math.nan, 300))
+        self.refuses(1, "rate 0, 1 to 192,000", ph.lag_range, 0, (None, -math.inf))
 
         self.refuses(1, "envelope: " + self.MOST, ph.estimate, self.MANY, 0, RATE, OPTS, a, b, c)
         self.refuses(1, "rate 0, 1 to 192,000", ph.estimate, reals(), 0, 0, OPTS, a, b, c)
-        self.refuses(1, "max_bpm inf, a finite number", ph.estimate, reals(), 0, RATE, (30, math.inf), a, b, c)
         self.refuses(3, "clarity: 337 slots lent, 338 needed", ph.estimate, reals(), 0, RATE, OPTS, short, b, c)
         self.refuses(3, "weight: 337 slots lent, 338 needed", ph.estimate, reals(), 0, RATE, OPTS, a, short, c)
         self.refuses(3, "work: 337 slots lent, 338 needed", ph.estimate, reals(), 0, RATE, OPTS, a, b, short)
         self.refuses(3, "clarity: 338 slots lent, 2,213 needed", ph.estimate, reals(), 0, RATE, (5, 300), a, b, c)
+        self.refuses(3, "clarity: 338 slots lent, 375 needed", ph.estimate, reals(), 0, RATE, (30, math.inf), a, b, c)
+        self.refuses(3, "clarity: 338 slots lent, 375 needed", ph.estimate, reals(), 0, RATE, (30, None), a, b, c)
         self.refuses(4, value("envelope[0] is nan"), ph.estimate, reals(math.nan), 0, RATE, OPTS, a, b, c)
 
         self.refuses(1, "envelope: " + self.MOST, ph.stability_of, self.MANY, RATE, OPTS, 9, a, b, c)
         self.refuses(1, "rate 0, 1 to 192,000", ph.stability_of, reals(1), 0, OPTS, 9, a, b, c)
-        self.refuses(1, "min_bpm inf, a finite number", ph.stability_of, reals(1), RATE, (math.inf, 30), 9, a, b, c)
         self.refuses(1, "whole_lag 45,001, 0 to 45,000", ph.stability_of, reals(1), RATE, OPTS, 45_001, a, b, c)
         self.refuses(3, "clarity: 337 slots lent, 338 needed", ph.stability_of, reals(1), RATE, OPTS, 9, short, b, c)
+        self.refuses(3, "clarity: 338 slots lent, 375 needed", ph.stability_of, reals(1), RATE, (math.inf, 30), 9, a, b, c)
+        self.refuses(3, "clarity: 338 slots lent, 11,213 needed", ph.stability_of, reals(1), RATE, (None, 300), 9, a, b, c)
         self.refuses(3, "weight: 337 slots lent, 338 needed", ph.stability_of, reals(1), RATE, OPTS, 9, a, short, c)
         self.refuses(3, "work: 337 slots lent, 338 needed", ph.stability_of, reals(1), RATE, OPTS, 9, a, b, short)
         self.refuses(4, value("envelope[1] is inf"), ph.stability_of, reals(1, math.inf), RATE, OPTS, 9, a, b, c)
@@ -417,26 +478,31 @@ class Refusals(unittest.TestCase):
     def test_whole_tracks(self):
         self.refuses(1, "rows 1,048,577, 0 to 1,048,576", ph.room_of, 1_048_577, RATE)
         self.refuses(1, "rate 0, 1 to 192,000", ph.room_of, 1, 0)
-        self.refuses(1, "min_bpm inf, a finite number", ph.room_of, 1, RATE, (math.inf, 300))
+        self.refuses(1, "rate 0, 1 to 192,000", ph.room_of, 1, 0, (math.inf, 300))
         self.refuses(1, "rows 1,048,577, 0 to 1,048,576", ph.Buffers, 1_048_577, RATE)
         self.refuses(1, "rate 0, 1 to 192,000", ph.Buffers, 5, 0)
-        self.refuses(1, "max_bpm nan, a finite number", ph.Buffers, 5, RATE, (30, math.nan))
+        self.refuses(1, "rate 0, 1 to 192,000", ph.Buffers, 5, 0, (30, math.nan))
         buffers, ones = ph.Buffers(10, RATE), singles(1)
         call = buffers.analyse_envelope
         self.refuses(1, "envelope: " + self.MOST, call, self.MANY, RATE)
         self.refuses(1, "rate 0, 1 to 192,000", call, room(11), 0)
-        self.refuses(1, "max_bpm nan, a finite number", call, room(11), RATE, (30, math.nan))
         self.refuses(3, "threshold: 10 slots lent, 11 needed; Buffers(11, 48000, (30.0, 300.0)) has them", call, room(11), RATE)
         self.refuses(3, "clarity: 338 slots lent, 2,213 needed; Buffers(9, 48000, (5.0, 300.0)) has them", call, room(9), RATE, (5, 300))
+        # what it says one can paste
+        for opts, lags, told in (((30, math.nan), "10,876", "(30.0, float('nan'))"), ((-math.inf, 300), "11,213", "(None, 300.0)"),
+                                 ((None, None), "11,250", "(None, None)"), ((math.inf, -math.inf), "11,250", "(float('inf'), float('-inf'))")):
+            said = f"Buffers(9, 48000, {told})"
+            self.refuses(3, f"clarity: 338 slots lent, {lags} needed; {said} has them", call, room(9), RATE, opts)
+            self.assertEqual(f"{eval('ph.' + said).room.lags:,}", lags)
         self.refuses(4, value("envelope[1] is -inf"), call, reals(1, -math.inf), RATE)
         call = buffers.analyse_magnitudes
         self.refuses(1, "rows 1,048,577, 0 to 1,048,576", call, singles(), 1_048_577, 1, RATE)
         self.refuses(1, "bins 0, 1 to 4,096", call, singles(), 1, 0, RATE)
         self.refuses(1, "rate 0, 1 to 192,000", call, ones, 1, 1, 0)
-        self.refuses(1, "min_bpm nan, a finite number", call, ones, 1, 1, RATE, (math.nan, 1))
         self.refuses(2, "magnitudes: 3 values lent, 4 needed: 2 rows of 2", call, ones * 3, 2, 2, RATE)
         self.refuses(3, "flux: 10 slots lent, 11 needed; Buffers(11, 48000, (30.0, 300.0)) has them", call, ones * 11, 11, 1, RATE)
         self.refuses(3, "clarity: 338 slots lent, 2,213 needed; Buffers(2, 48000, (5.0, 300.0)) has them", call, ones * 4, 2, 2, RATE, (5, 300))
+        self.refuses(3, "clarity: 338 slots lent, 375 needed; Buffers(2, 48000, (30.0, None)) has them", call, ones * 4, 2, 2, RATE, (30, None))
         self.refuses(4, magnitude("magnitudes[2] is nan"), call, singles(1, 1, math.nan, math.nan), 2, 2, RATE)
         # the room that is named is enough
         ph.Buffers(11, 48000, (30.0, 300.0)).analyse_magnitudes(ones * 11, 11, 1, RATE)
@@ -861,7 +927,7 @@ class Tracks(unittest.TestCase):
         self.assertEqual((track.tempo, len(track.beats)), (None, 0))
 
     def test_no_room(self):
-        for words in ((1_048_577, RATE), (1, 0), (1, RATE, ph.TempoOpts(math.inf, 300))):
+        for words in ((1_048_577, RATE), (1, 0), (1, 0, ph.TempoOpts(math.inf, None))):
             with self.assertRaises(ph.Refused) as caught:
                 ph.room_of(*words)
             self.assertEqual(caught.exception.number, 1)

@@ -120,6 +120,21 @@ pub const CALLS: [Call; 22] = [
     ),
 ];
 
+/// The bounds of the tempo, of a call that takes them: the only two floats side by side.
+pub fn bounds(args: &[Arg]) -> Option<[f64; 2]> {
+    args.windows(2).find_map(|pair| match pair {
+        [Arg::Real(low), Arg::Real(high)] => Some([*low, *high]),
+        _ => None,
+    })
+}
+/// The same arguments with the usual bounds.
+pub fn with_usual_bounds(args: &[Arg]) -> Vec<Arg> {
+    let usual = [TempoOpts::DEFAULT_MIN_BPM, TempoOpts::DEFAULT_MAX_BPM].map(Arg::Real);
+    let mut bounds = usual.into_iter();
+    let one = |arg: &Arg| if let Arg::Real(_) = arg { bounds.next() } else { None }.unwrap_or_else(|| arg.clone());
+    args.iter().map(one).collect()
+}
+
 // ---- what the calls' arguments have in common
 
 fn slots(arg: &Arg) -> usize {
@@ -340,7 +355,7 @@ mod lags {
     }
 }
 
-// a search's rate and bounds, with the room of its lag curves; 64 where it is refused. Few have many lags.
+// a search's rate and bounds, with the room of its lag curves; 64 where its rate is refused. Few have many lags.
 fn search(r: &mut Numbers) -> (u32, f64, f64, usize) {
     loop {
         let (rate, low, high) = (rate(r), bpm(r), bpm(r));

@@ -1,8 +1,8 @@
 //! Guarded runs: the exported functions on random and damaged input, with every lent slice against an unmapped page, once behind it and
 //! once before it. No read or write may go outside what was lent, no input may be written, a refusal may change nothing, and an answer
 //! may change nothing past its count or its formula; and neither the place of the memory nor what room held may make a difference. A call
-//! gives no number of refusal that it doesn't have, and among 2,000 inputs and more it answers, and refuses with each number that it has,
-//! while NaNs show that slots stay.
+//! gives no number of refusal that it doesn't have, and none for a bound of the tempo, which may be any float; and among 2,000 inputs and
+//! more it answers, with such bounds too, and refuses with each number that it has, while NaNs show that slots stay.
 //!
 //!   fuzz run SEED COUNT [CALL]    COUNT inputs a call, and those at the bounds; the last line is 'N calls, 0 faults', or the exit is not 0
 //!   fuzz case CALL SEED NUMBER    one of the inputs again, and what came of it; `fuzz case CALL bound NUMBER` for one at the bounds
@@ -126,6 +126,14 @@ fn tried(call: &Call, case: Case, args: &[Arg], pool: &mut Pool) -> Result<Came,
         return Err("the same input in other memory gives another outcome".into());
     }
     let (number, shown) = (one.after.number, one.shown);
+    if number == 1 && calls::bounds(args).is_some() {
+        // no bound is out of bounds, so the usual ones are refused too
+        let usual = made(&calls::with_usual_bounds(args), Guard::Behind, Fill::Nans)?;
+        if usual.after.number != 1 {
+            return Err("refuses a bound of the tempo".into());
+        }
+        return Ok(Came { number, calls: 3, shown });
+    }
     if number == 0 || !args.iter().any(Arg::is_changed) {
         return Ok(Came { number, calls: 2, shown });
     }
@@ -145,6 +153,9 @@ struct Tally {
     shown: [u64; 5],
     // whether the call may write floats
     floats: bool,
+    // whether it takes bounds of the tempo, and the answers with one that isn't finite
+    bounds: bool,
+    open: u64,
     faults: u64,
 }
 
@@ -155,8 +166,12 @@ fn all_of(call: &Call, seed: u64, count: u64, pool: &mut Pool) -> Tally {
     for case in drawn.chain(bound) {
         let Some(args) = arguments(call, case) else { break };
         tally.floats |= args.iter().any(|arg| matches!(arg, Arg::Lent { kind, written: true, .. } if kind.float));
+        let bounds = calls::bounds(&args);
+        tally.bounds |= bounds.is_some();
         match tried(call, case, &args, pool) {
             Ok(came) => {
+                let open = came.number == 0 && bounds.is_some_and(|pair| pair.iter().any(|bound| !bound.is_finite()));
+                tally.open += u64::from(open);
                 tally.numbers[came.number as usize] += came.calls;
                 tally.shown[came.number as usize] += u64::from(came.shown);
             }
@@ -188,7 +203,8 @@ fn never(call: &Call, tally: &Tally) -> Vec<String> {
             None
         }
     };
-    [0].iter().chain(call.refuses).filter_map(lacks).collect()
+    let open = (tally.bounds && tally.open == 0).then(|| "never answered with a bound that isn't finite".into());
+    [0].iter().chain(call.refuses).filter_map(lacks).chain(open).collect()
 }
 
 fn run(list: &[&Call], seed: u64, count: u64) -> bool {

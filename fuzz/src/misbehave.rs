@@ -26,6 +26,17 @@ fn reach_first(_: &[Arg], _: &After) -> Reach {
     Ok(vec![(0, 0..1)])
 }
 
+// bounds of a tempo, and an output of one to three slots likewise
+fn draw_open(r: &mut Numbers) -> Vec<Arg> {
+    vec![Arg::Real(30.0), Arg::Real(f64::NAN), output::<f64>(r.between(1, 3))]
+}
+fn draw_usual(r: &mut Numbers) -> Vec<Arg> {
+    vec![Arg::Real(30.0), Arg::Real(300.0), output::<f64>(r.between(1, 3))]
+}
+fn reach_behind_bounds(_: &[Arg], _: &After) -> Reach {
+    Ok(vec![(2, 0..1)])
+}
+
 macro_rules! does {
     ($name:literal, $does:expr) => {
         Call { name: $name, function: $does, refuses: &[1, 3], draw, bound: none, reach }
@@ -45,8 +56,15 @@ macro_rules! by_room {
     };
 }
 
+// takes bounds of a tempo
+macro_rules! with_bounds {
+    ($name:literal, $draw:ident, $does:expr) => {
+        Call { name: $name, function: $does, refuses: &[1, 3], draw: $draw, bound: none, reach: reach_behind_bounds }
+    };
+}
+
 // SAFETY, of each: none; a fault or a wrong slot is what is asked for, in memory that nothing else uses
-pub const CALLS: [Call; 22] = [
+pub const CALLS: [Call; 24] = [
     does!("reads_past", |w| unsafe { w[0].at::<f64>().add(7).read_volatile() as u32 }),
     does!("reads_before", |w| unsafe { w[0].at::<f64>().sub(1).read_volatile() as u32 }),
     does!("reads_an_output_past", |w| unsafe { w[1].at::<f64>().add(7).read_volatile() as u32 }),
@@ -70,6 +88,8 @@ pub const CALLS: [Call; 22] = [
     does!("answers_everything", |_| 0),
     by_room!("refuses_where_no_slot_shows_it", [3, 1, 0, 0]),
     by_room!("answers_where_no_slot_shows_it", [0, 0, 1, 3]),
+    with_bounds!("refuses_a_bound", draw_open, |w| u32::from(!w[1].real().is_finite())),
+    with_bounds!("answers_no_open_bound", draw_usual, |w| [1, 3, 0][w[2].slots() - 1]),
 ];
 
 // SAFETY, of each: none, see above
@@ -107,23 +127,25 @@ unsafe fn copy(at: *mut u64, from: usize, to: usize) -> u32 {
 }
 
 // how each of them is found out, in that order: by a guard, by the bytes beside a slice, by its slots, by what it answers in other
-// memory, by its number, or by what never came of it in a run
+// memory, by its number, by the bounds that it refuses, or by what never came of it in a run
 const GUARD: (i32, &str) = (FAULT, "fault (SIGSEGV)");
 const BESIDE: (i32, &str) = (1, "memory beside it was written");
 const SLOTS: (i32, &str) = (1, "changed slot");
 const MEMORY: (i32, &str) = (1, "in other memory gives another outcome");
 const NUMBER: (i32, &str) = (1, "which is no number that it has");
-const NEVER: [(i32, &str); 4] = [
+const BOUND: (i32, &str) = (1, "refuses a bound of the tempo");
+const NEVER: [(i32, &str); 5] = [
     (1, "never answered\n"),
     (1, "never refused with 3\n"),
     (1, "never refused with 3 with a NaN in every slot of floats\n"),
     (1, "never answered with a NaN in a slot that it leaves alone\n"),
+    (1, "never answered with a bound that isn't finite\n"),
 ];
 #[rustfmt::skip]
 const FOUND_OUT: [(i32, &str); CALLS.len()] = [
     GUARD, GUARD, GUARD, GUARD, BESIDE, GUARD, SLOTS, SLOTS, SLOTS, SLOTS,
     SLOTS, SLOTS, SLOTS, SLOTS, SLOTS, SLOTS, MEMORY,
-    NUMBER, NEVER[0], NEVER[1], NEVER[2], NEVER[3],
+    NUMBER, NEVER[0], NEVER[1], NEVER[2], NEVER[3], BOUND, NEVER[4],
 ];
 
 /// Runs each in a process of its own, and looks how it ended and what was told.

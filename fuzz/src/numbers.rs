@@ -193,9 +193,11 @@ pub fn rate(r: &mut Numbers) -> u32 {
     }
 }
 
+/// A bound of the tempo: every float is one.
 pub fn bpm(r: &mut Numbers) -> f64 {
     match r.between(0, 29) {
-        0 => r.one_of(&f64::bad()),
+        0 | 7 | 8 => r.one_of(&f64::bad()),
+        9 => f64::from_bits(r.next()),
         1 => r.one_of(&[0.0, -0.0, -5.0, f64::MAX, f64::MIN, f64::MIN_POSITIVE, 5e-324, 1.0, 2.0]),
         2..=6 => r.share() * 1000.0,
         _ => 30.0 + r.share() * 270.0,

@@ -81,6 +81,14 @@ impl Field {
     }
 }
 
+// a float; a NaN by its bits, unless it is the plain one
+fn told(x: f64) -> String {
+    if x.is_nan() && x.to_bits() != f64::NAN.to_bits() { format!("{:#x}", x.to_bits()) } else { format!("{x:?}") }
+}
+fn heard(word: &str) -> f64 {
+    word.strip_prefix("0x").map_or_else(|| word.parse().unwrap(), |bits| f64::from_bits(u64::from_str_radix(bits, 16).unwrap()))
+}
+
 /// A case as a line: the call, then each field with its name. A slot that comes many times in a row is written once, as 0.0*17.
 pub fn text(name: &str, names: &[&str], fields: &[Field]) -> String {
     let list = |items: Vec<String>| {
@@ -92,8 +100,8 @@ pub fn text(name: &str, names: &[&str], fields: &[Field]) -> String {
     for (name, field) in names.iter().zip(fields) {
         let value = match field {
             Whole(n) => n.to_string(),
-            Real(x) => format!("{x:?}"),
-            Reals(xs) => list(xs.iter().map(|x| format!("{x:?}")).collect()),
+            Real(x) => told(*x),
+            Reals(xs) => list(xs.iter().map(|&x| told(x)).collect()),
             Singles(xs) => list(xs.iter().map(|x| format!("{x:?}")).collect()),
             Frames(xs) => list(xs.iter().map(|x| x.to_string()).collect()),
         };
@@ -121,8 +129,8 @@ pub fn parse(line: &str, like: &[Field]) -> Vec<Field> {
             let value = word.split_once('=').map_or(*word, |(_, v)| v);
             match like {
                 Whole(_) => Whole(value.parse().unwrap()),
-                Real(_) => Real(value.parse().unwrap()),
-                Reals(_) => Reals(items(value).iter().map(|s| s.parse().unwrap()).collect()),
+                Real(_) => Real(heard(value)),
+                Reals(_) => Reals(items(value).iter().map(|s| heard(s)).collect()),
                 Singles(_) => Singles(items(value).iter().map(|s| s.parse().unwrap()).collect()),
                 Frames(_) => Frames(items(value).iter().map(|s| s.parse().unwrap()).collect()),
             }

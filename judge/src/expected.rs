@@ -120,7 +120,7 @@ pub fn lags(rate: u32, min_bpm: f64, max_bpm: f64) -> (usize, usize) {
 }
 
 pub fn lag_range(f: &[Field]) -> Expected {
-    let number = table::lag_range(f[0].whole(), f[1].real(), f[2].real());
+    let number = table::lag_range(f[0].whole());
     let mut answers = vec![cell::<usize>(); 2];
     if number == 0 {
         let (min, max) = lags(f[0].small(), f[1].real(), f[2].real());
@@ -137,7 +137,7 @@ fn lag_count(rate: u32, bpm: (f64, f64)) -> usize {
 pub fn estimate(f: &[Field]) -> Expected {
     let (envelope, rate, bpm) = (f[0].reals(), f[2].small(), (f[3].real(), f[4].real()));
     let rooms = [f[5].size(), f[6].size(), f[7].size()];
-    let number = table::estimate(envelope, f[2].whole(), bpm, rooms, || lag_count(rate, bpm));
+    let number = table::estimate(envelope, f[2].whole(), rooms, || lag_count(rate, bpm));
     let mut curves = (vec![], vec![]);
     let mut answers = vec![cell::<u32>(), cell::<f64>(), cell::<f64>(), cell::<usize>()];
     let mut pairs = (poisoned::<usize>(3), poisoned::<f64>(3));
@@ -167,7 +167,7 @@ pub fn estimate(f: &[Field]) -> Expected {
 pub fn stability_of(f: &[Field]) -> Expected {
     let (envelope, rate, bpm, whole_lag) = (f[0].reals(), f[1].small(), (f[2].real(), f[3].real()), f[4].size());
     let rooms = [f[5].size(), f[6].size(), f[7].size()];
-    let number = table::stability_of(envelope, f[1].whole(), bpm, f[4].whole(), rooms, || lag_count(rate, bpm));
+    let number = table::stability_of(envelope, f[1].whole(), f[4].whole(), rooms, || lag_count(rate, bpm));
     let mut answers = vec![cell::<u32>(), cell::<f64>(), cell::<usize>(), cell::<usize>()];
     // lag room is open only where windows are searched
     let mut formula = 0;
@@ -203,7 +203,7 @@ pub fn beat_grid(f: &[Field]) -> Expected {
 
 pub fn room_of(f: &[Field]) -> Expected {
     let bpm = (f[2].real(), f[3].real());
-    let number = table::room_of(f[0].whole(), f[1].whole(), bpm);
+    let number = table::room_of(f[0].whole(), f[1].whole());
     let mut answers = [cell::<usize>(); 3];
     if number == 0 {
         let lags = lag_count(f[1].small(), bpm);
@@ -269,7 +269,7 @@ fn track(number: u32, envelope: &[f64], rate: u32, bpm: (f64, f64), f: &[Field])
 
 pub fn analyse_envelope(f: &[Field]) -> Expected {
     let (rate, bpm) = (f[1].small(), (f[2].real(), f[3].real()));
-    let number = table::analyse_envelope(f[0].reals(), f[1].whole(), bpm, &track_room(&f[4..]), || lag_count(rate, bpm));
+    let number = table::analyse_envelope(f[0].reals(), f[1].whole(), &track_room(&f[4..]), || lag_count(rate, bpm));
     track(number, f[0].reals(), rate, bpm, &f[4..])
 }
 
@@ -277,7 +277,7 @@ pub fn analyse_magnitudes(f: &[Field]) -> Expected {
     let (rate, bpm, flux_room) = (f[3].small(), (f[4].real(), f[5].real()), f[6].size());
     let lags = || lag_count(rate, bpm);
     let room = track_room(&f[7..]);
-    let number = table::analyse_magnitudes(f[0].singles(), f[1].whole(), f[2].whole(), f[3].whole(), bpm, flux_room, &room, lags);
+    let number = table::analyse_magnitudes(f[0].singles(), f[1].whole(), f[2].whole(), f[3].whole(), flux_room, &room, lags);
     let flux = if number == 0 { flux_of(f[0].singles(), f[1].size(), f[2].size()) } else { vec![] };
     let mut e = track(number, &flux, rate, bpm, &f[7..]);
     e.slots.insert(0, listed(flux_room, &flux));

@@ -2,7 +2,7 @@
 use crate::cases::Field::{self, *};
 use crate::expected;
 use crate::numbers::*;
-use crate::table::{BAND, MOST_FEATURE_ROWS, MOST_FRAME, MOST_MAGNITUDE, MOST_ROWS, MOST_VALUE, WIDTH};
+use crate::table::{BAND, MOST_FEATURE_ROWS, MOST_FRAME, MOST_MAGNITUDE, MOST_ROWS, MOST_VALUE, RATE, WIDTH};
 
 pub type Fields = Vec<Field>;
 
@@ -217,10 +217,14 @@ pub fn lag_range(r: &mut Numbers) -> Fields {
     vec![Whole(rate(r)), Real(low), Real(high)]
 }
 
-fn lag_rooms(r: &mut Numbers, rate: u64, (low, high): (f64, f64)) -> [usize; 3] {
-    let fine = (1..=192_000).contains(&rate) && low.is_finite() && high.is_finite();
-    let count = if fine { expected::lags(rate as u32, low, high) } else { (1, 2) };
-    [0; 3].map(|_| room(r, count.1 - count.0 + 1))
+// the lags of a search, some where its rate is refused
+fn lags(rate: u64, (low, high): (f64, f64)) -> (usize, usize) {
+    if RATE.contains(&rate) { expected::lags(rate as u32, low, high) } else { (1, 9) }
+}
+
+fn lag_rooms(r: &mut Numbers, rate: u64, bpm: (f64, f64)) -> [usize; 3] {
+    let (min, max) = lags(rate, bpm);
+    [0; 3].map(|_| room(r, max - min + 1))
 }
 
 pub fn all_tempos(each: &mut dyn FnMut(Fields)) {
@@ -247,17 +251,16 @@ const FAINT: [f64; 5] = [0.0, f64::from_bits(486 << 52), -f64::from_bits(486 << 
 fn search(r: &mut Numbers) -> (Vec<f64>, u64, (f64, f64)) {
     if r.once_in(8) {
         let (rate, bpm) = (r.whole(1, 1_500), (30.0, 300.0));
-        let max = expected::lags(rate as u32, bpm.0, bpm.1).1;
+        let max = lags(rate, bpm).1;
         let between: Vec<f64> = (0..r.size(2, 40)).map(|_| r.of(&FAINT)).collect();
         return (faint(r.of(&[1.0, 2.0, 4.0, 1e3]), max, &between), rate, bpm);
     }
     let mut rate = if r.once_in(12) { rate(r) } else { r.whole(1, 9_000) };
     let bpm = if r.once_in(3) { bpm(r) } else { (30.0, 300.0) };
-    let fine = bpm.0.is_finite() && bpm.1.is_finite();
-    let mut max = if fine && (1..=192_000).contains(&rate) { expected::lags(rate as u32, bpm.0, bpm.1).1 } else { 9 };
+    let mut max = lags(rate, bpm).1;
     if max > 1_500 {
         rate = r.whole(1, 300);
-        max = if fine { expected::lags(rate as u32, bpm.0, bpm.1).1 } else { 9 };
+        max = lags(rate, bpm).1;
     }
     let n = match r.whole(0, 9) {
         0 => r.size(0, 5),
@@ -288,8 +291,7 @@ pub fn all_stabilities(each: &mut dyn FnMut(Fields)) {
 
 pub fn stability_of(r: &mut Numbers) -> Fields {
     let (envelope, rate, bpm) = search(r);
-    let fine = (1..=192_000).contains(&rate) && bpm.0.is_finite() && bpm.1.is_finite();
-    let (min, max) = if fine { expected::lags(rate as u32, bpm.0, bpm.1) } else { (1, 2) };
+    let (min, max) = lags(rate, bpm);
     let whole_lag = match r.whole(0, 30) {
         0 => r.of(&[0, 45_000, 45_001, u64::MAX]),
         1..=5 => r.whole(1, 4 * max as u64),
@@ -635,12 +637,14 @@ pub fn patch_features(r: &mut Numbers) -> Fields {
 
 // ---- whole tracks in one call
 
+fn track_needs(n: usize, (min, max): (usize, usize)) -> [usize; 11] {
+    let lags = max - min + 1;
+    [n, n, lags, lags, lags, lags, n, n, n, n, lags.max(n.min(21))]
+}
+
 // the rooms of a track, mostly enough; at times one slice is just short
 fn track_rooms(r: &mut Numbers, n: usize, rate: u64, bpm: (f64, f64)) -> Vec<usize> {
-    let fine = (1..=192_000).contains(&rate) && bpm.0.is_finite() && bpm.1.is_finite();
-    let (min, max) = if fine { expected::lags(rate as u32, bpm.0, bpm.1) } else { (1, 2) };
-    let lags = max - min + 1;
-    let need = [n, n, lags, lags, lags, lags, n, n, n, n, lags.max(n.min(21))];
+    let need = track_needs(n, lags(rate, bpm));
     let more = r.size(0, 2);
     let mut rooms: Vec<usize> = need.iter().map(|&k| k + r.size(0, more)).collect();
     if r.once_in(5) {
@@ -708,6 +712,41 @@ pub fn analyse_magnitudes(r: &mut Numbers) -> Fields {
     }
     let first = vec![Singles(slab), size(rows_said), size(bins_said), Whole(rate), Real(bpm.0), Real(bpm.1), size(flux)];
     [first, rooms.into_iter().map(size).collect()].concat()
+}
+
+// ---- open bounds of the tempo: every kind of pair, on clicks that repeat, at rates of which the bounds make a difference
+
+pub fn open_bounds(call: &str, each: &mut dyn FnMut(Fields)) {
+    let open = [NANS.as_slice(), &[f64::INFINITY, f64::NEG_INFINITY]].concat();
+    let (lows, highs) = ([open.as_slice(), &[30.0]].concat(), [open.as_slice(), &[300.0]].concat());
+    for (low, high) in lows.iter().flat_map(|&low| highs.iter().map(move |&high| (low, high))) {
+        let bounds = [Real(low), Real(high)];
+        match call {
+            "lag_range" => (0..=192_001).step_by(61).for_each(|rate| each([&[Whole(rate)][..], &bounds].concat())),
+            "room_of" => (0..=192_001).step_by(997).for_each(|rate| each([&[Whole(rate % 30), Whole(rate)][..], &bounds].concat())),
+            _ => {}
+        }
+        if !["estimate", "stability_of", "analyse_envelope", "analyse_magnitudes"].contains(&call) {
+            continue;
+        }
+        let sizes = [8, 24, 60].into_iter().flat_map(|n| (2..=9).map(move |period| (n, period)));
+        for (rate, (n, period)) in [1, 20, 40, 100].into_iter().flat_map(|rate| sizes.clone().map(move |size| (rate, size))) {
+            // they decay, so that there is a tempo of lag 1 too, where that is all that the bounds leave
+            let clicks: Vec<f64> = (0..n).map(|t| [0.0, 4.0, 3.0, 1.0, 0.0, 0.0, 0.0, 0.0, 0.0][t % period]).collect();
+            let (min, max) = lags(rate, (low, high));
+            let (curves, rooms) = (vec![size(max - min + 1); 3], track_needs(n, (min, max)).map(size));
+            let hertz = Whole(rate);
+            each(match call {
+                "estimate" => [&[Reals(clicks), Whole(2), hertz][..], &bounds, &curves].concat(),
+                "stability_of" => [&[Reals(clicks), hertz][..], &bounds, &[size(period)], &curves].concat(),
+                "analyse_envelope" => [&[Reals(clicks), hertz][..], &bounds, &rooms].concat(),
+                _ => {
+                    let rows = clicks.iter().map(|&x| x as f32).collect();
+                    [&[Singles(rows), size(n), Whole(1), hertz][..], &bounds, &[size(n)], &rooms].concat()
+                }
+            });
+        }
+    }
 }
 
 // ---- sizes at the bounds, each just inside and just outside

@@ -24,7 +24,7 @@ mod tracks;
 use cases::Field;
 use expected::{Expected, Slots};
 use inputs::Fields;
-use numbers::Numbers;
+use numbers::{BOUND_KINDS, Numbers, bound_kind};
 use port::Outcome;
 
 pub struct Call {
@@ -165,6 +165,10 @@ struct Tally {
     floats: bool,
     // answers that hold something: a tempo, a stability, a place in a bar, entries of a list, slots of a curve
     full: u64,
+    // calls with a bound of the tempo that is not finite
+    open: u64,
+    // the full answers to each kind of lower bound with each of upper bound (`BOUND_KINDS`)
+    bounds: [[u64; 4]; 4],
     differences: u64,
 }
 
@@ -172,6 +176,12 @@ fn full(must: &Expected) -> bool {
     // of a whole track its tempo, of sections their list, of a patch the end of its first range
     let told = must.answers.get(if must.answers.len() > 2 && must.slots.len() != 5 { 1 } else { 0 });
     must.number == 0 && told.map_or(must.slots.iter().any(|s| !s.bits.is_empty()), |&a| a != 0)
+}
+
+/// The kinds of the bounds of the tempo, of a call that takes them.
+fn bound_kinds(call: &Call, fields: &[Field]) -> Option<(usize, usize)> {
+    let low = call.fields.split(' ').position(|name| name == "min_bpm")?;
+    Some((bound_kind(fields[low].real()), bound_kind(fields[low + 1].real())))
 }
 
 impl Tally {
@@ -189,6 +199,10 @@ fn judge(call: &Call, fields: &[Field], tally: &mut Tally) -> Outcome {
     tally.shown[number] += u64::from(one.shown);
     tally.floats |= one.must.slots.iter().any(|s| s.floats.is_some());
     tally.full += u64::from(full(&one.must));
+    if let Some((low, high)) = bound_kinds(call, fields) {
+        tally.open += if (low, high) == (0, 0) { 0 } else { one.calls };
+        tally.bounds[low][high] += u64::from(full(&one.must));
+    }
     if let Some(what) = one.difference {
         tally.differences += 1;
         if tally.differences <= 3 {
@@ -216,7 +230,15 @@ fn never(call: &Call, tally: &Tally) -> Vec<String> {
             None
         }
     };
-    [0].iter().chain(call.refuses).filter_map(lacks).collect()
+    let mut all: Vec<String> = [0].iter().chain(call.refuses).filter_map(lacks).collect();
+    // every call that takes bounds tells something of bounds of each kind
+    if call.fields.contains("min_bpm") {
+        for (low, of_low) in tally.bounds.iter().enumerate() {
+            let none = of_low.iter().zip(BOUND_KINDS).filter(|&(&count, _)| count == 0);
+            all.extend(none.map(|(_, high)| format!("never told anything of bounds {} and {high}", BOUND_KINDS[low])));
+        }
+    }
+    all
 }
 
 fn seed_of(seed: u64, salt: &str) -> Numbers {
@@ -229,6 +251,7 @@ fn seed_of(seed: u64, salt: &str) -> Numbers {
 fn one(call: &Call, seed: u64) -> Tally {
     let mut tally = Tally::default();
     (call.all)(&mut |fields| drop(judge(call, &fields, &mut tally)));
+    inputs::open_bounds(call.name, &mut |fields| drop(judge(call, &fields, &mut tally)));
     inputs::at_the_bounds(call.name, &mut |fields| drop(judge(call, &fields, &mut tally)));
     let mut r = seed_of(seed, call.name);
     for _ in 0..call.count {
@@ -268,6 +291,9 @@ fn together(seed: u64) -> Vec<(&'static str, Tally)> {
     out
 }
 
+// so many calls of a whole run have a bound that is not finite
+const LEAST_OPEN: u64 = 100_000;
+
 fn run(seed: u64, only: &[&str]) -> bool {
     differences::tell();
     println!("seed {seed}, the library is version {} (ph_version)", port::version());
@@ -275,11 +301,12 @@ fn run(seed: u64, only: &[&str]) -> bool {
         "{:24}{:>10}{:>10}{:>10}{:>8}{:>8}{:>8}{:>8}{:>13}",
         "call", "calls", "answered", "not empty", "no. 1", "no. 2", "no. 3", "no. 4", "differences"
     );
-    let (mut calls, mut differences, mut lacks) = (0, 0, vec![]);
+    let (mut calls, mut open, mut differences, mut lacks) = (0, 0, 0, vec![]);
     let mut line = |name: &str, t: Tally| {
         let [a, b, c, d, e] = t.numbers;
         println!("{name:24}{:>10}{a:>10}{:>10}{b:>8}{c:>8}{d:>8}{e:>8}{:>13}", t.calls(), t.full, t.differences);
         calls += t.calls();
+        open += t.open;
         differences += t.differences;
     };
     for call in CALLS.iter().filter(|c| only.is_empty() || only.contains(&c.name)) {
@@ -290,6 +317,10 @@ fn run(seed: u64, only: &[&str]) -> bool {
     let runs = if only.is_empty() { together(seed) } else { vec![] };
     for (name, tally) in runs {
         line(name, tally);
+    }
+    println!("{open} of the calls have a bound of the tempo that is not finite");
+    if only.is_empty() && open < LEAST_OPEN {
+        lacks.push(format!("fewer than {LEAST_OPEN} calls with such a bound"));
     }
     lacks.iter().for_each(|what| println!("{what}"));
     println!("{calls} calls, {differences} differences");

@@ -252,17 +252,51 @@ pub fn rate(r: &mut Numbers) -> u64 {
 
 /// Two bounds of the tempo.
 pub fn bpm(r: &mut Numbers) -> (f64, f64) {
-    match r.whole(0, 12) {
+    match r.whole(0, 15) {
         0..=4 => (30.0, 300.0),
         5 => (r.real(300.0, 20.0), r.real(20.0, 300.0)),
         6 => (0.0, 0.0),
         7 => (r.any_size(149), r.any_size(149)),
-        8 => (r.of(&[f64::NAN, f64::INFINITY, f64::NEG_INFINITY, 30.0]), r.of(&[300.0, f64::NAN, f64::INFINITY])),
+        8 | 13..=15 => open_bpm(r),
         9 => (r.of(&[f64::MAX, -f64::MAX, -0.0, 1.0, 1e-310]), r.of(&[f64::MAX, -f64::MAX, 2.0, 1.0, 0.0])),
         10 => {
             let low = r.real(1.0, 400.0);
             (low, low + r.real(0.0, 3.0))
         }
         _ => (r.real(20.0, 120.0), r.real(100.0, 400.0)),
+    }
+}
+
+/// The kinds of bounds of the tempo, as `bound_kind` numbers them.
+pub const BOUND_KINDS: [&str; 4] = ["finite", "NaN", "+inf", "-inf"];
+
+pub fn bound_kind(bound: f64) -> usize {
+    match bound {
+        _ if bound.is_finite() => 0,
+        _ if bound.is_nan() => 1,
+        f64::INFINITY => 2,
+        _ => 3,
+    }
+}
+
+/// NaNs that only their bits tell apart: that of an operation with either sign, others, and a signalling one.
+pub const NANS: [f64; 4] =
+    [f64::NAN, f64::from_bits(0xfff8 << 48), f64::from_bits(0x7ffc_dead_beef_0001), f64::from_bits(0xfff0_0000_0000_0001)];
+
+// a NaN of any bits
+fn any_nan(r: &mut Numbers) -> f64 {
+    f64::from_bits(r.next() | f64::INFINITY.to_bits() | 1 << r.whole(0, 51))
+}
+
+/// Two bounds of the tempo, of which one at least is not finite.
+pub fn open_bpm(r: &mut Numbers) -> (f64, f64) {
+    let open = |r: &mut Numbers| if r.once_in(2) { any_nan(r) } else { r.of(&[f64::INFINITY, f64::NEG_INFINITY]) };
+    let (low, high) = (open(r), open(r));
+    let plain = r.real(1.0, 400.0);
+    let finite = r.of(&[plain, 30.0, 300.0, 0.0, -plain, f64::MAX]);
+    match r.whole(0, 2) {
+        0 => (low, finite),
+        1 => (finite, high),
+        _ => (low, high),
     }
 }

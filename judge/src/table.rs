@@ -89,26 +89,22 @@ pub fn frame_times(frames: &[u32], rate: u64, ms: usize) -> u32 {
     lowest(!RATE.contains(&rate) || frames.iter().any(|&t| t > MOST_FRAME), no, || ms < frames.len(), no)
 }
 
-fn search_bounds(rate: u64, min_bpm: f64, max_bpm: f64) -> bool {
-    !RATE.contains(&rate) || !min_bpm.is_finite() || !max_bpm.is_finite()
+// no number covers the bounds of the tempo: any two floats are taken
+pub fn lag_range(rate: u64) -> u32 {
+    lowest(!RATE.contains(&rate), no, no, no)
 }
 
-pub fn lag_range(rate: u64, min_bpm: f64, max_bpm: f64) -> u32 {
-    lowest(search_bounds(rate, min_bpm, max_bpm), no, no, no)
+/// `lags` answers L, the number of lags, and is asked only where number 1 doesn't apply.
+pub fn estimate(envelope: &[f64], rate: u64, rooms: [usize; 3], lags: impl FnOnce() -> usize) -> u32 {
+    lowest(envelope.len() > MOST_ROWS || !RATE.contains(&rate), no, || rooms.iter().min() < Some(&lags()), || any(envelope, value))
 }
 
-/// `lags` answers L, the number of lags, and is asked only inside the bounds.
-pub fn estimate(envelope: &[f64], rate: u64, bpm: (f64, f64), rooms: [usize; 3], lags: impl FnOnce() -> usize) -> u32 {
-    let bounds = envelope.len() > MOST_ROWS || search_bounds(rate, bpm.0, bpm.1);
-    lowest(bounds, no, || rooms.iter().min() < Some(&lags()), || any(envelope, value))
+pub fn stability_of(envelope: &[f64], rate: u64, whole_lag: u64, rooms: [usize; 3], lags: impl FnOnce() -> usize) -> u32 {
+    if whole_lag > MOST_PERIOD { 1 } else { estimate(envelope, rate, rooms, lags) }
 }
 
-pub fn stability_of(envelope: &[f64], rate: u64, bpm: (f64, f64), whole_lag: u64, rooms: [usize; 3], lags: impl FnOnce() -> usize) -> u32 {
-    if whole_lag > MOST_PERIOD { 1 } else { estimate(envelope, rate, bpm, rooms, lags) }
-}
-
-pub fn room_of(rows: u64, rate: u64, bpm: (f64, f64)) -> u32 {
-    lowest(rows > MOST_ROWS as u64 || search_bounds(rate, bpm.0, bpm.1), no, no, no)
+pub fn room_of(rows: u64, rate: u64) -> u32 {
+    lowest(rows > MOST_ROWS as u64 || !RATE.contains(&rate), no, no, no)
 }
 
 /// Sorting room of a whole track: that of the thresholds and that of the lags, one after the other.
@@ -129,27 +125,23 @@ impl TrackRoom {
     }
 }
 
-pub fn analyse_envelope(envelope: &[f64], rate: u64, bpm: (f64, f64), room: &TrackRoom, lags: impl FnOnce() -> usize) -> u32 {
+pub fn analyse_envelope(envelope: &[f64], rate: u64, room: &TrackRoom, lags: impl FnOnce() -> usize) -> u32 {
     let n = envelope.len();
-    let bounds = n > MOST_ROWS || search_bounds(rate, bpm.0, bpm.1);
-    lowest(bounds, no, || room.short(n, lags()), || any(envelope, value))
+    lowest(n > MOST_ROWS || !RATE.contains(&rate), no, || room.short(n, lags()), || any(envelope, value))
 }
 
-#[allow(clippy::too_many_arguments)]
 pub fn analyse_magnitudes(
     magnitudes: &[f32],
     rows: u64,
     bins: u64,
     rate: u64,
-    bpm: (f64, f64),
     flux: usize,
     room: &TrackRoom,
     lags: impl FnOnce() -> usize,
 ) -> u32 {
     let n = rows as usize;
-    let bounds = slab_bounds(rows, bins) || search_bounds(rate, bpm.0, bpm.1);
     let length = || magnitudes.len() as u64 != rows * bins;
-    lowest(bounds, length, || flux < n || room.short(n, lags()), || any(magnitudes, magnitude))
+    lowest(slab_bounds(rows, bins) || !RATE.contains(&rate), length, || flux < n || room.short(n, lags()), || any(magnitudes, magnitude))
 }
 
 pub fn beat_grid(envelope: &[f64], period: u64, rooms: [usize; 3]) -> u32 {

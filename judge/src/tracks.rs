@@ -5,7 +5,7 @@
 //! sections by the functions that `detect_structure` calls, from feature rows on.
 use crate::cases::Field::{self, *};
 use crate::expected;
-use crate::numbers::{Numbers, features, magnitudes};
+use crate::numbers::{Numbers, features, magnitudes, open_bpm};
 use crate::port::{self, Outcome};
 use crate::table::BAND;
 use oracle::structure::StructureOpts;
@@ -148,7 +148,12 @@ pub fn track(r: &mut Numbers) -> (u64, Option<String>) {
         }
         slab = (0..rows * bins).map(|i| (level[i / bins] + r.part() * 0.2) as f32).collect();
     }
-    let opts = if r.once_in(4) { TempoOpts { min_bpm: r.real(20.0, 300.0), max_bpm: r.real(20.0, 300.0) } } else { TempoOpts::default() };
+    let (min_bpm, max_bpm) = match r.whole(0, 7) {
+        0 | 1 => (r.real(20.0, 300.0), r.real(20.0, 300.0)),
+        2 | 3 => open_bpm(r),
+        _ => (30.0, 300.0),
+    };
+    let opts = TempoOpts { min_bpm, max_bpm };
     let mut w = Worker { calls: 0, refused: false };
     let is = by_the_port(&mut w, &slab, rows, bins, rate, &opts);
     let at_once = by_one_call(&mut w, &slab, rows, bins, rate, &opts);

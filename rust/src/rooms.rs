@@ -75,8 +75,8 @@ pub struct Track {
 }
 
 impl Track {
-    /// The room for a track of at most so many rows. Refuses [`OutOfBounds`](crate::Refusal::OutOfBounds) for more than 1,048,576 rows, for the rate, and for
-    /// a bound that isn't finite.
+    /// The room for a track of at most so many rows. Refuses [`OutOfBounds`](crate::Refusal::OutOfBounds) for more than 1,048,576 rows and for the
+    /// rate.
     ///
     /// ```
     /// # use prohunsev::*;
@@ -92,7 +92,7 @@ impl Track {
         let number =
             unsafe { ffi::ph_room_of(rows, rate, opts.min_bpm, opts.max_bpm, row_slots, lag_slots, work_slots) };
         Refused::unless_answered("room_of", number, |why| {
-            why.number("rows", rows as u64, 0, limits::MOST_ROWS as u64).rate(rate).bounds(opts)
+            why.number("rows", rows as u64, 0, limits::MOST_ROWS as u64).rate(rate)
         })?;
         Ok(room)
     }

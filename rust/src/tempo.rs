@@ -3,16 +3,24 @@ use crate::{ffi, limits, Refused};
 
 /// The bounds of the tempo search in beats a minute, 30 to 300 where nothing else is said. They may come in either order.
 ///
+/// A bound may be open: `f64::INFINITY` as the upper one means no upper limit, `f64::NEG_INFINITY` as the lower one (or anything up to 1) no
+/// lower one. Every float is taken, by one rule: a pair that isn't `min_bpm <= max_bpm` swaps, so a NaN swaps it; then the lower bound is 1
+/// where it is a NaN or less, and the upper one the lower one + 1 where it is a NaN or less. A NaN is therefore not an open bound: NaN and
+/// 300 mean 300 to 301.
+///
 /// ```
 /// # use prohunsev::*;
 /// assert_eq!(TempoOpts::new(), TempoOpts::between(30.0, 300.0));
 /// assert_eq!(TempoOpts::new().with_max_bpm(200.0).max_bpm, 200.0);
+/// let open = lag_range(48_000, TempoOpts::new().with_max_bpm(f64::INFINITY))?;
+/// assert_eq!((open.min_lag, open.max_lag), (1, 375));
+/// # Ok::<(), Refused>(())
 /// ```
 #[derive(Clone, Copy, Debug, PartialEq)]
 pub struct TempoOpts {
-    /// The slowest tempo that is looked for.
+    /// The slowest tempo that is looked for; `f64::NEG_INFINITY` for no lower limit.
     pub min_bpm: f64,
-    /// The fastest tempo that is looked for.
+    /// The fastest tempo that is looked for; `f64::INFINITY` for no upper limit.
     pub max_bpm: f64,
 }
 
@@ -27,18 +35,18 @@ impl TempoOpts {
         TempoOpts::between(TempoOpts::DEFAULT_MIN_BPM, TempoOpts::DEFAULT_MAX_BPM)
     }
 
-    /// Both bounds. Refuses nothing: the calls that are lent the options do.
+    /// Both bounds, any two floats. Neither this nor a call that is lent the options refuses them.
     pub const fn between(min_bpm: f64, max_bpm: f64) -> TempoOpts {
         TempoOpts { min_bpm, max_bpm }
     }
 
-    /// The same options with another lower bound.
+    /// The same options with another lower bound, `f64::NEG_INFINITY` for none.
     #[must_use]
     pub const fn with_min_bpm(self, min_bpm: f64) -> TempoOpts {
         TempoOpts { min_bpm, ..self }
     }
 
-    /// The same options with another upper bound.
+    /// The same options with another upper bound, `f64::INFINITY` for none.
     #[must_use]
     pub const fn with_max_bpm(self, max_bpm: f64) -> TempoOpts {
         TempoOpts { max_bpm, ..self }
@@ -129,7 +137,7 @@ pub struct Stability {
 
 /// The lags that the options' bounds stand for.
 ///
-/// Refuses [`OutOfBounds`](crate::Refusal::OutOfBounds) (the rate, a bound that isn't finite).
+/// Refuses [`OutOfBounds`](crate::Refusal::OutOfBounds) (the rate). No bound is refused.
 ///
 /// ```
 /// # use prohunsev::*;
@@ -141,7 +149,7 @@ pub fn lag_range(rate: u32, opts: TempoOpts) -> Result<LagRange, Refused> {
     let mut range = LagRange { min_lag: 0, max_lag: 0 };
     // SAFETY: the pointers are those of a local's two fields (the reason in lib.rs)
     let number = unsafe { ffi::ph_lag_range(rate, opts.min_bpm, opts.max_bpm, &mut range.min_lag, &mut range.max_lag) };
-    Refused::unless_answered("lag_range", number, |why| why.rate(rate).bounds(opts))?;
+    Refused::unless_answered("lag_range", number, |why| why.rate(rate))?;
     Ok(range)
 }
 
@@ -150,7 +158,7 @@ pub fn lag_range(rate: u32, opts: TempoOpts) -> Result<LagRange, Refused> {
 /// Room: [`rooms::lags`](crate::rooms::lags) slots of each of `clarity`, `weight` and `work`, also where there is no tempo.
 /// Unless the envelope is too short or flat or has fewer than two onsets, `clarity` and `weight` then hold the clarity and the weight of
 /// each lag.
-/// Refuses [`OutOfBounds`](crate::Refusal::OutOfBounds) (the envelope's length, the rate, a bound that isn't finite),
+/// Refuses [`OutOfBounds`](crate::Refusal::OutOfBounds) (the envelope's length, the rate),
 /// [`TooLittleRoom`](crate::Refusal::TooLittleRoom), and [`WrongValue`](crate::Refusal::WrongValue) (an envelope value).
 ///
 /// ```
@@ -200,7 +208,6 @@ pub fn estimate(
     Refused::unless_answered("estimate", number, |why| {
         why.frames("envelope", envelope.len())
             .rate(rate)
-            .bounds(opts)
             .lag_curves(rate, opts, [("clarity", clarity.len()), ("weight", weight.len()), ("work", work.len())])
             .values("envelope", envelope)
     })?;
@@ -257,7 +264,6 @@ pub fn stability_of(
     Refused::unless_answered("stability_of", number, |why| {
         why.frames("envelope", envelope.len())
             .rate(rate)
-            .bounds(opts)
             .number("whole_lag", whole_lag as u64, 0, limits::MOST_PERIOD as u64)
             .lag_curves(rate, opts, [("clarity", clarity.len()), ("weight", weight.len()), ("work", work.len())])
             .values("envelope", envelope)

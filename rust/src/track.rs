@@ -277,7 +277,7 @@ impl Buffers {
 
     /// Analyses a track from its envelope, one slot a frame.
     ///
-    /// Refuses [`OutOfBounds`](Refusal::OutOfBounds) (the length, the rate, a bound that isn't finite),
+    /// Refuses [`OutOfBounds`](Refusal::OutOfBounds) (the length, the rate),
     /// [`TooLittleRoom`](Refusal::TooLittleRoom), and [`WrongValue`](Refusal::WrongValue) (an envelope value).
     pub fn analyse_envelope(&mut self, envelope: &[f64], rate: u32, opts: TempoOpts) -> Result<Analysis<'_>, Refused> {
         let rows = envelope.len();
@@ -287,7 +287,6 @@ impl Buffers {
             let (of_rows, of_lags) = self.lists.lent();
             why.frames("envelope", rows)
                 .rate(rate)
-                .bounds(opts)
                 .track((rows, rate, opts), &of_rows, &of_lags, self.lists.work.len())
                 .values("envelope", envelope)
         })?;
@@ -296,7 +295,7 @@ impl Buffers {
 
     /// Analyses a track from its magnitudes, `rows` rows of `bins` values. The buffers then hold its curves.
     ///
-    /// Refuses [`OutOfBounds`](Refusal::OutOfBounds) (rows, bins, the rate, a bound that isn't finite),
+    /// Refuses [`OutOfBounds`](Refusal::OutOfBounds) (rows, bins, the rate),
     /// [`WrongLength`](Refusal::WrongLength), [`TooLittleRoom`](Refusal::TooLittleRoom), and [`WrongValue`](Refusal::WrongValue) (a
     /// magnitude).
     pub fn analyse_magnitudes(
@@ -324,7 +323,6 @@ impl Buffers {
             let (of_rows, of_lags) = self.lists.lent();
             why.magnitude_rows("magnitudes", magnitudes.len(), rows, bins)
                 .rate(rate)
-                .bounds(opts)
                 .track((rows, rate, opts), &[("flux", self.flux.len())], &[], usize::MAX)
                 .track((rows, rate, opts), &of_rows, &of_lags, self.lists.work.len())
                 .magnitudes("magnitudes", magnitudes)

@@ -19,11 +19,6 @@ pub enum Detail {
         least: u64,
         most: u64,
     },
-    /// A number that must be finite.
-    Bound {
-        name: &'static str,
-        is: f64,
-    },
     /// An input of more slots than any track has.
     TooMany {
         slice: &'static str,
@@ -162,12 +157,6 @@ impl Why {
 
     pub fn rate(self, rate: u32) -> Why {
         self.number("rate", rate.into(), 1, limits::MOST_RATE.into())
-    }
-
-    pub fn bounds(self, opts: TempoOpts) -> Why {
-        let bounds = [("min_bpm", opts.min_bpm), ("max_bpm", opts.max_bpm)];
-        let open = bounds.into_iter().find(|(_, is)| !is.is_finite());
-        self.or(Refusal::OutOfBounds, || open.map(|(name, is)| Detail::Bound { name, is }))
     }
 
     pub fn slots(self, slice: &'static str, lent: usize, most: usize) -> Why {
@@ -330,7 +319,6 @@ impl fmt::Display for Detail {
             Detail::Number { name, is, least, most } => {
                 write!(f, "{name} {}, {} to {}", Count(is), Count(least), Count(most))
             }
-            Detail::Bound { name, is } => write!(f, "{name} {is:?}, a finite number"),
             Detail::TooMany { slice, lent, most } => {
                 write!(f, "{slice}: {} lent, at most {}", Many(lent, "slot"), count(most))
             }

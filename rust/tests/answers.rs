@@ -141,6 +141,58 @@ fn tracks() {
     }
 }
 
+// no limit above and below, and what a program that writes a number would be given as an empty field
+const MOST: f64 = f64::INFINITY;
+const LEAST: f64 = f64::NEG_INFINITY;
+const NONE: f64 = f64::NAN;
+
+// bounds that are not finite, finite ones that mean the same, and the lags of both at 48,000 by the original
+const OPEN: [([f64; 2], [f64; 2], (usize, usize)); 8] = [
+    ([MOST, MOST], [f64::MAX, f64::MAX], (1, 2)),
+    ([30.0, MOST], [30.0, f64::MAX], (1, 375)),
+    ([MOST, 30.0], [30.0, f64::MAX], (1, 375)),
+    ([LEAST, MOST], [1.0, f64::MAX], (1, 11_250)),
+    ([LEAST, LEAST], [1.0, 2.0], (5_625, 11_250)),
+    ([NONE, 300.0], [300.0, 301.0], (37, 38)),
+    ([30.0, NONE], [1.0, 30.0], (375, 11_250)),
+    ([NONE, NONE], [1.0, 2.0], (5_625, 11_250)),
+];
+
+#[test]
+fn open_bounds() {
+    let (envelope, n, rate) = (turn(), 4_000, 12_000);
+    let magnitudes: Vec<f32> = envelope.iter().map(|&x| x as f32).collect();
+    let mut tempos = 0;
+    for (open, finite, lags) in OPEN {
+        let [open, finite] = [open, finite].map(|[low, high]| TempoOpts::new().with_min_bpm(low).with_max_bpm(high));
+        for opts in [open, finite] {
+            let range = lag_range(48_000, opts).unwrap();
+            assert_eq!((range.min_lag, range.max_lag), lags, "{opts:?}");
+        }
+        assert_eq!(rooms::Track::of(n, rate, open), rooms::Track::of(n, rate, finite));
+        let told = |opts: TempoOpts| {
+            let room = rooms::lags(rate, opts).unwrap();
+            let (mut clarity, mut weight, mut work) = (vec![WAS; room], vec![WAS; room], vec![WAS; room]);
+            let found = estimate(&envelope, 47, rate, opts, &mut clarity, &mut weight, &mut work).unwrap();
+            let curves = (clarity.clone(), weight.clone());
+            let lag = found.lag().unwrap_or(0);
+            let steady = stability_of(&envelope, rate, opts, lag, &mut clarity, &mut weight, &mut work).unwrap();
+            (found, curves, steady)
+        };
+        assert_eq!(told(open), told(finite), "{open:?}");
+        tempos += usize::from(told(open).0.tempo.is_some());
+        let made = |opts| Buffers::for_tracks(n, rate, opts).unwrap();
+        let (mut one, mut other) = (made(open), made(finite));
+        let by_open = one.analyse_envelope(&envelope, rate, open).unwrap();
+        assert_eq!(by_open, other.analyse_envelope(&envelope, rate, finite).unwrap());
+        assert_eq!(by_open.candidates(), told(open).0.candidates());
+        let by_open = one.analyse_magnitudes(&magnitudes, n, 1, rate, open).unwrap();
+        assert_eq!(by_open, other.analyse_magnitudes(&magnitudes, n, 1, rate, finite).unwrap());
+        assert_eq!(by_open.candidates(), told(open).0.candidates());
+    }
+    assert!(tempos >= 5, "too few of them have a tempo to compare");
+}
+
 #[test]
 fn windows() {
     let (opts, mut a, mut b, mut c) = (TempoOpts::new(), [0.0; 338], [0.0; 338], [0.0; 338]);

@@ -200,7 +200,7 @@ static void lags(struct run *run)
     size_t least = POISON_SIZE, most = POISON_SIZE;
 
     CHECK(ph_lag_range(0, 30.0, 300.0, &least, &most) == 1);
-    CHECK(ph_lag_range(48000, NAN, 300.0, &least, &most) == 1);
+    CHECK(ph_lag_range(0, NAN, INFINITY, &least, &most) == 1);
     CHECK(least == POISON_SIZE && most == POISON_SIZE);
     CHECK(ph_lag_range(48000, 30.0, 300.0, &least, &most) == 0);
     CHECK(least == 38 && most == 375); /* M5 */
@@ -208,6 +208,23 @@ static void lags(struct run *run)
     CHECK(least == 56 && most == 113); /* M6 */
     CHECK(ph_lag_range(1, 30.0, 300.0, &least, &most) == 0);
     CHECK(least == 1 && most == 2); /* M8 */
+
+    /* bounds that are not finite, and their lags by the original */
+    static const struct {
+        double min_bpm, max_bpm;
+        size_t least, most;
+    } open[] = {
+        {INFINITY, INFINITY, 1, 2},          {30.0, INFINITY, 1, 375}, {INFINITY, 30.0, 1, 375}, {-INFINITY, INFINITY, 1, 11250},
+        {-INFINITY, -INFINITY, 5625, 11250}, {NAN, 300.0, 37, 38},     {30.0, NAN, 375, 11250},  {NAN, NAN, 5625, 11250},
+    };
+    for (size_t k = 0; k < sizeof open / sizeof open[0]; k++) {
+        size_t rows, lags, work;
+        least = most = POISON_SIZE;
+        CHECK(ph_lag_range(48000, open[k].min_bpm, open[k].max_bpm, &least, &most) == 0);
+        CHECK(least == open[k].least && most == open[k].most);
+        CHECK(ph_room_of(9, 48000, open[k].min_bpm, open[k].max_bpm, &rows, &lags, &work) == 0);
+        CHECK(rows == 9 && lags == most - least + 1 && work == (lags < 9 ? 9 : lags));
+    }
 }
 
 /* a click every fifty frames; at 100 frames a second that is 120 beats a minute */
@@ -227,7 +244,9 @@ static void tempo(struct run *run)
 
     CHECK(ph_estimate(envelope, N, 12, RATE, 30.0, 300.0, clarity_curve, L, weight_curve, L - 1, work, L, &found, &bpm, &clarity, lags,
                       saliences, &count) == 3);
-    CHECK(ph_estimate(envelope, N, 12, RATE, 30.0, INFINITY, clarity_curve, L, weight_curve, L, work, L, &found, &bpm, &clarity, lags, saliences, &count) == 1);
+    /* no upper limit: lags 1 to 200, for which this is too little room */
+    CHECK(ph_estimate(envelope, N, 12, RATE, 30.0, INFINITY, clarity_curve, L, weight_curve, L, work, L, &found, &bpm, &clarity, lags, saliences, &count) == 3);
+    CHECK(ph_estimate(envelope, N, 12, 0, 30.0, INFINITY, clarity_curve, L, weight_curve, L, work, L, &found, &bpm, &clarity, lags, saliences, &count) == 1);
     CHECK(found == POISON_FRAME && bpm == POISON && clarity == POISON && count == POISON_SIZE);
     CHECK(lags[0] == POISON_SIZE && lags[2] == POISON_SIZE && saliences[0] == POISON && saliences[2] == POISON);
     CHECK(kept(clarity_curve, 0, L + 2) && kept(weight_curve, 0, L + 2) && kept(work, 0, L + 2));

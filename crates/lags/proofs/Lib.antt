@@ -2,4 +2,4 @@
 pub mod Searches
 pub mod Ranges
 pub mod Tenth
-mod FiniteTest
+pub mod OpenBounds

@@ -110,7 +110,7 @@ rate-most rate e = leb-true rate mostRate (and-right (leb 1 rate) (leb rate most
 
 pub fine-rate : (rate : ℕ) (o : TempoOpts) → boundsFine rate o ≡ true → rate ≤ mostRate
 unfolding boundsFine
-fine-rate rate o e = rate-most rate (and-left (rateFine rate) _ e)
+fine-rate rate o e = rate-most rate e
 
 -- the lags of an answered range
 pub record Answered (rate : ℕ) (o : TempoOpts) : Type 0 where

@@ -1,8 +1,8 @@
--- Document 01, Tempo and candidates: the lags, in frames, that two bounds in beats a minute stand for.
+-- Document 01, Tempo and candidates, and request No. 1 of document 02, open tempo bounds: the lags, in frames, that two bounds in beats a minute
+-- stand for, whichever floats they are.
 use Prim.Native.Nat.{ℕ, _+_, _-_, max}
-use mathlib.Core.Bool.{Bool, _&&_}
+use mathlib.Core.Bool.{Bool}
 use lib.Ieee.{Float, lt, le}
-use lib.Ieee.Scale.{finite}
 use Rattle.numbers.specs.Rounded.{_⊕_, _⊗_, _⊘_, bits, real, pick, one, hop}
 use Rattle.numbers.specs.Limits.{rateFine}
 use Rattle.numbers.specs.Refusals.{outOfBounds}
@@ -14,23 +14,23 @@ use Rattle.lags.specs.declared.LagRange.{LagRange}
 abbrev pub sixty : Float
 sixty = bits 0x404E_0000_0000_0000
 
--- "Swap if reversed": the lower and the upper bound. They are compared as IEEE 754 does, so that a NaN would swap them.
+-- "Swap if reversed", "compare as IEEE does, so a NaN makes the pair swap": the lower and the upper bound
 unfoldable pub lowerBound : TempoOpts → Float
 lowerBound o = pick (le (o .«min_bpm») (o .«max_bpm»)) (o .«min_bpm») (o .«max_bpm»)
 
 unfoldable pub upperBound : TempoOpts → Float
 upperBound o = pick (le (o .«min_bpm») (o .«max_bpm»)) (o .«max_bpm») (o .«min_bpm»)
 
--- max(x, least): x where it is above least, and else least, also where x is a NaN
+-- max(x, least): "least if NaN or less"
 unfoldable pub noLess : (least x : Float) → Float
 noLess least x = pick (lt least x) x least
 
--- "lo = max(lo, 1)"
+-- "lo = max(lo, 1)": "lo is 1 if NaN or less"
 unfoldable pub lowBpm : TempoOpts → Float
 unfolding lowerBound noLess
 lowBpm o = noLess one (lowerBound o)
 
--- "hi = max(hi, lo + 1)"
+-- "hi = max(hi, lo + 1)": "hi is lo + 1 if NaN or less"
 unfoldable pub highBpm : TempoOpts → Float
 unfolding upperBound noLess lowBpm
 highBpm o = noLess (lowBpm o ⊕ one) (upperBound o)
@@ -63,9 +63,9 @@ maxLag rate o = max (minLag rate o + 1) (roundOf (minuteOver rate (lowBpm o)))
 abbrev pub lagRoom : (minLag maxLag : ℕ) → ℕ
 lagRoom minLag maxLag = maxLag - minLag + 1
 
--- what number 1 looks at: "Sample rate 1 to 192,000", "BPM bounds finite"
+-- what number 1 looks at, of the rate and the options: "Sample rate 1 to 192,000". "Number 1 no longer covers BPM bounds": an infinity is an open bound
 unfoldable pub boundsFine : ℕ → TempoOpts → Bool
-boundsFine rate o = rateFine rate && (finite (o .«min_bpm») && finite (o .«max_bpm»))
+boundsFine rate o = rateFine rate
 
 -- the answer of `lag_range`: number 0 and both lags, or number 1 and zeros
 unfoldable pub lagRange : ℕ → TempoOpts → LagRange

@@ -10,7 +10,6 @@ use numbers::rate_fine;
 use options::TempoOpts;
 ghost use mathlib.Core.Path.{_≡_};
 ghost use Prim.Native.Nat.{_≤_};
-ghost use lib.Ieee.Scale.{finite};
 ghost use Rattle.numbers.specs.Rounded.{real};
 ghost use Rattle.numbers.specs.Limits.{mostPeriod};
 ghost use Rattle.floats.specs.Wholes.{roundOf};
@@ -59,7 +58,7 @@ fn high_bpm(opts: TempoOpts) -> f64
     ensures { λ r. ⌜ r ≡ highBpm opts ⌝ }
 {
     let least = low_bpm(opts) + 1.0;
-    if opts.min_bpm <= opts.max_bpm {
+    if opts.max_bpm >= opts.min_bpm {
         return no_less(least, opts.max_bpm);
     }
     no_less(least, opts.min_bpm)
@@ -79,18 +78,11 @@ pub fn bpm_at(rate: u32, lag: usize) -> f64
     minute_over(rate, float_of(lag))
 }
 
-// an infinity and a NaN less themselves are NaN
-fn is_finite(x: f64) -> bool
-    ensures { λ r. ⌜ r ≡ finite x ⌝ }
-{
-    x - x == 0.0
-}
-
-// Inner: whether number 1 does not apply: the rate is 1 to 192,000 and both bounds are finite.
+// Inner: whether number 1 does not apply to the rate and the options: the rate is 1 to 192,000. Any two bounds are inside.
 pub fn bounds_fine(rate: u32, opts: TempoOpts) -> bool
     ensures { λ r. ⌜ r ≡ boundsFine rate opts ⌝ }
 {
-    rate_fine(rate) && (is_finite(opts.min_bpm) && is_finite(opts.max_bpm))
+    rate_fine(rate)
 }
 
 // Inner: the slots of each lag curve, one for each lag of the range.
@@ -108,8 +100,9 @@ fn lag_of(rate: u32, bpm: f64) -> usize
     round_of(minute_over(rate, bpm)) as usize
 }
 
-// The lags from the fastest tempo to the slowest that the bounds allow. Refuses 1 for a rate outside 1 to 192,000 or a bound that isn't
-// finite. Else 1 <= min_lag < max_lag <= 45,000, whatever the bounds: reversed ones are swapped, and a narrow range is widened to 1 BPM.
+// The lags from the fastest tempo to the slowest that the bounds allow. Refuses 1 for a rate outside 1 to 192,000. Else
+// 1 <= min_lag < max_lag <= 45,000, whatever the bounds: reversed ones are swapped, as are two of which one is a NaN, a narrow range is widened to
+// 1 BPM, and an infinite upper bound is no limit.
 pub fn lag_range(rate: u32, opts: TempoOpts) -> LagRange
     ensures { λ r. ⌜ r ≡ lagRange rate opts ⌝ }
 {

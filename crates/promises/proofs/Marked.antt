@@ -17,10 +17,6 @@ pub all-hold : Each Holds marked
 unfolding medianOf sort insert key turned toBits ofInt valued suppressed bests lagRange ofBits div mul add sub neg lt le apart agrees gridOf sumFrom
     downbeatsOf downbeatPhase firstGreatest greatest phaseSum inPhase beatFlux
 all-hold =
-    more refl
-    (more refl (more refl (more refl
-    (more refl (more refl (more refl (more refl
-    (more refl (more refl (more refl
-    (more refl (more refl (more refl (more refl (more refl
-    (more refl (more refl
-    (more refl none))))))))))))))))))
+    more refl (more refl (more refl (more refl (more refl (more refl (more refl (more refl (more refl (more refl (more refl (more refl (
+    more refl (more refl (more refl (more refl (more refl (more refl (more refl (more refl (more refl (more refl (more refl (more refl (
+    more refl (more refl (more refl none))))))))))))))))))))))))))

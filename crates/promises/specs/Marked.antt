@@ -1,10 +1,11 @@
--- Document 01, "Marked numbers (M are proved)": the twelve cases in one list, each with what it asks of a definition.
+-- Document 01, "Marked numbers (M are proved)": the twelve cases in one list, each with what it asks of a definition; and beside M5 to M8 the open
+-- bounds of request No. 1.
 use Prim.Native.Nat.{ℕ}
 use mathlib.Core.Bool.{Bool, true, false}
 use mathlib.Core.List.{List, [], _∷_, map}
 use mathlib.Core.Path.{_≡_}
 use lib.Dec.{eqb}
-use lib.Ieee.{Float}
+use lib.Ieee.{Float, nan, inf, neg}
 use Rattle.numbers.specs.Rounded.{nought, real, pick}
 use Rattle.numbers.specs.Lists.{curve}
 use Rattle.median.specs.Median.{medianOf}
@@ -24,6 +25,10 @@ valued n frames values = curve (value frames values) n
     value (f ∷ fs) [] t = nought
     value (f ∷ fs) (v ∷ vs) t = pick (eqb f t) (real v) (value fs vs t)
 
+-- plus infinity: no limit
+abbrev pub infinity : Float
+infinity = inf false
+
 -- what a marked number is about
 pub data Case : Type 0 where
   -- the median of values
@@ -32,6 +37,8 @@ pub data Case : Type 0 where
   peaks : (gap : ℕ) (frames flux kept : List ℕ) → Case
   -- at a rate, bounds in BPM: the least lag and the greatest
   lags : (rate min max least most : ℕ) → Case
+  -- at rate 48,000, bounds that need not be numbers: the least lag and the greatest
+  bounded : (low high : Float) (least most : ℕ) → Case
   -- beside an accepted lag, another: kept or suppressed
   beside : (accepted lag : ℕ) (kept : Bool) → Case
   -- of a whole lag, a window's: whether it agrees
@@ -46,6 +53,7 @@ abbrev pub Holds : Case → Type 0
 Holds (median values is) = medianOf (map real values) ≡ real is
 Holds (peaks gap frames flux kept) = suppressed (valued 24 frames flux) gap frames ≡ kept
 Holds (lags rate min max least most) = lagRange rate (optionsOf (real min) (real max)) ≡ record { number = 0; «min_lag» = least; «max_lag» = most }
+Holds (bounded low high least most) = lagRange 48000 (optionsOf low high) ≡ record { number = 0; «min_lag» = least; «max_lag» = most }
 Holds (beside accepted lag kept) = apart lag accepted ≡ kept
 Holds (window whole lag agreeing) = agrees whole lag ≡ agreeing
 Holds (grid envelope period beats) = gridOf (map real envelope) period ≡ beats
@@ -70,6 +78,18 @@ marked =
     ∷ lags 48000 0 0 5625 11250
     -- M8 rate 1: lags 1 to 2
     ∷ lags 1 30 300 1 2
+    -- request No. 1, both plus infinity: lags 1 and 2
+    ∷ bounded infinity infinity 1 2
+    -- 30 and no upper limit: from lag 1 on; and the same reversed
+    ∷ bounded (real 30) infinity 1 375
+    ∷ bounded infinity (real 30) 1 375
+    -- a NaN makes the pair swap: 300 is the lower bound then, and the upper is 1 above it
+    ∷ bounded nan (real 300) 37 38
+    ∷ bounded (real 30) nan 375 11250
+    ∷ bounded nan nan 5625 11250
+    -- no limit on either side, and both minus infinity
+    ∷ bounded (neg infinity) infinity 1 11250
+    ∷ bounded (neg infinity) (neg infinity) 5625 11250
     -- M9 accepted 20: 22 suppressed, 23 kept; accepted 18: 20 kept
     ∷ beside 20 22 false
     ∷ beside 20 23 true

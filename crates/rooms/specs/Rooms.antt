@@ -70,7 +70,7 @@ lagsOf rate o = lagRoom (minLag rate o) (maxLag rate o)
 abbrev pub sortingOf : (rows lags : ℕ) → ℕ
 sortingOf rows lags = max lags (windowRoom rows)
 
--- what number 1 looks at: N, the rate and the bounds in beats a minute
+-- what number 1 looks at: N, and of the rate and the options what `boundsFine` does
 unfoldable pub analysisNumbersFine : (rows rate : ℕ) → TempoOpts → Bool
 unfolding boundsFine
 analysisNumbersFine rows rate o = leb rows mostRows && boundsFine rate o

@@ -38,7 +38,7 @@ fn no_room() -> Room
 }
 
 // Says how much room an analysis of N frames needs at a sample rate: N slots, L = max_lag - min_lag + 1, and max(L, min(21, N)) to sort in.
-// Refuses 1 for N above 1,048,576, a rate outside 1 to 192,000 or a bound that isn't finite, and then names no room.
+// Refuses 1 for N above 1,048,576 or a rate outside 1 to 192,000, and then names no room.
 pub fn room_of(rows: usize, rate: u32, opts: TempoOpts) -> Room
     ensures { λ r. ⌜ r ≡ roomOf rows rate opts ⌝ }
 {

@@ -93,6 +93,7 @@ fn far_bounds() {
     between(b"2^-600 to 2^-600:", 48000, 1.0 / big, 1.0 / big);
 }
 
+// Open bounds: no limit above, none below, and those that are no numbers.
 fn no_bounds() {
     table(
         RANGE,
@@ -101,6 +102,10 @@ fn no_bounds() {
 30 to infinity:|48000|30|i
 -infinity to 300:|48000|j|300
 infinity to infinity:|48000|i|i
+infinity to 30:|48000|i|30
+-infinity to infinity:|48000|j|i
+-infinity to -infinity:|48000|j|j
+NaN to NaN:|48000|n|n
 rate 0, NaN to NaN:|0|n|n\n",
     );
 }

@@ -197,7 +197,7 @@ searchable-in env rate o fine values rows long loud =
     record {
       values = values;
       rows = rows;
-      rate-from = leb-true 1 rate (and-left (leb 1 rate) _ (and-left (rateFine rate) _ fine));
+      rate-from = leb-true 1 rate (and-left (leb 1 rate) _ fine);
       rate-to = fine-rate rate o fine;
       from = r .from-one;
       ordered = omega (arith, r .ordered);

@@ -23,7 +23,7 @@ use Rattle.lag_search.specs.Search.{flat, clarityRule, weightRule, clarityCurve
 
 -- ---- refusals
 
--- number 1: N, the rate and the bounds in beats a minute
+-- number 1: N, and of the rate and the options what `boundsFine` looks at
 unfoldable pub searchBounds : List Float → (rate : ℕ) → TempoOpts → Bool
 unfolding boundsFine
 searchBounds env rate o = leb (length env) mostRows && boundsFine rate o
