@@ -10,7 +10,7 @@ use lib.Ieee.{Float, nan, inf, fin, binary64, isNan, lt, le, add, ofBits}
 use lib.Ieee.Scale.{finite}
 use Rattle.numbers.specs.Rounded.{_⊕_, pick, one, hop}
 use Rattle.numbers.specs.Limits.{mostRate, mostPeriod, rateFine}
-use Rattle.numbers.proofs.Tests.{and-left, and-right, pick-true, pick-false}
+use Rattle.numbers.proofs.Tests.{and-right, pick-true, pick-false}
 use Rattle.sizes.specs.Sizes.{sizeUpTo, AtMost, AtLeast, isPlus, Plus}
 use Rattle.sizes.proofs.Numbers.{held-short}
 use Rattle.sizes.proofs.Sizes.{div-most, mul-most, real-most}

@@ -21,7 +21,7 @@ lowerBound o = pick (le (o .«min_bpm») (o .«max_bpm»)) (o .«min_bpm») (o .
 unfoldable pub upperBound : TempoOpts → Float
 upperBound o = pick (le (o .«min_bpm») (o .«max_bpm»)) (o .«max_bpm») (o .«min_bpm»)
 
--- max(x, least): "least if NaN or less"
+-- max(x, least): x where it is above least, and else least, also where x is a NaN
 unfoldable pub noLess : (least x : Float) → Float
 noLess least x = pick (lt least x) x least
 
@@ -63,7 +63,8 @@ maxLag rate o = max (minLag rate o + 1) (roundOf (minuteOver rate (lowBpm o)))
 abbrev pub lagRoom : (minLag maxLag : ℕ) → ℕ
 lagRoom minLag maxLag = maxLag - minLag + 1
 
--- what number 1 looks at, of the rate and the options: "Sample rate 1 to 192,000". "Number 1 no longer covers BPM bounds": an infinity is an open bound
+-- what number 1 looks at, of the rate and the options: "Sample rate 1 to 192,000". "Number 1 no longer covers BPM bounds", whichever
+-- floats they are
 unfoldable pub boundsFine : ℕ → TempoOpts → Bool
 boundsFine rate o = rateFine rate
 

@@ -43,7 +43,7 @@ fn no_less(least: f64, x: f64) -> f64
     if x > least { x } else { least }
 }
 
-// the lower bound: the bounds swapped if reversed, and at least 1
+// the lower bound: the bounds swapped if reversed or if one is a NaN, and at least 1
 fn low_bpm(opts: TempoOpts) -> f64
     ensures { λ r. ⌜ r ≡ lowBpm opts ⌝ }
 {
@@ -53,7 +53,7 @@ fn low_bpm(opts: TempoOpts) -> f64
     no_less(1.0, opts.max_bpm)
 }
 
-// the upper bound: at least 1 above the lower one
+// the upper bound, by the same comparison: at least 1 above the lower one
 fn high_bpm(opts: TempoOpts) -> f64
     ensures { λ r. ⌜ r ≡ highBpm opts ⌝ }
 {

@@ -37,7 +37,7 @@ pub data Case : Type 0 where
   peaks : (gap : ℕ) (frames flux kept : List ℕ) → Case
   -- at a rate, bounds in BPM: the least lag and the greatest
   lags : (rate min max least most : ℕ) → Case
-  -- at rate 48,000, bounds that need not be numbers: the least lag and the greatest
+  -- at rate 48,000, bounds of any kind, infinities and NaNs too: the least lag and the greatest
   bounded : (low high : Float) (least most : ℕ) → Case
   -- beside an accepted lag, another: kept or suppressed
   beside : (accepted lag : ℕ) (kept : Bool) → Case

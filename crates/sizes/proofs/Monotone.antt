@@ -199,7 +199,7 @@ add-of f (fin s m e) (fin t n d) (fin u k c) (fin v o g) Z W h l =
 pub add-mono : (f : Format) (x y z w : Float) → T (finite z) → T (finite w) → le x y ≡ true → le z w ≡ true → le (add f x z) (add f y w) ≡ true
 add-mono f x y z w Z W h k = is-true (le (add f x z) (add f y w)) (add-of f x y z w Z W (true→T (le x y) h) (true→T (le z w) k))
 
-finite-not-nan : (x : Float) → T (finite x) → T (not (isNan x))
+pub finite-not-nan : (x : Float) → T (finite x) → T (not (isNan x))
 unfolding isNan
 finite-not-nan nan h = h
 finite-not-nan (inf s) h = absurd h

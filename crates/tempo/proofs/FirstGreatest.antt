@@ -13,7 +13,7 @@ use lib.ListN.{length, getD}
 use lib.Ieee.{Float, nan, binary64, isNan, lt, le, ofBits}
 use lib.Ieee.Fits.{div-fits}
 use Rattle.numbers.specs.Rounded.{_⊘_, real, nought, epsilon, one, hop}
-use Rattle.numbers.specs.Limits.{rateFine, mostRate, mostPeriod, mostRows, valueFine}
+use Rattle.numbers.specs.Limits.{mostRate, mostPeriod, mostRows, valueFine}
 use Rattle.numbers.specs.Lists.{every}
 use Rattle.numbers.proofs.Tests.{and-left, or-left, or-right}
 use Rattle.numbers.proofs.Tabs.{getD-curve, length-tab}
