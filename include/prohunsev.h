@@ -100,7 +100,7 @@ extern "C" {
 #define PROHUNSEV_MOST_MAGNITUDE 85070591730234615865843651857942052864.0f
 #define PROHUNSEV_MOST_VALUE 1427247692705959881058285969449495136382746624.0
 /* the usual bounds of a tempo, in beats a minute: min_bpm and max_bpm; INFINITY (math.h) as max_bpm is no upper limit, and -INFINITY as
- * min_bpm, or anything up to 1, no lower one */
+ * min_bpm, or anything up to 1, is 1, the least there is */
 #define PROHUNSEV_MIN_BPM 30.0
 #define PROHUNSEV_MAX_BPM 300.0
 
@@ -155,9 +155,9 @@ uint32_t ph_frame_times(const uint32_t *frames, size_t frames_len, uint32_t rate
 /* The lags, in frames, of the fastest and the slowest tempo that two bounds in beats a minute allow; reversed bounds are swapped.
  * *min_lag is at least 1, *max_lag at least one more and at most 45,000. The usual bounds are 30 and 300.
  * Bounds, here and in every function below that takes them, are any two doubles, and none is refused. INFINITY as max_bpm means no upper
- * limit, -INFINITY as min_bpm, or anything up to 1, no lower one; INFINITY as both gives the lags 1 and 2. The rule: unless
- * min_bpm <= max_bpm they swap, so a NaN swaps them; then the lower is 1 where it is a NaN or less, and the upper is the lower + 1 where it is
- * a NaN or less. So a NaN is not an open bound: NAN and 300 mean 300 to 301.
+ * limit, -INFINITY as min_bpm, or anything up to 1, down to 1 beat a minute, the least there is; INFINITY as both gives the lags 1 and 2.
+ * The rule: unless min_bpm <= max_bpm they swap, so a NaN swaps them; then the lower is 1 where it is a NaN or less, and the upper is the
+ * lower + 1 where it is a NaN or less. So a NaN is not an open bound: NAN and 300 mean 300 to 301.
  * Refuses 1 for the rate. */
 uint32_t ph_lag_range(uint32_t rate, double min_bpm, double max_bpm, size_t *min_lag, size_t *max_lag);
 

@@ -92,8 +92,8 @@ class Refused(Exception):
 class TempoOpts(NamedTuple):
     """The bounds of the tempo search in beats a minute, in either order; where a call takes one, it takes a pair of numbers too.
 
-    None is an open bound: min_bpm=None looks for every slower tempo, as -math.inf and anything up to 1 do, max_bpm=None for every faster one,
-    as math.inf does. No bound is refused. A NaN is not an open bound: it swaps the pair, as a lower bound above the upper one does, and then
+    None is an open bound: min_bpm=None goes down to 1, the least there is, as -math.inf and anything up to 1 do, max_bpm=None has no upper
+    limit, as math.inf. No bound is refused. A NaN is not an open bound: it swaps the pair, as a lower bound above the upper one does, and then
     stands for 1 as the lower one, and for one beat a minute above the lower as the upper one; (math.nan, 300) means 300 to 301."""
     min_bpm: Optional[float] = 30.0
     max_bpm: Optional[float] = 300.0

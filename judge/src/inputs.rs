@@ -718,12 +718,14 @@ pub fn analyse_magnitudes(r: &mut Numbers) -> Fields {
 
 pub fn open_bounds(call: &str, each: &mut dyn FnMut(Fields)) {
     let open = [NANS.as_slice(), &[f64::INFINITY, f64::NEG_INFINITY]].concat();
-    let (lows, highs) = ([open.as_slice(), &[30.0]].concat(), [open.as_slice(), &[300.0]].concat());
-    for (low, high) in lows.iter().flat_map(|&low| highs.iter().map(move |&high| (low, high))) {
+    let kinds = [open.as_slice(), &[30.0, 300.0]].concat();
+    // the rates of most tracks, and the least and the greatest, are among those of every pair
+    let rates = |step| [1, 44_100, 48_000, 192_000].into_iter().chain((0..=192_001).step_by(step));
+    for (low, high) in kinds.iter().flat_map(|&low| kinds.iter().map(move |&high| (low, high))) {
         let bounds = [Real(low), Real(high)];
         match call {
-            "lag_range" => (0..=192_001).step_by(61).for_each(|rate| each([&[Whole(rate)][..], &bounds].concat())),
-            "room_of" => (0..=192_001).step_by(997).for_each(|rate| each([&[Whole(rate % 30), Whole(rate)][..], &bounds].concat())),
+            "lag_range" => rates(61).for_each(|rate| each([&[Whole(rate)][..], &bounds].concat())),
+            "room_of" => rates(997).for_each(|rate| each([&[Whole(rate % 30), Whole(rate)][..], &bounds].concat())),
             _ => {}
         }
         if !["estimate", "stability_of", "analyse_envelope", "analyse_magnitudes"].contains(&call) {

@@ -233,6 +233,9 @@ fn never(call: &Call, tally: &Tally) -> Vec<String> {
     let mut all: Vec<String> = [0].iter().chain(call.refuses).filter_map(lacks).collect();
     // every call that takes bounds tells something of bounds of each kind
     if call.fields.contains("min_bpm") {
+        if tally.open < LEAST_OPEN_EACH {
+            all.push(format!("fewer than {LEAST_OPEN_EACH} times with a bound that is not finite"));
+        }
         for (low, of_low) in tally.bounds.iter().enumerate() {
             let none = of_low.iter().zip(BOUND_KINDS).filter(|&(&count, _)| count == 0);
             all.extend(none.map(|(_, high)| format!("never told anything of bounds {} and {high}", BOUND_KINDS[low])));
@@ -291,8 +294,9 @@ fn together(seed: u64) -> Vec<(&'static str, Tally)> {
     out
 }
 
-// so many calls of a whole run have a bound that is not finite
+// so many calls of a whole run have a bound that is not finite, and so many of each call that takes bounds
 const LEAST_OPEN: u64 = 100_000;
+const LEAST_OPEN_EACH: u64 = 5_000;
 
 fn run(seed: u64, only: &[&str]) -> bool {
     differences::tell();
@@ -301,12 +305,12 @@ fn run(seed: u64, only: &[&str]) -> bool {
         "{:24}{:>10}{:>10}{:>10}{:>8}{:>8}{:>8}{:>8}{:>13}",
         "call", "calls", "answered", "not empty", "no. 1", "no. 2", "no. 3", "no. 4", "differences"
     );
-    let (mut calls, mut open, mut differences, mut lacks) = (0, 0, 0, vec![]);
+    let (mut calls, mut open, mut differences, mut lacks) = (0, vec![], 0, vec![]);
     let mut line = |name: &str, t: Tally| {
         let [a, b, c, d, e] = t.numbers;
         println!("{name:24}{:>10}{a:>10}{:>10}{b:>8}{c:>8}{d:>8}{e:>8}{:>13}", t.calls(), t.full, t.differences);
         calls += t.calls();
-        open += t.open;
+        open.extend((t.open > 0).then(|| (name.to_string(), t.open)));
         differences += t.differences;
     };
     for call in CALLS.iter().filter(|c| only.is_empty() || only.contains(&c.name)) {
@@ -318,8 +322,10 @@ fn run(seed: u64, only: &[&str]) -> bool {
     for (name, tally) in runs {
         line(name, tally);
     }
-    println!("{open} of the calls have a bound of the tempo that is not finite");
-    if only.is_empty() && open < LEAST_OPEN {
+    let all: u64 = open.iter().map(|(_, of)| of).sum();
+    let each: Vec<String> = open.iter().map(|(name, of)| format!("{name} {of}")).collect();
+    println!("{all} of the calls have a bound of the tempo that is not finite: {}", each.join(", "));
+    if only.is_empty() && all < LEAST_OPEN {
         lacks.push(format!("fewer than {LEAST_OPEN} calls with such a bound"));
     }
     lacks.iter().for_each(|what| println!("{what}"));

@@ -3,10 +3,10 @@ use crate::{ffi, limits, Refused};
 
 /// The bounds of the tempo search in beats a minute, 30 to 300 where nothing else is said. They may come in either order.
 ///
-/// A bound may be open: `f64::INFINITY` as the upper one means no upper limit, `f64::NEG_INFINITY` as the lower one (or anything up to 1) no
-/// lower one. Every float is taken, by one rule: a pair that isn't `min_bpm <= max_bpm` swaps, so a NaN swaps it; then the lower bound is 1
-/// where it is a NaN or less, and the upper one the lower one + 1 where it is a NaN or less. A NaN is therefore not an open bound: NaN and
-/// 300 mean 300 to 301.
+/// A bound may be open: `f64::INFINITY` as the upper one means no upper limit, `f64::NEG_INFINITY` as the lower one (or anything up to 1)
+/// down to 1 beat a minute, the least there is. Every float is taken, by one rule: a pair that isn't `min_bpm <= max_bpm` swaps, so a NaN
+/// swaps it; then the lower bound is 1 where it is a NaN or less, and the upper one the lower one + 1 where it is a NaN or less. A NaN is
+/// therefore not an open bound: NaN and 300 mean 300 to 301.
 ///
 /// ```
 /// # use prohunsev::*;
@@ -18,7 +18,7 @@ use crate::{ffi, limits, Refused};
 /// ```
 #[derive(Clone, Copy, Debug, PartialEq)]
 pub struct TempoOpts {
-    /// The slowest tempo that is looked for; `f64::NEG_INFINITY` for no lower limit.
+    /// The slowest tempo that is looked for; `f64::NEG_INFINITY` for the least there is, 1.
     pub min_bpm: f64,
     /// The fastest tempo that is looked for; `f64::INFINITY` for no upper limit.
     pub max_bpm: f64,
@@ -40,7 +40,7 @@ impl TempoOpts {
         TempoOpts { min_bpm, max_bpm }
     }
 
-    /// The same options with another lower bound, `f64::NEG_INFINITY` for none.
+    /// The same options with another lower bound, `f64::NEG_INFINITY` for the least there is, 1.
     #[must_use]
     pub const fn with_min_bpm(self, min_bpm: f64) -> TempoOpts {
         TempoOpts { min_bpm, ..self }
