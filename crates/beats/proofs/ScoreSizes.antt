@@ -7,7 +7,7 @@ use Prim.Native.Nat.{ℕ, zero, suc, _+_, _-_, _*_, _^_, _≤_, _<_}
 use native.Mathlib.Nat.{le-trans, suc-mul, mul-le-mul-right}
 use native.Mathlib.Omega.{arith}
 use lib.Dec.{T, lit<, lit≤}
-use lib.ListN.{length, getD}
+use lib.ListN.{length, getD, length-map}
 use lib.Ieee.{Float, nan, binary64, lt, neg, ofBits, fits}
 use lib.Ieee.Fits.{div-fits}
 use lib.Ieee.Scale.{finite}
@@ -16,6 +16,7 @@ use Rattle.numbers.specs.Limits.{mostRows, mostPeriod, valueFine}
 use Rattle.numbers.specs.Lists.{every}
 use Rattle.numbers.proofs.Tests.{pick-false}
 use Rattle.lists.specs.Means.{meanOf}
+use Rattle.lists.proofs.Means.{mean-of-mapped}
 use Rattle.sizes.specs.Sizes.{AtMost, Within, AtLeast, Plus, isPlus, Held, Each, none, more}
 use Rattle.sizes.proofs.Numbers.{held-multiple}
 use Rattle.sizes.proofs.Sizes.{add-most, most-weaken, most-finite, most-not-nan, nought-most, sub-within, mul-within, div-within, within-weaken}
@@ -42,10 +43,6 @@ use Rattle.beats.proofs.Chains.{score-at}
 each-mapped : {A B : Type 0} {P : A → Type 0} {Q : B → Type 0} {xs : List A} (f : A → B) → ((x : A) → P x → Q (f x)) → Each P xs → Each Q (map f xs)
 each-mapped f h none = none
 each-mapped f h (more p e) = more (h _ p) (each-mapped f h e)
-
-length-map : {A B : Type 0} (f : A → B) (xs : List A) → length (map f xs) ≡ length xs
-length-map f [] = refl
-length-map f (x ∷ xs) = ap suc (length-map f xs)
 
 flatness-least : AtLeast 1 (2 ^ 52) epsilon
 unfolding ofBits
@@ -79,9 +76,10 @@ module _ (envelope : List Float) (period : ℕ) (fine : every valueFine envelope
   variance-within : Within 392 (varianceOf envelope)
   unfolding varianceOf
   variance-within =
-      div-within binary64 392 0 (lit≤ tt)
-      (sum-within 30 362 (lit≤ tt) (lit≤ tt) (omega (arith, length-map (squareAbout (meanOf envelope)) envelope))
-      (each-mapped (squareAbout (meanOf envelope)) square-within values)) frames-least
+      subst (Within 392) (sym (mean-of-mapped (squareAbout (meanOf envelope)) envelope))
+      (div-within binary64 392 0 (lit≤ tt)
+      (sum-within 30 362 (lit≤ tt) (lit≤ tt) (omega (arith, length-map envelope (squareAbout (meanOf envelope))))
+      (each-mapped (squareAbout (meanOf envelope)) square-within values)) frames-least)
 
   variance-fits : T (fits binary64 (varianceOf envelope))
   unfolding varianceOf

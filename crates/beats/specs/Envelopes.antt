@@ -6,7 +6,7 @@ use Prim.Native.Nat.{ℕ}
 use lib.Dec.{eqb}
 use lib.ListN.{length, getD}
 use lib.Ieee.{Float, nan, le}
-use Rattle.numbers.specs.Rounded.{_⊖_, _⊗_, _⊘_, real, sumOf, epsilon, one}
+use Rattle.numbers.specs.Rounded.{_⊖_, _⊗_, _⊘_, epsilon, one}
 use Rattle.lists.specs.Means.{meanOf}
 use Rattle.roots.specs.Roots.{sqrtOf}
 
@@ -14,9 +14,10 @@ use Rattle.roots.specs.Roots.{sqrtOf}
 unfoldable pub squareAbout : (mean v : Float) → Float
 squareAbout mean v = (v ⊖ mean) ⊗ (v ⊖ mean)
 
+-- the mean of these squares
 unfoldable pub varianceOf : List Float → Float
 unfolding meanOf squareAbout
-varianceOf envelope = sumOf (map (squareAbout (meanOf envelope)) envelope) ⊘ real (length envelope)
+varianceOf envelope = meanOf (map (squareAbout (meanOf envelope)) envelope)
 
 -- "Empty envelope, period 0, or variance at most 2^-52"
 unfoldable pub beatless : List Float → (period : ℕ) → Bool

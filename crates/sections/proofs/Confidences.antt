@@ -1,7 +1,7 @@
 -- The confidence: its folds entry by entry, and that it lies within 0 to 1. The sum of prominences has the sign plus and is finite, so
 -- the quotient by a range above 0 is no NaN, and what is held to a range lies in it. Assumes nothing.
 use Prim.Native.Nat.{ℕ, zero, suc, _+_, _*_, _^_, _≤_, _<_}
-use mathlib.Core.Path.{_≡_, refl}
+use mathlib.Core.Path.{_≡_, refl, sym, subst}
 use mathlib.Core.Logic.{⊎-elim}
 use mathlib.Core.Bool.{Bool, true, false, not}
 use mathlib.Core.List.{List, [], _∷_, map}
@@ -14,6 +14,7 @@ use lib.Ieee.Scale.{finite}
 use lib.ListN.{length, getD, drop, length-map, drop-of-length-le}
 use lib.Seq.{drop-cons}
 use borrow.Author.Tests.{ltb-true, eqb-false, ne-eqb}
+use Rattle.lists.proofs.Means.{mean-of-mapped}
 use Rattle.median.proofs.Medians.{median-within}
 use Rattle.median.specs.Median.{medianOf}
 use Rattle.numbers.proofs.Tests.{which, and-left}
@@ -62,7 +63,7 @@ range-is novelty top med e h = rw (e, h)
 pub mean-is : (novelty : List Float) (rows : List ℕ) (sum med n : Float) → sum ≡ sumOf (map (prominence novelty med) rows) → med ≡ medianOf novelty
     → n ≡ real (length rows) → sum ⊘ n ≡ meanProminence novelty rows
 unfolding meanProminence
-mean-is novelty rows sum med n e h k = rw (e, k, h)
+mean-is novelty rows sum med n e h k = rw (e, k, h) (sym (mean-of-mapped (prominence novelty (medianOf novelty)) rows))
 
 module _ (novelty : List Float) (rows : List ℕ) (some : length rows ≡ 0 → ⊥) where
   pub confidence-flat : le (rangeOf novelty) nought ≡ true → confidenceOf novelty rows ≡ nought
@@ -132,13 +133,17 @@ module _ (novelty : List Float) (some : 0 < length novelty) (fine : every valueF
     count-above : lt nought (real (length rows)) ≡ true
     count-above = least-above (omega arith) (real-plus (length rows)) count-least
 
+    mean-by-rows : meanProminence novelty rows ≡ sumOf terms ⊘ real (length rows)
+    unfolding meanProminence
+    mean-by-rows = mean-of-mapped (prominence novelty (medianOf novelty)) rows
+
     mean-finite : T (finite (meanProminence novelty rows))
     unfolding meanProminence
-    mean-finite = most-finite (div-within binary64 167 0 (omega arith) sum-bounded count-least)
+    mean-finite = most-finite (subst (Within 167) (sym mean-by-rows) (div-within binary64 167 0 (omega arith) sum-bounded count-least))
 
     mean-plus : Plus (meanProminence novelty rows)
     unfolding meanProminence
-    mean-plus = div-plus binary64 (real (length rows)) (most-finite sum-bounded) sum-is-plus count-above
+    mean-plus = subst Plus (sym mean-by-rows) (div-plus binary64 (real (length rows)) (most-finite sum-bounded) sum-is-plus count-above)
 
     part-not-nan : le (rangeOf novelty) nought ≡ false → T (not (isNan (meanProminence novelty rows ⊘ rangeOf novelty)))
     part-not-nan e =

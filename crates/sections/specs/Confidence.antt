@@ -4,7 +4,8 @@ use mathlib.Core.List.{List, [], _∷_, map}
 use lib.Dec.{eqb}
 use lib.ListN.{length}
 use lib.Ieee.{Float, lt, le, neg}
-use Rattle.numbers.specs.Rounded.{_⊖_, _⊘_, bits, real, nought, pick, sumOf, positivePart, held, one}
+use Rattle.numbers.specs.Rounded.{_⊖_, _⊘_, bits, nought, pick, positivePart, held, one}
+use Rattle.lists.specs.Means.{meanOf}
 use Rattle.median.specs.Median.{medianOf}
 use Rattle.onsets.specs.Peaks.{at}
 
@@ -28,7 +29,8 @@ prominence novelty med row = positivePart (at novelty row ⊖ med)
 
 -- the mean prominence of the boundaries
 unfoldable pub meanProminence : List Float → List ℕ → Float
-meanProminence novelty boundaries = sumOf (map (prominence novelty (medianOf novelty)) boundaries) ⊘ real (length boundaries)
+unfolding meanOf
+meanProminence novelty boundaries = meanOf (map (prominence novelty (medianOf novelty)) boundaries)
 
 -- their mean as a part of the range, held to 0..1; 0 where there is no boundary or no range
 unfoldable pub confidenceOf : List Float → List ℕ → Float

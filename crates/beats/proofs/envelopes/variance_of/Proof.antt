@@ -1,6 +1,6 @@
 -- `beats::envelopes::variance_of` meets its contract. The invariant: the sum of squares so far, and then those of what is left, is the whole
 -- sum. The measure is what is left of the length. Assumes nothing.
-use mathlib.Core.Path.{_≡_, refl, ap, _∙_}
+use mathlib.Core.Path.{_≡_, refl, sym, ap, _∙_}
 use mathlib.Core.List.{List, map}
 use Prim.Native.Nat.{ℕ, _+_, _≤_, _<_, _-_}
 use native.Mathlib.Numerals.{add-one}
@@ -11,6 +11,7 @@ use lib.Seq.{drop-cons}
 use lib.Ieee.{Float, nan}
 use Rattle.numbers.specs.Rounded.{_⊕_, _⊘_, nought, sumFrom, sumOf}
 use Rattle.lists.specs.Means.{meanOf}
+use Rattle.lists.proofs.Means.{mean-of-mapped}
 use Rattle.beats.specs.Envelopes.{squareAbout, varianceOf}
 use borrow.Author.Needs.{needs}
 use Rattle.beats.proofs.envelopes.variance_of.Statement.{statement}
@@ -72,6 +73,7 @@ returns c =
     (sum-end (squareAbout (m .mean-of .result)) (l .loop .sum) xs (l .loop .i) (c .before .loop-test .left) ∙ l .loop .inv .1
     ∙ ap (λ (mean : Float). sumOf (map (squareAbout mean) xs)) (m .mean-of .ensures))
     ∙ ap (λ (x : Float). sumOf (map (squareAbout (meanOf xs)) xs) ⊘ x) (c .float-of .ensures)
+    ∙ sym (mean-of-mapped (squareAbout (meanOf xs)) xs)
 
 pub variance-of-spec : {M : Type 1} → statement M
 variance-of-spec =
