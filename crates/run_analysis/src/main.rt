@@ -3,8 +3,11 @@
 //
 // The clicks are four frames apart, from frame 1 on, at rate 2,048: eight frames a second, so 120 beats a minute. The lags are 2 to 16.
 //
+// What is run whole is `analyse_magnitudes`, on the magnitudes whose flux is the clicks. `analyse_envelope` is run by the reporting program (report_answer),
+// and its refusals here, by `rooms::envelope_refusal`, which it asks first: a function that lends so many slices takes the prover long, so there is one.
+//
 // The cases stand in tables, one to a line, with bars between the columns: the label, then the numbers that the function
-// of that name takes, where (1) is column 1, and here and there what they are about.
+// of that name takes, where (1) is column 1.
 ghost use Prim.Native.Nat.{_≤_};
 ghost use lib.ListN.{length};
 use options::TempoOpts;
@@ -13,18 +16,15 @@ use tempo::Candidate;
 use tempo::Tempo;
 use track::Analysis;
 
-const ENVELOPE: usize = 1;
+const MAGNITUDES: usize = 1;
 
-const MAGNITUDES: usize = 2;
+const ROOM: usize = 2;
 
-const ROOM: usize = 3;
-
-const LENGTHS: usize = 4;
+const LENGTHS: usize = 3;
 
 fn main() {
-    clicks();
-    lengths();
     magnitudes();
+    lengths();
     rooms();
     bounds();
 }
@@ -40,9 +40,6 @@ fn table(call: usize, lines: &[u8]) {
 
 fn run(call: usize, line: &[u8]) {
     run_show::words(run_cases::part(line, b'|', 0));
-    if call == ENVELOPE {
-        return of_envelope(line);
-    }
     if call == LENGTHS {
         return of_lengths(line);
     }
@@ -167,40 +164,6 @@ fn lists_are(onsets: &[u32; 50], back: &[u32; 50], beats: &[u32; 50], downbeats:
     list(b"downbeats", downbeats);
 }
 
-// Analyses an envelope. Every slice is lent and shown with two slots past its room.
-fn lent(envelope: &[f64], rate: u32) {
-    let mut threshold = [9.0f64; 50];
-    let mut onsets = [77u32; 50];
-    let mut clarity = [9.0f64; 17];
-    let mut weight = [9.0f64; 17];
-    let mut window_clarity = [9.0f64; 17];
-    let mut window_weight = [9.0f64; 17];
-    let mut score = [9.0f64; 50];
-    let mut back = [77u32; 50];
-    let mut beats = [77u32; 50];
-    let mut downbeats = [77u32; 50];
-    let mut work = [9.0f64; 23];
-    answer(analysis::analyse_envelope(
-        envelope,
-        rate,
-        TempoOpts::new(),
-        &mut threshold,
-        &mut onsets,
-        &mut clarity,
-        &mut weight,
-        &mut window_clarity,
-        &mut window_weight,
-        &mut score,
-        &mut back,
-        &mut beats,
-        &mut downbeats,
-        &mut work,
-    ));
-    curves_are(&threshold, &clarity, &weight, &score);
-    worked_in(&window_clarity, &window_weight, &work);
-    lists_are(&onsets, &back, &beats, &downbeats);
-}
-
 // The number of an analysis with the slice `short` of the eleven, counted from 1, one slot short; 0: exactly the room. An analysis asks for it first, by
 // the lengths of what is lent, and is refused by nothing else.
 fn refused(envelope: &[f64], rate: u32, short: usize) {
@@ -229,15 +192,6 @@ fn refused(envelope: &[f64], rate: u32, short: usize) {
     run_show::end();
 }
 
-// The first (1) slots of the clicks, or of no numbers where (3) is 1, at rate (2).
-fn of_envelope(line: &[u8]) {
-    let e = envelope_of(run_cases::column(line, 3));
-    lent(
-        &e[0..run_cases::column_within(line, 1, 48)],
-        run_cases::column_u32(line, 2),
-    );
-}
-
 // The clicks, or no numbers where (3) is 1, at rate (1), with slice (2) short.
 fn of_lengths(line: &[u8]) {
     let e = envelope_of(run_cases::column(line, 3));
@@ -257,20 +211,7 @@ fn envelope_of(odd: usize) -> [f64; 48] {
     e
 }
 
-// What is answered, with two slots more in each slice, and what is refused.
-fn clicks() {
-    table(
-        ENVELOPE,
-        b"clicks:|48|2048
-seventeen slots of them:|17|2048
-one of them:|4|2048
-a NaN:|48|2048|1
-rate 0:|48|0
-rate 192,001:|48|192001\n",
-    );
-}
-
-// Exactly the room, each of the eleven slices one short, and which number comes first.
+// An analysis of an envelope: exactly the room, each of the eleven slices one short, other refusals, and which number comes first.
 fn lengths() {
     table(
         LENGTHS,
@@ -287,6 +228,8 @@ short 9:|2048|9
 short 10:|2048|10
 short 11:|2048|11
 a NaN:|2048|0|1
+rate 0:|0|0
+rate 192,001:|192001|0
 3 before 4:|2048|11|1
 1 before 3:|0|11\n",
     );
@@ -344,31 +287,36 @@ const CLICKS: [f32; 48] = [
     0.0,
 ];
 
-// The magnitudes, and what is refused of them.
+// What is answered, with two slots more in each slice, and what is refused.
 fn magnitudes() {
     table(
         MAGNITUDES,
-        b"magnitudes 0:|48|48|1|48|0|clicks of one bin
-magnitudes 1:|48|24|2|48|0|two bins
-magnitudes 2:|48|48|1|47|0|flux one short
-magnitudes 3:|0|48|0|48|0|no bins
-magnitudes 4:|48|0|4097|48|0|4,097 bins
-magnitudes 5:|47|24|2|48|0|half a row
-magnitudes 6:|0|0|1|48|0|no rows
-magnitudes 7:|0|1048577|1|48|0|1,048,577 rows
-magnitudes 8:|47|24|2|23|0|2 before 3
-an infinity:|48|48|1|48|1\n",
+        b"clicks:|48|48|1|48|2048
+seventeen of their rows:|17|17|1|48|2048
+one of them:|4|4|1|48|2048
+two bins:|48|24|2|48|2048
+no rows:|0|0|1|48|2048
+flux one short:|48|48|1|47|2048
+no bins:|0|48|0|48|2048
+4,097 bins:|48|0|4097|48|2048
+half a row:|47|24|2|48|2048
+1,048,577 rows:|0|1048577|1|48|2048
+2 before 3:|47|24|2|23|2048
+an infinity:|48|48|1|48|2048|1
+rate 0:|48|48|1|48|0
+rate 192,001:|48|48|1|48|192001\n",
     );
 }
 
-// The first (1) of the magnitudes, or of infinities where (5) is 1, (2) rows of (3) bins, and room (4) for the flux.
+// The first (1) of the magnitudes, or of infinities where (6) is 1, (2) rows of (3) bins, room (4) for the flux, and rate (5).
 fn of_slab(line: &[u8]) {
-    let m = slab_of(run_cases::column(line, 5));
-    of_magnitudes(
+    let m = slab_of(run_cases::column(line, 6));
+    lent(
         &m[0..run_cases::column_within(line, 1, 48)],
         run_cases::column(line, 2),
         run_cases::column(line, 3),
         run_cases::column(line, 4),
+        run_cases::column_u32(line, 5),
     );
 }
 
@@ -379,25 +327,25 @@ fn slab_of(odd: usize) -> [f32; 48] {
     CLICKS
 }
 
-// Everything but the flux has exactly its room; the flux is shown with the slots that are not lent.
-fn of_magnitudes(magnitudes: &[f32], rows: usize, bins: usize, room: usize) {
+// Analyses magnitudes. Every slice but the flux is lent and shown with two slots past its room; the flux is shown with the slots that are not lent.
+fn lent(magnitudes: &[f32], rows: usize, bins: usize, room: usize, rate: u32) {
     let mut flux = [9.0f64; 48];
-    let mut threshold = [9.0f64; 48];
-    let mut onsets = [77u32; 48];
-    let mut clarity = [9.0f64; 15];
-    let mut weight = [9.0f64; 15];
-    let mut window_clarity = [9.0f64; 15];
-    let mut window_weight = [9.0f64; 15];
-    let mut score = [9.0f64; 48];
-    let mut back = [77u32; 48];
-    let mut beats = [77u32; 48];
-    let mut downbeats = [77u32; 48];
-    let mut work = [9.0f64; 21];
+    let mut threshold = [9.0f64; 50];
+    let mut onsets = [77u32; 50];
+    let mut clarity = [9.0f64; 17];
+    let mut weight = [9.0f64; 17];
+    let mut window_clarity = [9.0f64; 17];
+    let mut window_weight = [9.0f64; 17];
+    let mut score = [9.0f64; 50];
+    let mut back = [77u32; 50];
+    let mut beats = [77u32; 50];
+    let mut downbeats = [77u32; 50];
+    let mut work = [9.0f64; 23];
     answer(analysis::analyse_magnitudes(
         magnitudes,
         rows,
         bins,
-        2048,
+        rate,
         TempoOpts::new(),
         &mut flux[0..numbers::least(room, 48)],
         &mut threshold,
@@ -413,6 +361,9 @@ fn of_magnitudes(magnitudes: &[f32], rows: usize, bins: usize, room: usize) {
         &mut work,
     ));
     flux_is(&flux);
+    curves_are(&threshold, &clarity, &weight, &score);
+    worked_in(&window_clarity, &window_weight, &work);
+    lists_are(&onsets, &back, &beats, &downbeats);
 }
 
 fn flux_is(flux: &[f64; 48]) {
