@@ -1,8 +1,8 @@
 -- Every score is finite, for every envelope that is not refused: values of at most 2 ^ 150, a variance above 2 ^ -52, and penalties of at most
 -- 2 ^ 29 make scaled fluxes of at most 2 ^ 176, and any number of frames below 2 ^ 30 a score of at most 2 ^ 208.
-use mathlib.Core.Path.{_≡_, refl, sym, ap, subst}
+use mathlib.Core.Path.{_≡_, sym, subst}
 use mathlib.Core.Bool.{true, false}
-use mathlib.Core.List.{List, [], _∷_, map}
+use mathlib.Core.List.{List, [], map}
 use Prim.Native.Nat.{ℕ, zero, suc, _+_, _-_, _*_, _^_, _≤_, _<_}
 use native.Mathlib.Nat.{le-trans, suc-mul, mul-le-mul-right}
 use native.Mathlib.Omega.{arith}

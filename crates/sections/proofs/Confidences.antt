@@ -138,11 +138,9 @@ module _ (novelty : List Float) (some : 0 < length novelty) (fine : every valueF
     mean-by-rows = mean-of-mapped (prominence novelty (medianOf novelty)) rows
 
     mean-finite : T (finite (meanProminence novelty rows))
-    unfolding meanProminence
     mean-finite = most-finite (subst (Within 167) (sym mean-by-rows) (div-within binary64 167 0 (omega arith) sum-bounded count-least))
 
     mean-plus : Plus (meanProminence novelty rows)
-    unfolding meanProminence
     mean-plus = subst Plus (sym mean-by-rows) (div-plus binary64 (real (length rows)) (most-finite sum-bounded) sum-is-plus count-above)
 
     part-not-nan : le (rangeOf novelty) nought ≡ false → T (not (isNan (meanProminence novelty rows ⊘ rangeOf novelty)))
