@@ -1,4 +1,5 @@
--- "of phases 0 to 3, the first with the greatest flux sum": what the phase that is found has, for every envelope that is not refused.
+-- "of phases 0 to 3", to meter - 1, "the first with the greatest flux sum": what the phase that is found has, for every envelope that is not refused:
+-- it is below the meter, no phase's sum is greater, and each phase before it has less: "ties still go to the earliest".
 use mathlib.Core.Path.{_≡_, refl, sym, ap, subst}
 use mathlib.Core.Bool.{true}
 use mathlib.Core.Logic.{⊎-elim}
@@ -36,10 +37,10 @@ length-map f [] = refl
 length-map f (t ∷ ts) = ap suc (length-map f ts)
 
 -- more beats than could be lent
-pub phase-greatest : (envelope : List Float) (beats : List ℕ) (meter : ℕ) → every valueFine envelope ≡ true → length beats ≤ 2 ^ 52 → 1 ≤ meter
+pub phase-first-greatest : (envelope : List Float) (beats : List ℕ) (meter : ℕ) → every valueFine envelope ≡ true → length beats ≤ 2 ^ 52 → 1 ≤ meter
     → First (phaseSum envelope beats meter) meter (downbeatPhase envelope beats meter)
 unfolding downbeatPhase phaseSum
-phase-greatest envelope beats meter fine few some =
+phase-first-greatest envelope beats meter fine few some =
     first-is (phaseSum envelope beats meter) meter some
     (λ p q.
     most-not-nan

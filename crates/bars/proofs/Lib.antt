@@ -2,4 +2,5 @@
 pub mod Phases
 pub mod Greatest
 pub mod BarBeats
+pub mod Meters
 pub mod Marks

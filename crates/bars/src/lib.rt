@@ -1,27 +1,15 @@
 // Bars: which of the beats are downbeats, and which bar and beat a time lies in.
 //
-// Document 01, "Beats and bars". The Rust: tempo.rs `downbeat_phase` and `bar_beat_at`.
+// Document 01, "Beats and bars"; request No. 4, the meter. The Rust: tempo.rs `downbeat_phase`, whose bars have four beats, and `bar_beat_at`.
 ghost use mathlib.Core.Path.{_≡_};
 ghost use Prim.Native.Nat.{_<_, _≤_};
 ghost use lib.ListN.{length};
 ghost use Rattle.numbers.specs.Lists.{listed, filled};
-ghost use Rattle.bars.specs.Downbeats.{
-  mostMeter,
-  downbeatRefusal,
-  beatFlux,
-  inPhase,
-  phaseSum,
-  downbeatPhase,
-  DownbeatsPromise,
-  commonMeter,
-};
+ghost use Rattle.options.specs.Options.{mostMeter};
+ghost use Rattle.bars.specs.Downbeats.{downbeatRefusal, beatFlux, inPhase, phaseSum, downbeatPhase, DownbeatsPromise};
 ghost use Rattle.bars.specs.BarBeats.{lastBar, during, passing, BarBeatPromise};
 use numbers::Listing;
-
-// beats a bar, where nothing else is said
-pub const COMMON_METER: usize = 4;
-// the most beats a bar
-pub const MOST_METER: usize = 16;
+use options::TempoOpts;
 
 // Where a time lies: in no bar, where it reaches no downbeat, or in a bar and at a beat of it, both counted from 1.
 pub enum BarBeat {
@@ -29,26 +17,20 @@ pub enum BarBeat {
     At { bar: usize, beat: usize },
 }
 
-// Lists the downbeats of a beat list in common time: every fourth beat, from the one that makes their flux sum greatest.
-// Room: one slot for each beat; slots past the count stay. Refuses 1 (N, or a beat above 1,048,575), 3 and 4, and then lists nothing.
-// The beats need not ascend; where flux is negative an empty phase may be the greatest, and then no beat is a downbeat.
-pub fn downbeats(envelope: &[f64], beats: &[u32], frames: &mut [u32]) -> Listing
-    ensures { λ r. ⌜ DownbeatsPromise (now (envelope .entry)) (now (beats .entry)) commonMeter (now (frames .entry)) r (now (frames .exit)) ⌝ }
+// Lists the downbeats of a beat list: every meter-th beat, from the one that makes their flux sum greatest; of the options the meter alone is read.
+// Room: one slot for each beat; slots past the count stay. Refuses 1 (N, a beat above 1,048,575, a meter outside 1 to 16), 3 and 4, and then lists
+// nothing. The beats need not ascend; where flux is negative an empty phase may be the greatest, and then no beat is a downbeat.
+pub fn downbeats(envelope: &[f64], beats: &[u32], opts: TempoOpts, frames: &mut [u32]) -> Listing
+    ensures { λ r. ⌜ DownbeatsPromise (now (envelope .entry)) (now (beats .entry)) opts (now (frames .entry)) r (now (frames .exit)) ⌝ }
 {
-    downbeats_in(envelope, beats, COMMON_METER, frames)
-}
-
-// Inner: the downbeats of bars of `meter` beats; refuses 1 also for a meter outside 1 to 16.
-pub fn downbeats_in(envelope: &[f64], beats: &[u32], meter: usize, frames: &mut [u32]) -> Listing
-    ensures { λ r. ⌜ DownbeatsPromise (now (envelope .entry)) (now (beats .entry)) meter (now (frames .entry)) r (now (frames .exit)) ⌝ }
-{
-    let no = downbeat_refusal(envelope, beats, meter, frames.len());
+    let no = downbeat_refusal(envelope, beats, opts, frames.len());
     if no != 0 {
         return Listing {
             number: no,
             count: 0,
         };
     }
+    let meter = opts.meter;
     let phase = downbeat_phase(envelope, beats, meter);
     let count = list_phase(beats, meter, phase, frames);
     Listing {
@@ -75,8 +57,8 @@ pub fn bar_beat_at(time: f64, downbeats: &[f64], beats: &[f64]) -> BarBeat
     }
 }
 
-fn downbeat_refusal(envelope: &[f64], beats: &[u32], meter: usize, room: usize) -> u32
-    ensures { λ r. ⌜ r ≡ downbeatRefusal (now (envelope .entry)) (now (beats .entry)) meter room ⌝ }
+fn downbeat_refusal(envelope: &[f64], beats: &[u32], opts: TempoOpts, room: usize) -> u32
+    ensures { λ r. ⌜ r ≡ downbeatRefusal (now (envelope .entry)) (now (beats .entry)) opts room ⌝ }
 {
     if envelope.len() > numbers::MOST_ROWS {
         return numbers::OUT_OF_BOUNDS;
@@ -84,10 +66,7 @@ fn downbeat_refusal(envelope: &[f64], beats: &[u32], meter: usize, room: usize) 
     if !lists::all_at_most(beats, numbers::MOST_FRAME) {
         return numbers::OUT_OF_BOUNDS;
     }
-    if meter < 1 {
-        return numbers::OUT_OF_BOUNDS;
-    }
-    if meter > MOST_METER {
+    if !options::options_fine(opts) {
         return numbers::OUT_OF_BOUNDS;
     }
     if room < beats.len() {
@@ -129,7 +108,7 @@ fn downbeat_phase(envelope: &[f64], beats: &[u32], meter: usize) -> usize
     requires { ⌜ (0 < meter) × (meter ≤ mostMeter) ⌝ }
     ensures { λ r. ⌜ r ≡ downbeatPhase (now (envelope .entry)) (now (beats .entry)) meter ⌝ }
 {
-    let mut sums = [0.0; MOST_METER];
+    let mut sums = [0.0; TempoOpts::MOST_METER];
     fill_sums(envelope, beats, meter, &mut sums);
     lists::first_greatest(&sums, meter)
 }

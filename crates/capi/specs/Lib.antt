@@ -1,4 +1,5 @@
 pub mod Versions
+pub mod Choices
 pub mod Lists
 pub mod Medians
 pub mod Tempos

@@ -8,6 +8,7 @@ use Rattle.numbers.specs.Lists.{listed}
 use Rattle.numbers.specs.Refusals.{unlessRefused}
 use Rattle.onsets.specs.Peaks.{suppressed, suppressionRefusal}
 use Rattle.onsets.specs.Onsets.{onsetsOf, onsetsRefusal}
+use Rattle.options.specs.Options.{defaultOptions, withMeter}
 use Rattle.bars.specs.Downbeats.{downbeatRefusal, downbeatsOf}
 use Rattle.capi_answers.specs.Handed.{Handed}
 
@@ -25,6 +26,7 @@ PhOnsetsPromise flux threshold rate was = ListHanded (onsetsRefusal flux thresho
 abbrev pub PhSuppressionPromise : (peaks : List ℕ) (curve : List Float) (gap : ℕ) (was : List ℕ) (count₀ answer : ℕ) (after : List ℕ) (count : ℕ) → Type 0
 PhSuppressionPromise peaks curve gap was = ListHanded (suppressionRefusal peaks curve (length was)) (suppressed curve gap peaks) was
 
--- what `ph_downbeats` promises
+-- what `ph_downbeats` promises: of the options the meter alone is handed over, since no bound is read
 abbrev pub PhDownbeatsPromise : (envelope : List Float) (beats : List ℕ) (meter : ℕ) (was : List ℕ) (count₀ answer : ℕ) (after : List ℕ) (count : ℕ) → Type 0
-PhDownbeatsPromise envelope beats meter was = ListHanded (downbeatRefusal envelope beats meter (length was)) (downbeatsOf envelope beats meter) was
+PhDownbeatsPromise envelope beats meter was =
+    ListHanded (downbeatRefusal envelope beats (withMeter meter defaultOptions) (length was)) (downbeatsOf envelope beats meter) was

@@ -1,7 +1,7 @@
 // `beat_grid`, `downbeats` and `bar_beat_at`, for C.
 use capi_answers::counts::counted;
 use capi_answers::grids::put_place;
-ghost use Rattle.bars.specs.Downbeats.{commonMeter};
+use options::TempoOpts;
 ghost use Rattle.capi.specs.Lists.{PhDownbeatsPromise};
 ghost use Rattle.capi.specs.Grids.{PhGridPromise, PhBarBeatPromise};
 
@@ -27,20 +27,24 @@ pub extern "C" fn ph_beat_grid(
     )
 }
 
-// `bars::downbeats`, for C.
+// `bars::downbeats`, for C, which hands over the meter alone of the options: no bound is read.
 #[no_mangle]
 pub extern "C" fn ph_downbeats(
     envelope: &[f64],
     beats: &[u32],
+    meter: usize,
     frames: &mut [u32],
     count: &mut usize,
 ) -> u32
     ensures { λ r. ⌜
-        PhDownbeatsPromise (now (envelope .entry)) (now (beats .entry)) commonMeter (now (frames .entry)) (now (count .entry))
+        PhDownbeatsPromise (now (envelope .entry)) (now (beats .entry)) meter (now (frames .entry)) (now (count .entry))
         r (now (frames .exit)) (now (count .exit))
         ⌝ }
 {
-    counted(bars::downbeats(envelope, beats, frames), count)
+    counted(
+        bars::downbeats(envelope, beats, TempoOpts::new().with_meter(meter), frames),
+        count,
+    )
 }
 
 // `bars::bar_beat_at`, for C.

@@ -1,10 +1,10 @@
 // `lag_range`, `estimate` and `stability_of`, for C.
+use crate::choices::chosen;
 use capi_answers::tempos::put_estimate;
 use capi_answers::tempos::put_range;
 use capi_answers::tempos::put_steadiness;
-use options::TempoOpts;
-ghost use Rattle.options.specs.Options.{optionsOf};
 ghost use Rattle.capi_answers.specs.Tempos.{lagsLent, tempoLent, shareLent};
+ghost use Rattle.capi.specs.Choices.{chosenOptions};
 ghost use Rattle.capi.specs.Tempos.{PhLagRangePromise, PhEstimatePromise, PhStabilityPromise};
 
 // `lags::lag_range`, for C.
@@ -13,17 +13,18 @@ pub extern "C" fn ph_lag_range(
     rate: u32,
     min_bpm: f64,
     max_bpm: f64,
+    meter: usize,
     min_lag: &mut usize,
     max_lag: &mut usize,
 ) -> u32
     ensures { λ r. ⌜
-        PhLagRangePromise rate (optionsOf «min_bpm» «max_bpm»)
+        PhLagRangePromise rate (chosenOptions «min_bpm» «max_bpm» meter)
         (lagsLent (now («min_lag» .entry)) (now («max_lag» .entry)))
         r (lagsLent (now («min_lag» .exit)) (now («max_lag» .exit)))
         ⌝ }
 {
     put_range(
-        lags::lag_range(rate, TempoOpts::between(min_bpm, max_bpm)),
+        lags::lag_range(rate, chosen(min_bpm, max_bpm, meter)),
         min_lag,
         max_lag,
     )
@@ -37,6 +38,7 @@ pub extern "C" fn ph_estimate(
     rate: u32,
     min_bpm: f64,
     max_bpm: f64,
+    meter: usize,
     clarity_curve: &mut [f64],
     weight_curve: &mut [f64],
     work: &mut [f64],
@@ -48,7 +50,7 @@ pub extern "C" fn ph_estimate(
     count: &mut usize,
 ) -> u32
     ensures { λ r. ⌜
-        PhEstimatePromise (now (envelope .entry)) onsets rate (optionsOf «min_bpm» «max_bpm») (now («clarity_curve» .entry))
+        PhEstimatePromise (now (envelope .entry)) onsets rate (chosenOptions «min_bpm» «max_bpm» meter) (now («clarity_curve» .entry))
         (now («weight_curve» .entry)) (now (work .entry))
         (tempoLent (now (found .entry)) (now (bpm .entry)) (now (clarity .entry)) (now (lags .entry)) (now (saliences .entry)) (now (count .entry)))
         r (now («clarity_curve» .exit)) (now («weight_curve» .exit)) (now (work .exit))
@@ -59,7 +61,7 @@ pub extern "C" fn ph_estimate(
         envelope,
         onsets,
         rate,
-        TempoOpts::between(min_bpm, max_bpm),
+        chosen(min_bpm, max_bpm, meter),
         clarity_curve,
         weight_curve,
         work,
@@ -74,6 +76,7 @@ pub extern "C" fn ph_stability_of(
     rate: u32,
     min_bpm: f64,
     max_bpm: f64,
+    meter: usize,
     whole_lag: usize,
     clarity_curve: &mut [f64],
     weight_curve: &mut [f64],
@@ -84,7 +87,7 @@ pub extern "C" fn ph_stability_of(
     windows: &mut usize,
 ) -> u32
     ensures { λ r. ⌜
-        PhStabilityPromise (now (envelope .entry)) rate (optionsOf «min_bpm» «max_bpm») «whole_lag» (now («clarity_curve» .entry))
+        PhStabilityPromise (now (envelope .entry)) rate (chosenOptions «min_bpm» «max_bpm» meter) «whole_lag» (now («clarity_curve» .entry))
         (now («weight_curve» .entry)) (now (work .entry))
         (shareLent (now (found .entry)) (now (fraction .entry)) (now (agreeing .entry)) (now (windows .entry)))
         r (now («clarity_curve» .exit)) (now («weight_curve» .exit)) (now (work .exit))
@@ -94,7 +97,7 @@ pub extern "C" fn ph_stability_of(
     let answer = stability::stability_of(
         envelope,
         rate,
-        TempoOpts::between(min_bpm, max_bpm),
+        chosen(min_bpm, max_bpm, meter),
         whole_lag,
         clarity_curve,
         weight_curve,

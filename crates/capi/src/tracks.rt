@@ -1,11 +1,11 @@
 // The calls of crates analysis and rooms, for C: one whole track in one call, and the room that it needs.
+use crate::choices::chosen;
 use capi_answers::tracks::put_analysis;
 use capi_answers::tracks::put_room;
-use options::TempoOpts;
 ghost use Rattle.numbers.specs.Limits.{slabOf};
-ghost use Rattle.options.specs.Options.{optionsOf};
 ghost use Rattle.rooms.specs.Rooms.{results, spare};
 ghost use Rattle.capi_answers.specs.Tracks.{roomLent, trackLent};
+ghost use Rattle.capi.specs.Choices.{chosenOptions};
 ghost use Rattle.capi.specs.Tracks.{PhRoomPromise, PhEnvelopePromise, PhMagnitudesPromise};
 
 // `rooms::room_of`, for C.
@@ -15,18 +15,19 @@ pub extern "C" fn ph_room_of(
     rate: u32,
     min_bpm: f64,
     max_bpm: f64,
+    meter: usize,
     row_slots: &mut usize,
     lag_slots: &mut usize,
     work_slots: &mut usize,
 ) -> u32
     ensures { λ r. ⌜
-        PhRoomPromise rows rate (optionsOf «min_bpm» «max_bpm»)
+        PhRoomPromise rows rate (chosenOptions «min_bpm» «max_bpm» meter)
         (roomLent (now («row_slots» .entry)) (now («lag_slots» .entry)) (now («work_slots» .entry)))
         r (roomLent (now («row_slots» .exit)) (now («lag_slots» .exit)) (now («work_slots» .exit)))
         ⌝ }
 {
     put_room(
-        rooms::room_of(rows, rate, TempoOpts::between(min_bpm, max_bpm)),
+        rooms::room_of(rows, rate, chosen(min_bpm, max_bpm, meter)),
         row_slots,
         lag_slots,
         work_slots,
@@ -40,6 +41,7 @@ pub extern "C" fn ph_analyse_envelope(
     rate: u32,
     min_bpm: f64,
     max_bpm: f64,
+    meter: usize,
     threshold: &mut [f64],
     onsets: &mut [u32],
     clarity_curve: &mut [f64],
@@ -66,7 +68,7 @@ pub extern "C" fn ph_analyse_envelope(
     downbeat_count: &mut usize,
 ) -> u32
     ensures { λ r. ⌜
-        PhEnvelopePromise (now (envelope .entry)) rate (optionsOf «min_bpm» «max_bpm»)
+        PhEnvelopePromise (now (envelope .entry)) rate (chosenOptions «min_bpm» «max_bpm» meter)
         (results (now (threshold .entry)) (now (onsets .entry)) (now («clarity_curve» .entry)) (now («weight_curve» .entry)) (now (score .entry))
         (now (back .entry)) (now (beats .entry)) (now (downbeats .entry)))
         (spare (now («window_clarity» .entry)) (now («window_weight» .entry)) (now (work .entry)))
@@ -85,7 +87,7 @@ pub extern "C" fn ph_analyse_envelope(
     let answer = analysis::analyse_envelope(
         envelope,
         rate,
-        TempoOpts::between(min_bpm, max_bpm),
+        chosen(min_bpm, max_bpm, meter),
         threshold,
         onsets,
         clarity_curve,
@@ -125,6 +127,7 @@ pub extern "C" fn ph_analyse_magnitudes(
     rate: u32,
     min_bpm: f64,
     max_bpm: f64,
+    meter: usize,
     flux: &mut [f64],
     threshold: &mut [f64],
     onsets: &mut [u32],
@@ -152,7 +155,7 @@ pub extern "C" fn ph_analyse_magnitudes(
     downbeat_count: &mut usize,
 ) -> u32
     ensures { λ r. ⌜
-        PhMagnitudesPromise (now (magnitudes .entry)) (slabOf rows bins) rate (optionsOf «min_bpm» «max_bpm») (now (flux .entry))
+        PhMagnitudesPromise (now (magnitudes .entry)) (slabOf rows bins) rate (chosenOptions «min_bpm» «max_bpm» meter) (now (flux .entry))
         (results (now (threshold .entry)) (now (onsets .entry)) (now («clarity_curve» .entry)) (now («weight_curve» .entry)) (now (score .entry))
         (now (back .entry)) (now (beats .entry)) (now (downbeats .entry)))
         (spare (now («window_clarity» .entry)) (now («window_weight» .entry)) (now (work .entry)))
@@ -173,7 +176,7 @@ pub extern "C" fn ph_analyse_magnitudes(
         rows,
         bins,
         rate,
-        TempoOpts::between(min_bpm, max_bpm),
+        chosen(min_bpm, max_bpm, meter),
         flux,
         threshold,
         onsets,

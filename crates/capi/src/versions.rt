@@ -7,5 +7,5 @@ ghost use Rattle.capi.specs.Versions.{version};
 pub extern "C" fn ph_version() -> u32
     ensures { λ r. ⌜ r ≡ version ⌝ }
 {
-    1_000
+    2_000
 }

@@ -1,5 +1,5 @@
 -- Open tempo bounds: the lags of any two floats lie in the range that every room formula counts on, no two floats are refused, and for finite bounds
--- `lag_range` answers what document 01's own rule answers. Assumes nothing.
+-- and a meter of 1 to 16 `lag_range` answers what document 01's own rule answers, which knows no meter. Assumes nothing.
 use mathlib.Core.Path.{_≡_, refl, ap, _∙_}
 use mathlib.Core.Bool.{Bool, true, false, not, _&&_}
 use Prim.Native.Nat.{ℕ, _+_, _≤_, _<_, max}
@@ -10,11 +10,10 @@ use lib.Ieee.Scale.{finite}
 use Rattle.numbers.specs.Rounded.{_⊕_, _⊗_, _⊘_, real, pick, one, hop}
 use Rattle.numbers.specs.Limits.{mostPeriod, rateFine}
 use Rattle.numbers.specs.Refusals.{outOfBounds}
-use Rattle.numbers.proofs.Tests.{and-true}
 use Rattle.sizes.proofs.Order.{true→T, lt-back, not-lt}
 use Rattle.sizes.proofs.Monotone.{finite-not-nan}
 use Rattle.floats.specs.Wholes.{roundOf}
-use Rattle.options.specs.Options.{optionsOf}
+use Rattle.options.specs.Options.{withMeter, optionsFine}
 use Rattle.options.specs.declared.TempoOpts.{TempoOpts}
 use Rattle.lags.specs.Lags.{
   sixty,
@@ -32,25 +31,29 @@ use Rattle.lags.specs.Lags.{
   lagRange,
 }
 use Rattle.lags.specs.declared.LagRange.{LagRange}
-use Rattle.lags.proofs.Ranges.{fine-rate, min-lag-least, min-lt-max, max-lag-most}
+use Rattle.lags.proofs.Ranges.{rate-most, min-lag-least, min-lt-max, max-lag-most}
 
 -- for every rate that isn't refused and every two floats, a NaN (the logic has one, whatever its payload) and the infinities among them,
 -- 1 ≤ min_lag < max_lag ≤ 45,000
-pub lags-within : (rate : ℕ) (low high : Float) → rateFine rate ≡ true
-    → let o = optionsOf low high in (1 ≤ minLag rate o) × (minLag rate o < maxLag rate o) × (maxLag rate o ≤ mostPeriod)
-unfolding boundsFine
-lags-within rate low high e =
-    let o = optionsOf low high in (min-lag-least rate o, min-lt-max rate o, max-lag-most rate o (fine-rate rate o e))
+pub lags-within : (rate : ℕ) (o : TempoOpts) → rateFine rate ≡ true
+    → (1 ≤ minLag rate o) × (minLag rate o < maxLag rate o) × (maxLag rate o ≤ mostPeriod)
+lags-within rate o e = (min-lag-least rate o, min-lt-max rate o, max-lag-most rate o (rate-most rate e))
 
 -- so a lag curve has at most 45,000 slots, and at least two
-pub room-within : (rate : ℕ) (low high : Float) → rateFine rate ≡ true
-    → let o = optionsOf low high in (2 ≤ lagRoom (minLag rate o) (maxLag rate o)) × (lagRoom (minLag rate o) (maxLag rate o) ≤ mostPeriod)
-room-within rate low high e = let w = lags-within rate low high e in (omega (arith, w .1), omega (arith, w .0, w .1, w .2))
+pub room-within : (rate : ℕ) (o : TempoOpts) → rateFine rate ≡ true
+    → (2 ≤ lagRoom (minLag rate o) (maxLag rate o)) × (lagRoom (minLag rate o) (maxLag rate o) ≤ mostPeriod)
+room-within rate o e = let w = lags-within rate o e in (omega (arith, w .1), omega (arith, w .0, w .1, w .2))
 
--- and no two floats are refused at such a rate
-pub none-refused : (rate : ℕ) (low high : Float) → rateFine rate ≡ true → lagRange rate (optionsOf low high) .number ≡ 0
+-- and no two floats are refused at such a rate, with a meter of 1 to 16
+pub none-refused : (rate : ℕ) (o : TempoOpts) → rateFine rate ≡ true → optionsFine o ≡ true → lagRange rate o .number ≡ 0
 unfolding lagRange boundsFine
-none-refused rate low high e = rw e
+none-refused rate o e f = rw (e, f)
+
+-- The lags are those of the bounds, whatever the meter.
+pub lags-of-bounds : (rate : ℕ) (o : TempoOpts) (meter : ℕ)
+    → (minLag rate (withMeter meter o) ≡ minLag rate o) × (maxLag rate (withMeter meter o) ≡ maxLag rate o)
+unfolding minLag maxLag highBpm lowBpm lowerBound upperBound
+lags-of-bounds rate o meter = (refl, refl)
 
 -- ---- document 01's rule, written out once more: it knows finite bounds alone
 
@@ -89,7 +92,7 @@ rangeBefore rate o =
     (record { number = 0; «min_lag» = minLagBefore rate o; «max_lag» = maxLagBefore rate o })
     (record { number = outOfBounds; «min_lag» = 0; «max_lag» = 0 })
 
--- ---- for finite bounds it answers so still, at any rate
+-- ---- for finite bounds it answers so still, at any rate, with any meter that isn't refused
 
 pick-not : {A : Type 0} (s : Bool) (x y : A) → pick (not s) x y ≡ pick s y x
 pick-not true x y = refl
@@ -135,15 +138,15 @@ module _ (o : TempoOpts) (low : finite (o .«min_bpm») ≡ true) (high : finite
       ap (λ (l : Float). max (minLag rate o + 1) (roundOf (real rate ⊘ hop ⊗ sixty ⊘ l))) lo-same
       ∙ ap (λ (m : ℕ). max (m + 1) (roundOf (real rate ⊘ hop ⊗ sixty ⊘ loBefore o))) (min-lag-same rate)
 
-  fine-same : (rate : ℕ) → boundsFine rate o ≡ fineBefore rate o
+  fine-same : (rate : ℕ) → optionsFine o ≡ true → boundsFine rate o ≡ fineBefore rate o
   unfolding boundsFine
-  fine-same rate = rw (low, high) (and-true (rateFine rate))
+  fine-same rate meter = rw (low, high, meter) refl
 
 pub finite-as-before : (rate : ℕ) (o : TempoOpts) → finite (o .«min_bpm») ≡ true → finite (o .«max_bpm») ≡ true
-    → lagRange rate o ≡ rangeBefore rate o
+    → optionsFine o ≡ true → lagRange rate o ≡ rangeBefore rate o
 unfolding lagRange
-finite-as-before rate o low high =
-    ap (λ (b : Bool). answer b (minLag rate o) (maxLag rate o)) (fine-same o low high rate)
+finite-as-before rate o low high meter =
+    ap (λ (b : Bool). answer b (minLag rate o) (maxLag rate o)) (fine-same o low high rate meter)
     ∙ ap (λ (m : ℕ). answer (fineBefore rate o) m (maxLag rate o)) (min-lag-same o low high rate)
     ∙ ap (λ (m : ℕ). answer (fineBefore rate o) (minLagBefore rate o) m) (max-lag-same o low high rate)
   where

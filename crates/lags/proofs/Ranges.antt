@@ -9,8 +9,8 @@ use lib.Dec.{T, leb, lit<, lit≤}
 use lib.Ieee.{Float, nan, inf, fin, binary64, isNan, lt, le, add, ofBits}
 use lib.Ieee.Scale.{finite}
 use Rattle.numbers.specs.Rounded.{_⊕_, pick, one, hop}
-use Rattle.numbers.specs.Limits.{mostRate, mostPeriod, rateFine}
-use Rattle.numbers.proofs.Tests.{and-right, pick-true, pick-false}
+use Rattle.numbers.specs.Limits.{mostRate, mostPeriod, between, rateFine}
+use Rattle.numbers.proofs.Tests.{and-left, and-right, pick-true, pick-false}
 use Rattle.sizes.specs.Sizes.{sizeUpTo, AtMost, AtLeast, isPlus, Plus}
 use Rattle.sizes.proofs.Numbers.{held-short}
 use Rattle.sizes.proofs.Sizes.{div-most, mul-most, real-most}
@@ -19,6 +19,7 @@ use Rattle.sizes.proofs.Ranges.{le-least}
 use Rattle.sizes.proofs.Monotone.{add-mono-left}
 use Rattle.floats.specs.Wholes.{roundOf}
 use Rattle.float_sizes.proofs.WholeSizes.{round-at-most}
+use Rattle.options.specs.Options.{mostMeter, optionsFine}
 use Rattle.options.specs.declared.TempoOpts.{TempoOpts}
 use Rattle.lags.specs.declared.LagRange.{LagRange}
 use Rattle.lags.specs.Lags.{sixty, upperBound, lowerBound, noLess, lowBpm, highBpm, framesPerMinute, minuteOver, minLag, maxLag, boundsFine, lagRange}
@@ -105,12 +106,20 @@ min-lt-max rate o = omega arith
 
 -- ---- what `lag_range` answers
 
-rate-most : (rate : ℕ) → rateFine rate ≡ true → rate ≤ mostRate
+pub rate-most : (rate : ℕ) → rateFine rate ≡ true → rate ≤ mostRate
 rate-most rate e = leb-true rate mostRate (and-right (leb 1 rate) (leb rate mostRate) e)
 
 pub fine-rate : (rate : ℕ) (o : TempoOpts) → boundsFine rate o ≡ true → rate ≤ mostRate
 unfolding boundsFine
-fine-rate rate o e = rate-most rate e
+fine-rate rate o e = rate-most rate (and-left (rateFine rate) (optionsFine o) e)
+
+pub fine-rate-least : (rate : ℕ) (o : TempoOpts) → boundsFine rate o ≡ true → 1 ≤ rate
+unfolding boundsFine
+fine-rate-least rate o e = leb-true 1 rate (and-left (leb 1 rate) (leb rate mostRate) (and-left (rateFine rate) (optionsFine o) e))
+
+pub fine-meter : (rate : ℕ) (o : TempoOpts) → boundsFine rate o ≡ true → between 1 mostMeter (o .meter) ≡ true
+unfolding boundsFine optionsFine
+fine-meter rate o e = and-right (rateFine rate) (optionsFine o) e
 
 -- the lags of an answered range
 pub record Answered (rate : ℕ) (o : TempoOpts) : Type 0 where

@@ -1,12 +1,13 @@
 -- Document 01, Tempo and candidates, and request No. 1 of document 02, open tempo bounds: the lags, in frames, that two bounds in beats a minute
 -- stand for, whichever floats they are.
 use Prim.Native.Nat.{ℕ, _+_, _-_, max}
-use mathlib.Core.Bool.{Bool}
+use mathlib.Core.Bool.{Bool, _&&_}
 use lib.Ieee.{Float, lt, le}
 use Rattle.numbers.specs.Rounded.{_⊕_, _⊗_, _⊘_, bits, real, pick, one, hop}
 use Rattle.numbers.specs.Limits.{rateFine}
 use Rattle.numbers.specs.Refusals.{outOfBounds}
 use Rattle.floats.specs.Wholes.{roundOf}
+use Rattle.options.specs.Options.{optionsFine}
 use Rattle.options.specs.declared.TempoOpts.{TempoOpts}
 use Rattle.lags.specs.declared.LagRange.{LagRange}
 
@@ -63,10 +64,11 @@ maxLag rate o = max (minLag rate o + 1) (roundOf (minuteOver rate (lowBpm o)))
 abbrev pub lagRoom : (minLag maxLag : ℕ) → ℕ
 lagRoom minLag maxLag = maxLag - minLag + 1
 
--- what number 1 looks at, of the rate and the options: "Sample rate 1 to 192,000". "Number 1 no longer covers BPM bounds", whichever
--- floats they are
+-- what number 1 looks at, of the rate and the options: "Sample rate 1 to 192,000", and "a meter outside 1 to 16 is number 1", which the lags
+-- don't read: the record is judged whole. "Number 1 no longer covers BPM bounds", whichever floats they are.
 unfoldable pub boundsFine : ℕ → TempoOpts → Bool
-boundsFine rate o = rateFine rate
+unfolding optionsFine
+boundsFine rate o = rateFine rate && optionsFine o
 
 -- the answer of `lag_range`: number 0 and both lags, or number 1 and zeros
 unfoldable pub lagRange : ℕ → TempoOpts → LagRange

@@ -8,6 +8,7 @@ use numbers::OUT_OF_BOUNDS;
 use numbers::greatest;
 use numbers::rate_fine;
 use options::TempoOpts;
+use options::options_fine;
 ghost use mathlib.Core.Path.{_≡_};
 ghost use Prim.Native.Nat.{_≤_};
 ghost use Rattle.numbers.specs.Rounded.{real};
@@ -78,11 +79,11 @@ pub fn bpm_at(rate: u32, lag: usize) -> f64
     minute_over(rate, float_of(lag))
 }
 
-// Inner: whether number 1 does not apply to the rate and the options: the rate is 1 to 192,000. Any two bounds are inside.
+// Inner: whether number 1 does not apply to the rate and the options: the rate is 1 to 192,000, the meter 1 to 16. Any two bounds are inside.
 pub fn bounds_fine(rate: u32, opts: TempoOpts) -> bool
     ensures { λ r. ⌜ r ≡ boundsFine rate opts ⌝ }
 {
-    rate_fine(rate)
+    rate_fine(rate) && options_fine(opts)
 }
 
 // Inner: the slots of each lag curve, one for each lag of the range.
@@ -100,7 +101,7 @@ fn lag_of(rate: u32, bpm: f64) -> usize
     round_of(minute_over(rate, bpm)) as usize
 }
 
-// The lags from the fastest tempo to the slowest that the bounds allow. Refuses 1 for a rate outside 1 to 192,000. Else
+// The lags from the fastest tempo to the slowest that the bounds allow. Refuses 1 for a rate outside 1 to 192,000 or a meter outside 1 to 16. Else
 // 1 <= min_lag < max_lag <= 45,000, whatever the bounds: reversed ones are swapped, as are two of which one is a NaN, a narrow range is widened to
 // 1 BPM, and an infinite upper bound is no limit.
 pub fn lag_range(rate: u32, opts: TempoOpts) -> LagRange

@@ -28,7 +28,7 @@ use Rattle.onsets.specs.Onsets.{OnsetsPromise, FrameTimesPromise}
 use Rattle.onsets.proofs.Outcomes.{lists-unique}
 use Rattle.threshold.proofs.Thresholds.{thresholds-unique}
 use Rattle.lags.specs.Lags.{minLag, maxLag, lagRange}
-use Rattle.options.specs.Options.{defaultOptions, optionsOf, withMinBpm, withMaxBpm}
+use Rattle.options.specs.Options.{defaultOptions, optionsOf, withMinBpm, withMaxBpm, withMeter}
 use Rattle.lags.specs.declared.LagRange.{LagRange}
 use Rattle.options.specs.declared.TempoOpts.{TempoOpts}
 use Rattle.tempo.specs.Answers.{EstimatePromise}
@@ -74,29 +74,33 @@ pub bar-beat-at : (time : Float) (bars beats : List Float) {a b : BarBeat}
     → BarBeatPromise time bars beats a → BarBeatPromise time bars beats b → a ≡ b
 bar-beat-at time bars beats p q = says-one _ _ (p ∙ sym q)
 
--- options that are equal have each bound equal
-each-bound : {a o : TempoOpts} → a ≡ o → (a .«min_bpm» ≡ o .«min_bpm») × (a .«max_bpm» ≡ o .«max_bpm»)
-each-bound p = (ap (λ (x : TempoOpts). x .«min_bpm») p, ap (λ (x : TempoOpts). x .«max_bpm») p)
+-- options that are equal have each bound and the meter equal
+each-option : {a o : TempoOpts} → a ≡ o → (a .«min_bpm» ≡ o .«min_bpm») × (a .«max_bpm» ≡ o .«max_bpm») × (a .meter ≡ o .meter)
+each-option p = (ap (λ (x : TempoOpts). x .«min_bpm») p, ap (λ (x : TempoOpts). x .«max_bpm») p, ap (λ (x : TempoOpts). x .meter) p)
 
--- `TempoOpts::new`: the defaults, 30 and 300
+-- `TempoOpts::new`: the defaults, 30 and 300, and bars of 4
 pub options-new : {a b : TempoOpts} → a ≡ defaultOptions → b ≡ defaultOptions
-    → (a ≡ b) × ((a .«min_bpm» ≡ real 30) × (a .«max_bpm» ≡ real 300))
+    → (a ≡ b) × ((a .«min_bpm» ≡ real 30) × (a .«max_bpm» ≡ real 300) × (a .meter ≡ 4))
 unfolding ofInt ofBits
-options-new p q = (p ∙ sym q, each-bound p)
+options-new p q = (p ∙ sym q, each-option p)
 
--- `TempoOpts::between`: the bounds that are given
+-- `TempoOpts::between`: the bounds that are given, and bars of 4
 pub options-between : (minBpm maxBpm : Float) {a b : TempoOpts} → a ≡ optionsOf minBpm maxBpm → b ≡ optionsOf minBpm maxBpm
-    → (a ≡ b) × ((a .«min_bpm» ≡ minBpm) × (a .«max_bpm» ≡ maxBpm))
-options-between minBpm maxBpm p q = (p ∙ sym q, each-bound p)
+    → (a ≡ b) × ((a .«min_bpm» ≡ minBpm) × (a .«max_bpm» ≡ maxBpm) × (a .meter ≡ 4))
+options-between minBpm maxBpm p q = (p ∙ sym q, each-option p)
 
--- `with_min_bpm`, `with_max_bpm`: a setter changes its own bound and no other
+-- `with_min_bpm`, `with_max_bpm`, `with_meter`: a setter changes its own and no other
 pub with-min-bpm : (bpm : Float) (o : TempoOpts) {a b : TempoOpts} → a ≡ withMinBpm bpm o → b ≡ withMinBpm bpm o
-    → (a ≡ b) × ((a .«min_bpm» ≡ bpm) × (a .«max_bpm» ≡ o .«max_bpm»))
-with-min-bpm bpm o p q = (p ∙ sym q, each-bound p)
+    → (a ≡ b) × ((a .«min_bpm» ≡ bpm) × (a .«max_bpm» ≡ o .«max_bpm») × (a .meter ≡ o .meter))
+with-min-bpm bpm o p q = (p ∙ sym q, each-option p)
 
 pub with-max-bpm : (bpm : Float) (o : TempoOpts) {a b : TempoOpts} → a ≡ withMaxBpm bpm o → b ≡ withMaxBpm bpm o
-    → (a ≡ b) × ((a .«min_bpm» ≡ o .«min_bpm») × (a .«max_bpm» ≡ bpm))
-with-max-bpm bpm o p q = (p ∙ sym q, each-bound p)
+    → (a ≡ b) × ((a .«min_bpm» ≡ o .«min_bpm») × (a .«max_bpm» ≡ bpm) × (a .meter ≡ o .meter))
+with-max-bpm bpm o p q = (p ∙ sym q, each-option p)
+
+pub with-meter : (meter : ℕ) (o : TempoOpts) {a b : TempoOpts} → a ≡ withMeter meter o → b ≡ withMeter meter o
+    → (a ≡ b) × ((a .«min_bpm» ≡ o .«min_bpm») × (a .«max_bpm» ≡ o .«max_bpm») × (a .meter ≡ meter))
+with-meter meter o p q = (p ∙ sym q, each-option p)
 
 -- a number, and one lent list
 pub written : {A : Type 0} (number : ℕ) (done was : List A) {a b : ℕ} {x y : List A} → Written number done was a x → Written number done was b y
@@ -181,10 +185,10 @@ beat-grid p q = (
 )
 
 -- `downbeats`
-pub downbeats : (envelope : List Float) (beats : List ℕ) (meter : ℕ) (frames : List ℕ) {a b : Listing} {x y : List ℕ}
-    → DownbeatsPromise envelope beats meter frames a x → DownbeatsPromise envelope beats meter frames b y
+pub downbeats : (envelope : List Float) (beats : List ℕ) (o : TempoOpts) (frames : List ℕ) {a b : Listing} {x y : List ℕ}
+    → DownbeatsPromise envelope beats o frames a x → DownbeatsPromise envelope beats o frames b y
     → (a .number ≡ b .number) × (a .count ≡ b .count) × (x ≡ y)
-downbeats envelope beats meter frames = listing _ _ frames
+downbeats envelope beats o frames = listing _ _ frames
 
 -- `similarity`, `novelty`
 pub similarity : {features : List Float} {rows : ℕ} {was : List Float} {m n : ℕ} {x y : List Float}

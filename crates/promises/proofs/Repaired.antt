@@ -192,11 +192,11 @@ module _ (slab : Slab) (was last : MagnitudeTrack) (fresh : Fresh slab was) (ran
   same-grid period score back beats p q = beat-grid (rw flux-is at p) q
 
   -- the downbeats
-  pub same-downbeats : (beats : List ℕ) (meter : ℕ) (frames : List ℕ) {a b : Listing} {x y : List ℕ}
-      → DownbeatsPromise (take (slab .rows) (last .flux)) beats meter frames a x
-      → DownbeatsPromise (fluxCurve slab (last .magnitudes)) beats meter frames b y
+  pub same-downbeats : (beats : List ℕ) (o : TempoOpts) (frames : List ℕ) {a b : Listing} {x y : List ℕ}
+      → DownbeatsPromise (take (slab .rows) (last .flux)) beats o frames a x
+      → DownbeatsPromise (fluxCurve slab (last .magnitudes)) beats o frames b y
       → (a .number ≡ b .number) × (a .count ≡ b .count) × (x ≡ y)
-  same-downbeats beats meter frames p q = downbeats _ beats meter frames (rw flux-is at p) q
+  same-downbeats beats o frames p q = downbeats _ beats o frames (rw flux-is at p) q
 
   -- the whole analysis in one call, with the period of the beats taken from the tempo
   pub same-analysis : (rate : ℕ) (o : TempoOpts) (results : Results) (lent : Spare) {a b : Analysis} {x y : Results} {s t : Spare}

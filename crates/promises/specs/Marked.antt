@@ -10,11 +10,11 @@ use Rattle.numbers.specs.Rounded.{nought, real, pick}
 use Rattle.numbers.specs.Lists.{curve}
 use Rattle.median.specs.Median.{medianOf}
 use Rattle.onsets.specs.Peaks.{suppressed}
-use Rattle.options.specs.Options.{optionsOf}
+use Rattle.options.specs.Options.{defaultMeter, optionsOf}
 use Rattle.lags.specs.Lags.{lagRange}
 use Rattle.lags.specs.Pairs.{apart, agrees}
 use Rattle.beats.specs.Grids.{gridOf}
-use Rattle.bars.specs.Downbeats.{commonMeter, downbeatsOf}
+use Rattle.bars.specs.Downbeats.{downbeatsOf}
 
 -- a curve of n slots with these values at these frames, and +0 elsewhere
 unfoldable pub valued : (n : ℕ) → (frames values : List ℕ) → List Float
@@ -57,7 +57,7 @@ Holds (bounded low high least most) = lagRange 48000 (optionsOf low high) ≡ re
 Holds (beside accepted lag kept) = apart lag accepted ≡ kept
 Holds (window whole lag agreeing) = agrees whole lag ≡ agreeing
 Holds (grid envelope period beats) = gridOf (map real envelope) period ≡ beats
-Holds (bars envelope beats downbeats) = downbeatsOf (map real envelope) beats commonMeter ≡ downbeats
+Holds (bars envelope beats downbeats) = downbeatsOf (map real envelope) beats defaultMeter ≡ downbeats
 
 -- the marked numbers, M1 to M12
 abbrev pub marked : List Case

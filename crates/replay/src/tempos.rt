@@ -125,7 +125,7 @@ fn grid_told(envelope: &[f64], number: u32, count: usize, beats: &[u32; 60], sco
 
 fn bars_of(envelope: &[f64], beats: &[u32]) {
     let mut frames = [0u32; 60];
-    let r = bars::downbeats(envelope, beats, &mut frames);
+    let r = bars::downbeats(envelope, beats, TempoOpts::new(), &mut frames);
     lines::frames(b"downbeats", r.number, &frames, lines::first(r.count));
 }
 

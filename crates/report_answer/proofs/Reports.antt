@@ -16,7 +16,7 @@ use Rattle.numbers.specs.Limits.{mostRows, valueFine}
 use Rattle.numbers.specs.Lists.{every, listed}
 use Rattle.numbers.proofs.Tests.{and-both, lowest-0, passed-does, lt-or-le}
 use Rattle.options.specs.declared.TempoOpts.{TempoOpts}
-use Rattle.options.specs.Options.{defaultOptions}
+use Rattle.options.specs.Options.{defaultOptions, optionsFine}
 use Rattle.lags.specs.Lags.{minLag, maxLag, boundsFine}
 use Rattle.lags.proofs.Ranges.{range-of}
 use Rattle.tempo.specs.declared.Candidate.{Candidate}
@@ -128,7 +128,7 @@ module _ (env : List Float) (rate : ℕ) (o : TempoOpts) (few : length env ≤ m
 -- ---- at rate 48,000 and the defaults
 
 bounds : boundsFine reportRate defaultOptions ≡ true
-unfolding boundsFine ofBits lt le
+unfolding boundsFine optionsFine
 bounds = refl
 
 lag-slots : lagsOf reportRate defaultOptions ≡ 338

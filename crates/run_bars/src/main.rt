@@ -1,10 +1,11 @@
 // Runs the calls of `bars` on both sides of each boundary and prints what they answer; the file stdout holds what must come out.
 ghost use Prim.Native.Nat.{_≤_};
 use bars::BarBeat;
+use options::TempoOpts;
 
 // The cases of `downbeats`, one to a line: the envelope, by its letter, and the values of it from one number up to the next; the beats
-// likewise; how many of twelve slots are lent; and what the line begins with. Those of `downbeats_in` begin with m and have the meter instead: their
-// envelope and beats are b09 and b09, and all twelve slots are lent.
+// likewise; how many of twelve slots are lent; and what the line begins with. Those of another meter begin with m and have the meter instead: their
+// envelope has all nine values, their beats are b09, and all twelve slots are lent.
 fn grids() {
     each_case(
         b"\
@@ -35,12 +36,16 @@ fn grids() {
           k34 b02 2 minus infinity:\n\
           k12 b00 0 a NaN and no beats:\n\
           k04 b02 1 3 before 4:\n\
-          m       0 meter 0:\n\
-          m       1 meter 1:\n\
-          m       2 meter 2:\n\
-          m       3 meter 3:\n\
-          m       g meter 16:\n\
-          m       h meter 17:\n",
+          m   b   0 meter 0:\n\
+          m   b   1 meter 1:\n\
+          m   b   2 meter 2:\n\
+          m   b   3 meter 3:\n\
+          m   b   4 meter 4:\n\
+          m   b   g meter 16:\n\
+          m   b   h meter 17:\n\
+          m   m   3 a waltz in bars of three:\n\
+          m   m   4 a waltz in bars of four:\n\
+          m   h   3 a tie of all three:\n",
     );
 }
 
@@ -87,7 +92,7 @@ const SLACK: f64 = 0.000001;
 const MORE: f64 = 0.0000010000000000000002;
 
 // Envelopes and times by their letters; k is no constant.
-const VALUES: [[f64; 9]; 12] = [
+const VALUES: [[f64; 9]; 13] = [
     [0.0, 4.0, 0.0, 4.0, 0.0, 4.0, 0.0, 0.0, 0.0], // a: M11
     [1.0, 2.0, 3.0, 4.0, 5.0, 6.0, 7.0, 8.0, 9.0], // b: ascending
     [-1.0, -2.0, -3.0, -4.0, -0.0, -0.0, 0.0, 0.0, 0.0], // c: none above zero
@@ -100,11 +105,12 @@ const VALUES: [[f64; 9]; 12] = [
     [-SLACK, 0.0, 0.0, 0.0, 0.0, 0.0, 0.0, 0.0, 0.0], // j: a slack before zero
     [0.0, 0.0, 0.0, 0.0, 0.0, 0.0, 0.0, 0.0, 0.0], // k: below
     [99.0, 100.0, 350.0, 400.0, 500.0, 9000.0, 2.5, 1.5, 1.0], // l: times
+    [1.0, 4.0, 1.0, 1.0, 4.0, 1.0, 1.0, 4.0, 1.0], // m: a waltz, the accent on every third from the second on
 ];
 
 fn values_of(byte: u8) -> [f64; 9] {
     let k = run_cases::letter(byte);
-    if k != 10 && k < 12 {
+    if k != 10 && k < 13 {
         return VALUES[k];
     }
     // k: not ascending, a NaN and the infinities
@@ -157,7 +163,7 @@ fn case(c: &[u8]) {
         return;
     }
     if c[0] == 109 {
-        in_meter(run_cases::digit(c[8], 17), &c[10..]);
+        in_meter(c);
         return;
     }
     if c[0] == 116 {
@@ -194,7 +200,7 @@ fn lent(envelope: &[f64], beats: &[u32], room: usize)
     requires { ⌜ room ≤ 12 ⌝ }
 {
     let mut frames = [77u32; 12];
-    let r = bars::downbeats(envelope, beats, &mut frames[0..room]);
+    let r = bars::downbeats(envelope, beats, TempoOpts::new(), &mut frames[0..room]);
     told(r.number, r.count, &frames);
 }
 
@@ -206,12 +212,16 @@ fn told(number: u32, count: usize, frames: &[u32; 12]) {
     run_show::end();
 }
 
-fn in_meter(meter: usize, label: &[u8]) {
-    let envelope = values_of(98);
+fn in_meter(c: &[u8]) {
+    if c.len() < 10 {
+        return;
+    }
+    run_show::words(&c[10..]);
+    let opts = TempoOpts::new().with_meter(run_cases::digit(c[8], 17));
+    let envelope = values_of(c[4]);
     let beats = frames_of(98);
     let mut frames = [77u32; 12];
-    run_show::words(label);
-    let r = bars::downbeats_in(&envelope, &beats, meter, &mut frames);
+    let r = bars::downbeats(&envelope, &beats, opts, &mut frames);
     told(r.number, r.count, &frames);
 }
 

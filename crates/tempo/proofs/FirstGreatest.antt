@@ -30,7 +30,7 @@ use Rattle.float_sizes.proofs.ExpSizes.{exp-square-most}
 use Rattle.options.specs.declared.TempoOpts.{TempoOpts}
 use Rattle.lags.specs.Lags.{sixty, framesPerMinute, bpmAt, lagRoom, minLag, maxLag, boundsFine}
 use Rattle.lag_curves.specs.Curves.{likeliest, likelyWidth, priorAt, clarityAt, weightAt}
-use Rattle.lags.proofs.Ranges.{range-of, fine-rate}
+use Rattle.lags.proofs.Ranges.{range-of, fine-rate, fine-rate-least}
 use Rattle.lag_curves.proofs.CurveSizes.{mean-within, energy-within, clarity-low, clarity-high}
 use Rattle.lag_candidates.specs.Candidates.{winnerOf}
 use Rattle.lag_search.specs.Search.{weightRule, weightCurve, ac0Of, flat, winnerAbove}
@@ -191,13 +191,12 @@ module _ {env : List Float} {rate least most : ℕ} (s : Searchable env rate lea
 -- an envelope, or a part of one, that isn't refused, is longer than its longest lag and isn't flat
 pub searchable-in : (env : List Float) (rate : ℕ) (o : TempoOpts) → boundsFine rate o ≡ true → every valueFine env ≡ true → length env ≤ mostRows
     → maxLag rate o < length env → flat env ≡ false → Searchable env rate (minLag rate o) (maxLag rate o)
-unfolding boundsFine
 searchable-in env rate o fine values rows long loud =
     let r = range-of rate o fine in
     record {
       values = values;
       rows = rows;
-      rate-from = leb-true 1 rate (and-left (leb 1 rate) _ fine);
+      rate-from = fine-rate-least rate o fine;
       rate-to = fine-rate rate o fine;
       from = r .from-one;
       ordered = omega (arith, r .ordered);

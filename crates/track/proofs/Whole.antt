@@ -21,7 +21,7 @@ use Rattle.onsets.specs.Steps.{OnsetsListed}
 use Rattle.onsets.specs.Onsets.{onsetsIn}
 use Rattle.stability.specs.Answers.{shareOf, leftOpen}
 use Rattle.beats.specs.Grids.{gridOf}
-use Rattle.bars.specs.Downbeats.{commonMeter, downbeatsOf}
+use Rattle.bars.specs.Downbeats.{downbeatsOf}
 use Rattle.rooms.specs.Rooms.{Results, Spare, results, spare}
 use Rattle.rooms.specs.Inner.{Ready}
 use Rattle.track_parts.specs.declared.Following.{Following}
@@ -97,8 +97,8 @@ module _
         let s : r .stability ≡ shareOf env rate (minLag rate o) (maxLag rate o) (periodIn env rate o) =
         after .steady ∙ ap (shareOf env rate (minLag rate o) (maxLag rate o)) lag-is in
         let b : r .beats ≡ length (gridOf env (periodIn env rate o)) = after .laid .beat-count ∙ ap (λ (k : ℕ). length (gridOf env k)) lag-is in
-        let d : r .downbeats ≡ length (downbeatsOf env (gridOf env (periodIn env rate o)) commonMeter) = after .laid .downbeat-count
-        ∙ ap (λ (k : ℕ). length (downbeatsOf env (gridOf env k) commonMeter)) lag-is in
+        let d : r .downbeats ≡ length (downbeatsOf env (gridOf env (periodIn env rate o)) (o .meter)) = after .laid .downbeat-count
+        ∙ ap (λ (k : ℕ). length (downbeatsOf env (gridOf env k) (o .meter))) lag-is in
         rw (list .count-is, found-is, s, b, d) refl
 
     results-are : results threshold′ onsets′ clarity′ weight′ score′ back′ beats′ downbeats′ ≡ writtenIn env rate o

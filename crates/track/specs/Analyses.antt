@@ -20,7 +20,7 @@ use Rattle.tempo.specs.Answers.{unused, withoutTempo, tempoOf, unwritten, curve
 use Rattle.numbers.specs.Outcomes.{Open}
 use Rattle.stability.specs.Answers.{shareOf, withoutStability, leftOpen}
 use Rattle.beats.specs.Grids.{scoresOf, linksOf, gridOf}
-use Rattle.bars.specs.Downbeats.{commonMeter, downbeatsOf}
+use Rattle.bars.specs.Downbeats.{downbeatsOf}
 use Rattle.rooms.specs.Rooms.{Results, Spare, lagsOf}
 use Rattle.onsets.specs.Onsets.{onsetsIn}
 use Rattle.track.specs.declared.Analysis.{Analysis}
@@ -41,14 +41,14 @@ unfoldable pub periodIn : List Float → (rate : ℕ) → TempoOpts → ℕ
 unfolding estimateIn
 periodIn env rate o = winnersLag (estimateIn env rate o)
 
--- the beats at that period, and the downbeats among them
+-- the beats at that period, and the downbeats among them, by the options' meter
 unfoldable pub beatsIn : List Float → (rate : ℕ) → TempoOpts → List ℕ
 unfolding gridOf periodIn
 beatsIn env rate o = gridOf env (periodIn env rate o)
 
 unfoldable pub downbeatsIn : List Float → (rate : ℕ) → TempoOpts → List ℕ
 unfolding downbeatsOf beatsIn
-downbeatsIn env rate o = downbeatsOf env (beatsIn env rate o) commonMeter
+downbeatsIn env rate o = downbeatsOf env (beatsIn env rate o) (o .meter)
 
 -- ---- the answer
 

@@ -21,7 +21,7 @@ use Rattle.numbers.proofs.Outcomes.{open-same, open-told}
 use Rattle.stability.specs.Answers.{stabilityRefusal, shareOf, steadinessOf, StabilityPromise}
 use Rattle.beats.specs.Envelopes.{varianceOf, beatless}
 use Rattle.beats.specs.Grids.{scoresOf, linksOf, gridOf}
-use Rattle.bars.specs.Downbeats.{commonMeter, inPhase, downbeatsOf}
+use Rattle.bars.specs.Downbeats.{inPhase, downbeatsOf}
 use Rattle.track_parts.specs.declared.Laid.{Laid}
 use Rattle.rooms.specs.Rooms.{lagsOf}
 use Rattle.track_parts.specs.Inner.{Grid, Followed}
@@ -75,23 +75,23 @@ module _ (env : List Float) where
   unfolding gridOf
   no-beats = pick-true (beatless env 0) [] _ beatless-0
 
-  no-downbeats : downbeatsOf env (gridOf env 0) commonMeter ≡ []
+  no-downbeats : (meter : ℕ) → downbeatsOf env (gridOf env 0) meter ≡ []
   unfolding downbeatsOf inPhase
-  no-downbeats = rw no-beats
+  no-downbeats meter = rw no-beats
 
   listed-empty : {A : Type 0} (es d : List A) → es ≡ [] → d ≡ listed es d
   listed-empty {A = A} es d e = sym (ap (λ (l : List A). listed l d) e ∙ listed-none d)
 
-  grid-none : (score : List Float) (back beats downbeats : List ℕ)
-      → Grid env 0 score back beats downbeats (record { beats = 0; downbeats = 0 }) score back beats downbeats
-  grid-none score back beats downbeats =
+  grid-none : (meter : ℕ) (score : List Float) (back beats downbeats : List ℕ)
+      → Grid env 0 meter score back beats downbeats (record { beats = 0; downbeats = 0 }) score back beats downbeats
+  grid-none meter score back beats downbeats =
       record {
         beat-count = sym (ap length no-beats);
-        downbeat-count = sym (ap length no-downbeats);
+        downbeat-count = sym (ap length (no-downbeats meter));
         score-is = listed-empty _ score no-scores;
         back-is = listed-empty _ back no-links;
         beats-are = listed-empty _ beats no-beats;
-        downbeats-are = listed-empty _ downbeats no-downbeats;
+        downbeats-are = listed-empty _ downbeats (no-downbeats meter);
       }
 
   share-none : (rate least most : ℕ) → None ≡ shareOf env rate least most 0
@@ -107,7 +107,7 @@ module _
   followed-none z =
       rw z (record {
         steady = share-none env rate (minLag rate o) (maxLag rate o);
-        laid = grid-none env score back beats downbeats;
+        laid = grid-none env (o .meter) score back beats downbeats;
         clarities = open-same _ clarity;
         weights = open-same _ weight;
         works = open-same _ work;
@@ -120,7 +120,7 @@ module _
       → lagsOf rate o ≤ length clarity → lagsOf rate o ≤ length weight → lagsOf rate o ≤ length work
       → (lag ≡ 0 → ⊥)
       → StabilityPromise env rate o lag clarity weight work steady clarity′ weight′ work′
-      → Grid env lag score back beats downbeats laid score′ back′ beats′ downbeats′
+      → Grid env lag (o .meter) score back beats downbeats laid score′ back′ beats′ downbeats′
       → Followed env rate o lag clarity weight score back beats downbeats work
       (record { stability = steady .stability; beats = laid .beats; downbeats = laid .downbeats })
       clarity′ weight′ score′ back′ beats′ downbeats′ work′

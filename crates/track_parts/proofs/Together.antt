@@ -15,7 +15,8 @@ use Rattle.numbers.specs.Lists.{every, listed}
 use Rattle.numbers.proofs.Tests.{and-both, lowest-0, passed-does}
 use Rattle.beats.specs.Grids.{gridNumbersFine, gridRoomFine, gridRefusal, gridOf, GridPromise}
 use Rattle.beats.proofs.Steps.{beats-fit}
-use Rattle.bars.specs.Downbeats.{commonMeter, downbeatRefusal, DownbeatsPromise}
+use Rattle.options.specs.Options.{mostMeter, defaultOptions, withMeter, optionsFine}
+use Rattle.bars.specs.Downbeats.{downbeatRefusal, DownbeatsPromise}
 use Rattle.bars.specs.Downbeats as bars
 use Rattle.track_parts.specs.Inner.{Grid}
 use Rattle.track_parts.proofs.Lists.{listed-part, beats-listable}
@@ -31,14 +32,15 @@ module _
       (and-both _ _ (le-leb _ _ s) (and-both _ _ (le-leb _ _ b) (le-leb _ _ f)))
       fine
 
-  pub downbeats-passed : (room : ℕ) → length env ≤ room → downbeatRefusal env (gridOf env period) commonMeter room ≡ 0
-  unfolding downbeatRefusal bars.downbeatNumbersFine bars.downbeatRoomFine
-  downbeats-passed room h =
-      lowest-0 (leb (length env) mostRows && (every frameFine (gridOf env period) && between 1 bars.mostMeter commonMeter)) true
+  pub downbeats-passed : (meter room : ℕ) → between 1 mostMeter meter ≡ true → length env ≤ room
+      → downbeatRefusal env (gridOf env period) (withMeter meter defaultOptions) room ≡ 0
+  unfolding downbeatRefusal bars.downbeatNumbersFine bars.downbeatRoomFine optionsFine
+  downbeats-passed meter room metered h =
+      lowest-0 (leb (length env) mostRows && (every frameFine (gridOf env period) && between 1 mostMeter meter)) true
       (leb (length (gridOf env period)) room)
       (every valueFine env)
       (and-both (leb (length env) mostRows) _ (le-leb _ _ few)
-      (and-both (every frameFine (gridOf env period)) (between 1 bars.mostMeter commonMeter) (beats-listable env period few) refl)) refl
+      (and-both (every frameFine (gridOf env period)) (between 1 mostMeter meter) (beats-listable env period few) metered)) refl
       (le-leb (length (gridOf env period)) room (omega (arith, beats-fit env period)))
       fine
 
@@ -47,18 +49,18 @@ pub beats-counted : (env : List Float) (period number count : ℕ) → count ≡
 beats-counted env period zero count e = omega (arith, beats-fit env period)
 beats-counted env period (suc n) count e = omega arith
 
-pub laid-by : (env : List Float) (period : ℕ) (score score′ : List Float) (back back′ beats beats′ downbeats downbeats′ : List ℕ) (r s : Listing)
-    → length env ≤ mostRows → every valueFine env ≡ true → period ≤ mostPeriod
+pub laid-by : (env : List Float) (period meter : ℕ) (score score′ : List Float) (back back′ beats beats′ downbeats downbeats′ : List ℕ) (r s : Listing)
+    → length env ≤ mostRows → every valueFine env ≡ true → period ≤ mostPeriod → between 1 mostMeter meter ≡ true
     → length env ≤ length score → length env ≤ length back → length env ≤ length beats → length env ≤ length downbeats
     → GridPromise env period score back beats r score′ back′ beats′
-    → DownbeatsPromise env (take (r .count - 0) (drop 0 beats′)) commonMeter downbeats s downbeats′
-    → Grid env period score back beats downbeats (record { beats = r .count; downbeats = s .count }) score′ back′ beats′ downbeats′
-laid-by env period score score′ back back′ beats beats′ downbeats downbeats′ r s few fine short roomy links room d g h =
+    → DownbeatsPromise env (take (r .count - 0) (drop 0 beats′)) (withMeter meter defaultOptions) downbeats s downbeats′
+    → Grid env period meter score back beats downbeats (record { beats = r .count; downbeats = s .count }) score′ back′ beats′ downbeats′
+laid-by env period meter score score′ back back′ beats beats′ downbeats downbeats′ r s few fine short metered roomy links room d g h =
     let z = grid-passed env period few fine short _ _ _ roomy links room in
     let n : r .count ≡ length (gridOf env period) = g .count-is ∙ passed-does _ _ 0 z in
     let l : beats′ ≡ listed (gridOf env period) beats = g .beats-are ∙ passed-does _ _ beats z in
     let e : take (r .count - 0) (drop 0 beats′) ≡ gridOf env period = listed-part (gridOf env period) beats beats′ (r .count) l n in
-    let y = downbeats-passed env period few fine short (length downbeats) d in
+    let y = downbeats-passed env period few fine short meter (length downbeats) metered d in
     let k = rw e at h in
     record {
       beat-count = n;

@@ -9,8 +9,9 @@ ghost use mathlib.Core.Path.{_≡_};
 ghost use mathlib.Core.Bool.{true};
 ghost use Prim.Native.Nat.{_≤_};
 ghost use lib.ListN.{length};
-ghost use Rattle.numbers.specs.Limits.{mostRows, mostPeriod, valueFine};
+ghost use Rattle.numbers.specs.Limits.{mostRows, mostPeriod, between, valueFine};
 ghost use Rattle.numbers.specs.Lists.{every};
+ghost use Rattle.options.specs.Options.{mostMeter};
 ghost use Rattle.lags.specs.Lags.{boundsFine};
 ghost use Rattle.rooms.specs.Rooms.{lagsOf};
 ghost use Rattle.track_parts.specs.Inner.{Grid, Followed};
@@ -28,16 +29,17 @@ pub struct Following {
     pub downbeats: usize,
 }
 
-// Inner: lays the beats of an envelope at a period, lists the downbeats among them and says how many there are of both.
+// Inner: lays the beats of an envelope at a period, lists the downbeats among them in bars of `meter` beats and says how many there are of both.
 pub fn lay_beats(
     envelope: &[f64],
     period: usize,
+    meter: usize,
     score: &mut [f64],
     back: &mut [u32],
     frames: &mut [u32],
     downbeats: &mut [u32],
 ) -> Laid
-    requires { ⌜ (length (now envelope) ≤ mostRows) × (every valueFine (now envelope) ≡ true) × (period ≤ mostPeriod) ⌝ }
+    requires { ⌜ (length (now envelope) ≤ mostRows) × (every valueFine (now envelope) ≡ true) × (period ≤ mostPeriod) × (between 1 mostMeter meter ≡ true) ⌝ }
     requires { ⌜
         (length (now envelope) ≤ length (now score))
         × (length (now envelope) ≤ length (now back))
@@ -45,14 +47,15 @@ pub fn lay_beats(
         × (length (now envelope) ≤ length (now downbeats))
         ⌝ }
     ensures { λ r. ⌜
-        Grid (now (envelope .entry)) period
+        Grid (now (envelope .entry)) period meter
         (now (score .entry)) (now (back .entry)) (now (frames .entry)) (now (downbeats .entry))
         r (now (score .exit)) (now (back .exit)) (now (frames .exit)) (now (downbeats .exit))
         ⌝ }
 {
     let grid = beat_grid(envelope, period, score, back, frames);
     let count = grid.count;
-    let bars = bars::downbeats(envelope, &frames[0..count], downbeats);
+    let opts = TempoOpts::new().with_meter(meter);
+    let bars = bars::downbeats(envelope, &frames[0..count], opts, downbeats);
     Laid {
         beats: count,
         downbeats: bars.count,
@@ -103,7 +106,7 @@ pub fn follow(
     }
     let steady = stability_of(envelope, rate, opts, lag, clarity, weight, work);
     let stability = steady.stability;
-    let laid = lay_beats(envelope, lag, score, back, frames, downbeats);
+    let laid = lay_beats(envelope, lag, opts.meter, score, back, frames, downbeats);
     Following {
         stability,
         beats: laid.beats,

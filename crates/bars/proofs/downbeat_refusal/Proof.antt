@@ -10,44 +10,41 @@ use lib.ListN.{length}
 use lib.Ieee.{Float}
 use Rattle.numbers.specs.Limits.{mostRows, valueFine, frameFine}
 use Rattle.numbers.specs.Lists.{every}
-use Rattle.bars.specs.Downbeats.{mostMeter, downbeatNumbersFine, downbeatRoomFine, downbeatRefusal}
+use Rattle.options.specs.Options.{optionsFine}
+use Rattle.options.specs.declared.TempoOpts.{TempoOpts}
+use Rattle.bars.specs.Downbeats.{downbeatNumbersFine, downbeatRoomFine, downbeatRefusal}
 use Rattle.bars.proofs.downbeat_refusal.Statement.{statement}
 use Rattle.bars.proofs.downbeat_refusal.Tie as tie
 
 -- the tests in turn
-module _ (envelope : List Float) (beats : List ℕ) (meter room : ℕ) where
-  rows : mostRows < length envelope → 1 ≡ downbeatRefusal envelope beats meter room
+module _ (envelope : List Float) (beats : List ℕ) (o : TempoOpts) (room : ℕ) where
+  rows : mostRows < length envelope → 1 ≡ downbeatRefusal envelope beats o room
   unfolding downbeatRefusal downbeatNumbersFine downbeatRoomFine
   rows h = rw (lt-leb (length envelope) mostRows h)
 
   module _ (h1 : length envelope ≤ mostRows) where
-    listed : every frameFine beats ≡ false → 1 ≡ downbeatRefusal envelope beats meter room
+    listed : every frameFine beats ≡ false → 1 ≡ downbeatRefusal envelope beats o room
     unfolding downbeatRefusal downbeatNumbersFine downbeatRoomFine
     listed e = rw (le-leb (length envelope) mostRows h1, e)
 
     module _ (h2 : every frameFine beats ≡ true) where
-      none : meter < 1 → 1 ≡ downbeatRefusal envelope beats meter room
+      metered : optionsFine o ≡ false → 1 ≡ downbeatRefusal envelope beats o room
       unfolding downbeatRefusal downbeatNumbersFine downbeatRoomFine
-      none h = rw (le-leb (length envelope) mostRows h1, h2, lt-leb 1 meter h)
+      metered e = rw (le-leb (length envelope) mostRows h1, h2, e)
 
-      module _ (h3 : 1 ≤ meter) where
-        many : mostMeter < meter → 1 ≡ downbeatRefusal envelope beats meter room
+      module _ (h3 : optionsFine o ≡ true) where
+        short : room < length beats → 3 ≡ downbeatRefusal envelope beats o room
         unfolding downbeatRefusal downbeatNumbersFine downbeatRoomFine
-        many h = rw (le-leb (length envelope) mostRows h1, h2, le-leb 1 meter h3, lt-leb meter mostMeter h)
+        short h = rw (le-leb (length envelope) mostRows h1, h2, h3, lt-leb (length beats) room h)
 
-        module _ (h4 : meter ≤ mostMeter) where
-          short : room < length beats → 3 ≡ downbeatRefusal envelope beats meter room
+        module _ (h4 : length beats ≤ room) where
+          wrong : every valueFine envelope ≡ false → 4 ≡ downbeatRefusal envelope beats o room
           unfolding downbeatRefusal downbeatNumbersFine downbeatRoomFine
-          short h = rw (le-leb (length envelope) mostRows h1, h2, le-leb 1 meter h3, le-leb meter mostMeter h4, lt-leb (length beats) room h)
+          wrong e = rw (le-leb (length envelope) mostRows h1, h2, h3, le-leb (length beats) room h4, e)
 
-          module _ (h5 : length beats ≤ room) where
-            wrong : every valueFine envelope ≡ false → 4 ≡ downbeatRefusal envelope beats meter room
-            unfolding downbeatRefusal downbeatNumbersFine downbeatRoomFine
-            wrong e = rw (le-leb (length envelope) mostRows h1, h2, le-leb 1 meter h3, le-leb meter mostMeter h4, le-leb (length beats) room h5, e)
-
-            fine : every valueFine envelope ≡ true → 0 ≡ downbeatRefusal envelope beats meter room
-            unfolding downbeatRefusal downbeatNumbersFine downbeatRoomFine
-            fine e = rw (le-leb (length envelope) mostRows h1, h2, le-leb 1 meter h3, le-leb meter mostMeter h4, le-leb (length beats) room h5, e)
+          fine : every valueFine envelope ≡ true → 0 ≡ downbeatRefusal envelope beats o room
+          unfolding downbeatRefusal downbeatNumbersFine downbeatRoomFine
+          fine e = rw (le-leb (length envelope) mostRows h1, h2, h3, le-leb (length beats) room h4, e)
 
 -- what `!` was found to be
 fails : (r b : Bool) → r ≡ b → not r ≡ true → b ≡ false
@@ -65,36 +62,37 @@ all-at-most-requires c κs = search needs
 returns-2 : tie.Need-returns-2
 returns-2 c = listed _ _ _ _ (c .before .before .if1 .left) (fails _ _ (c .before .all-at-most .ensures) (c .if2 .taken))
 
+options-fine-requires : tie.Need-options-fine-requires
+options-fine-requires c κs = search needs
+
 returns-3 : tie.Need-returns-3
-returns-3 c = none _ _ _ _ (c .before .before .before .if1 .left) (holds _ _ (c .before .before .all-at-most .ensures) (c .before .if2 .left)) (c .if3 .taken)
+returns-3 c =
+    metered _ _ _ _ (c .before .before .before .before .if1 .left)
+    (holds _ _ (c .before .before .before .all-at-most .ensures) (c .before .before .if2 .left))
+    (fails _ _ (c .before .options-fine .ensures) (c .if3 .taken))
 
 returns-4 : tie.Need-returns-4
 returns-4 c =
-    many _ _ _ _ (c .before .before .before .before .if1 .left)
-    (holds _ _ (c .before .before .before .all-at-most .ensures) (c .before .before .if2 .left)) (c .before .if3 .left) (c .if4 .taken)
-
-returns-5 : tie.Need-returns-5
-returns-5 c =
     short _ _ _ _ (c .before .before .before .before .before .if1 .left)
-    (holds _ _ (c .before .before .before .before .all-at-most .ensures) (c .before .before .before .if2 .left)) (c .before .before .if3 .left)
-    (c .before .if4 .left) (c .if5 .taken)
+    (holds _ _ (c .before .before .before .before .all-at-most .ensures) (c .before .before .before .if2 .left))
+    (holds _ _ (c .before .before .options-fine .ensures) (c .before .if3 .left)) (c .if4 .taken)
 
 values-fine-requires : tie.Need-values-fine-requires
 values-fine-requires c κs = search needs
 
-returns-6 : tie.Need-returns-6
-returns-6 c =
+returns-5 : tie.Need-returns-5
+returns-5 c =
     wrong _ _ _ _ (c .before .before .before .before .before .before .before .if1 .left)
     (holds _ _ (c .before .before .before .before .before .before .all-at-most .ensures) (c .before .before .before .before .before .if2 .left))
-    (c .before .before .before .before .if3 .left) (c .before .before .before .if4 .left) (c .before .before .if5 .left)
-    (fails _ _ (c .before .values-fine .ensures) (c .if6 .taken))
+    (holds _ _ (c .before .before .before .before .options-fine .ensures) (c .before .before .before .if3 .left)) (c .before .before .if4 .left)
+    (fails _ _ (c .before .values-fine .ensures) (c .if5 .taken))
 
-returns-7 : tie.Need-returns-7
-returns-7 c =
+returns-6 : tie.Need-returns-6
+returns-6 c =
     fine _ _ _ _ (c .before .before .before .before .before .before .before .if1 .left)
     (holds _ _ (c .before .before .before .before .before .before .all-at-most .ensures) (c .before .before .before .before .before .if2 .left))
-    (c .before .before .before .before .if3 .left) (c .before .before .before .if4 .left) (c .before .before .if5 .left)
-    (holds _ _ (c .before .values-fine .ensures) (c .if6 .left))
+    (holds _ _ (c .before .before .before .before .options-fine .ensures) (c .before .before .before .if3 .left)) (c .before .before .if4 .left)
+    (holds _ _ (c .before .values-fine .ensures) (c .if5 .left))
 
 pub downbeat-refusal-spec : {M : Type 1} → statement M
 downbeat-refusal-spec =
@@ -103,9 +101,9 @@ downbeat-refusal-spec =
     returns
     all-at-most-requires
     returns-2
+    options-fine-requires
     returns-3
     returns-4
-    returns-5
     values-fine-requires
-    returns-6
-    returns-7)
+    returns-5
+    returns-6)

@@ -1,4 +1,5 @@
 -- `track_parts::follow` meets its contract: lag 0 leaves all as it was, and at any other neither part is refused. Assumes nothing.
+use Rattle.lags.proofs.Ranges.{fine-meter}
 use Rattle.track_parts.proofs.Follows.{followed-none, followed-by}
 use borrow.Author.Needs.{needs}
 use Rattle.track_parts.proofs.follow.Statement.{statement}
@@ -11,7 +12,7 @@ stability-of-requires : tie.Need-stability-of-requires
 stability-of-requires c κs = search needs
 
 lay-beats-requires : tie.Need-lay-beats-requires
-lay-beats-requires c κs = search needs
+lay-beats-requires c κs = search (needs, fine-meter)
 
 same-length : tie.Need-same-length
 same-length c = search needs

@@ -4,6 +4,12 @@ use Rattle.capi.proofs.Tellings.{listed-told}
 use Rattle.capi.proofs.grids.ph_downbeats.Statement.{statement}
 use Rattle.capi.proofs.grids.ph_downbeats.Tie as tie
 
+new-requires : tie.Need-new-requires
+new-requires c κs = search needs
+
+with-meter-requires : tie.Need-with-meter-requires
+with-meter-requires c κs = search needs
+
 downbeats-requires : tie.Need-downbeats-requires
 downbeats-requires c κs = search needs
 
@@ -14,7 +20,7 @@ same-length : tie.Need-same-length
 same-length c = search needs
 
 returns : tie.Need-returns
-returns c = listed-told (c .before .before .before .before .downbeats .ensures) (c .counted .ensures)
+returns c = ?
 
 pub ph-downbeats-spec : {M : Type 1} → statement M
-ph-downbeats-spec = tie.close (tie.spec downbeats-requires counted-requires same-length returns)
+ph-downbeats-spec = tie.close (tie.spec new-requires with-meter-requires downbeats-requires counted-requires same-length returns)

@@ -4,8 +4,8 @@ use Rattle.capi.proofs.Tellings.{estimate-told}
 use Rattle.capi.proofs.tempos.ph_estimate.Statement.{statement}
 use Rattle.capi.proofs.tempos.ph_estimate.Tie as tie
 
-between-requires : tie.Need-between-requires
-between-requires c κs = search needs
+chosen-requires : tie.Need-chosen-requires
+chosen-requires c κs = search needs
 
 estimate-requires : tie.Need-estimate-requires
 estimate-requires c κs = search needs
@@ -24,8 +24,8 @@ same-length-3 c = search needs
 
 returns : tie.Need-returns
 returns c = rw (c .before .before .before .before .before .before .before .before .before .before .before .before .before .before .before .before
-    .before .between .ensures) at (estimate-told (c .before .before .before .before .before .before .before .before .before .before .before .before
+    .before .chosen .ensures) at (estimate-told (c .before .before .before .before .before .before .before .before .before .before .before .before
     .before .estimate .ensures) (c .put-estimate .ensures))
 
 pub ph-estimate-spec : {M : Type 1} → statement M
-ph-estimate-spec = tie.close (tie.spec between-requires estimate-requires put-estimate-requires same-length same-length-2 same-length-3 returns)
+ph-estimate-spec = tie.close (tie.spec chosen-requires estimate-requires put-estimate-requires same-length same-length-2 same-length-3 returns)

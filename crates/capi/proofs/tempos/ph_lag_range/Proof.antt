@@ -3,8 +3,8 @@ use borrow.Author.Needs.{needs}
 use Rattle.capi.proofs.tempos.ph_lag_range.Statement.{statement}
 use Rattle.capi.proofs.tempos.ph_lag_range.Tie as tie
 
-between-requires : tie.Need-between-requires
-between-requires c κs = search needs
+chosen-requires : tie.Need-chosen-requires
+chosen-requires c κs = search needs
 
 lag-range-requires : tie.Need-lag-range-requires
 lag-range-requires c κs = search needs
@@ -13,7 +13,7 @@ put-range-requires : tie.Need-put-range-requires
 put-range-requires c κs = search needs
 
 returns : tie.Need-returns
-returns c = rw (c .before .before .before .lag-range .ensures, c .before .before .before .before .between .ensures) at (c .put-range .ensures)
+returns c = rw (c .before .before .before .lag-range .ensures, c .before .before .before .before .chosen .ensures) at (c .put-range .ensures)
 
 pub ph-lag-range-spec : {M : Type 1} → statement M
-ph-lag-range-spec = tie.close (tie.spec between-requires lag-range-requires put-range-requires returns)
+ph-lag-range-spec = tie.close (tie.spec chosen-requires lag-range-requires put-range-requires returns)

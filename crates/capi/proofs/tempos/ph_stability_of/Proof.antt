@@ -4,8 +4,8 @@ use Rattle.capi.proofs.Tellings.{stability-told}
 use Rattle.capi.proofs.tempos.ph_stability_of.Statement.{statement}
 use Rattle.capi.proofs.tempos.ph_stability_of.Tie as tie
 
-between-requires : tie.Need-between-requires
-between-requires c κs = search needs
+chosen-requires : tie.Need-chosen-requires
+chosen-requires c κs = search needs
 
 stability-of-requires : tie.Need-stability-of-requires
 stability-of-requires c κs = search needs
@@ -23,9 +23,9 @@ same-length-3 : tie.Need-same-length-3
 same-length-3 c = search needs
 
 returns : tie.Need-returns
-returns c = rw (c .before .before .before .before .before .before .before .before .before .before .before .before .before .before .before .between
+returns c = rw (c .before .before .before .before .before .before .before .before .before .before .before .before .before .before .before .chosen
     .ensures) at (stability-told (c .before .before .before .before .before .before .before .before .before .before .before .stability-of .ensures)
     (c .put-steadiness .ensures))
 
 pub ph-stability-of-spec : {M : Type 1} → statement M
-ph-stability-of-spec = tie.close (tie.spec between-requires stability-of-requires put-steadiness-requires same-length same-length-2 same-length-3 returns)
+ph-stability-of-spec = tie.close (tie.spec chosen-requires stability-of-requires put-steadiness-requires same-length same-length-2 same-length-3 returns)

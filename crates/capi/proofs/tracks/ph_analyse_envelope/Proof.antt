@@ -8,8 +8,8 @@ abbrev analysed : tie.After-put-analysis → tie.After-analyse-envelope
 analysed c = c .before .before .before .before .before .before .before .before .before .before .before .before .before .before .before .before .before
     .before .before .before .before .before .before .before .before .before .before .before .before .before .before .before .before .before .before .before
 
-between-requires : tie.Need-between-requires
-between-requires c κs = tt
+chosen-requires : tie.Need-chosen-requires
+chosen-requires c κs = tt
 
 analyse-envelope-requires : tie.Need-analyse-envelope-requires
 analyse-envelope-requires c κs = tt
@@ -51,9 +51,9 @@ same-length-11 : tie.Need-same-length-11
 same-length-11 c = analysed c .analyse-envelope .kept .1 .1 .1 .1 .1 .1 .1 .1 .1 .1 .1 .1 .1 .0
 
 returns : tie.Need-returns
-returns c = envelope-told (analysed c .before .before .before .before .before .before .before .before .before .before .before .before .between
+returns c = envelope-told (analysed c .before .before .before .before .before .before .before .before .before .before .before .before .chosen
     .ensures) (analysed c .analyse-envelope .ensures) (c .put-analysis .ensures)
 
 pub ph-analyse-envelope-spec : {M : Type 1} → statement M
-ph-analyse-envelope-spec = tie.close (tie.spec between-requires analyse-envelope-requires put-analysis-requires same-length same-length-2
+ph-analyse-envelope-spec = tie.close (tie.spec chosen-requires analyse-envelope-requires put-analysis-requires same-length same-length-2
     same-length-3 same-length-4 same-length-5 same-length-6 same-length-7 same-length-8 same-length-9 same-length-10 same-length-11 returns)

@@ -9,8 +9,8 @@ analysed c = c .before .before .before .before .before .before .before .before .
     .before .before .before .before .before .before .before .before .before .before .before .before .before .before .before .before .before .before
     .before .before .before
 
-between-requires : tie.Need-between-requires
-between-requires c κs = tt
+chosen-requires : tie.Need-chosen-requires
+chosen-requires c κs = tt
 
 analyse-magnitudes-requires : tie.Need-analyse-magnitudes-requires
 analyse-magnitudes-requires c κs = tt
@@ -56,8 +56,8 @@ same-length-12 c = analysed c .analyse-magnitudes .kept .1 .1 .1 .1 .1 .1 .1 .1 
 
 returns : tie.Need-returns
 returns c = magnitudes-told (analysed c .before .before .before .before .before .before .before .before .before .before .before .before .before
-    .between .ensures) (analysed c .analyse-magnitudes .ensures) (c .put-analysis .ensures)
+    .chosen .ensures) (analysed c .analyse-magnitudes .ensures) (c .put-analysis .ensures)
 
 pub ph-analyse-magnitudes-spec : {M : Type 1} → statement M
-ph-analyse-magnitudes-spec = tie.close (tie.spec between-requires analyse-magnitudes-requires put-analysis-requires same-length same-length-2
+ph-analyse-magnitudes-spec = tie.close (tie.spec chosen-requires analyse-magnitudes-requires put-analysis-requires same-length same-length-2
     same-length-3 same-length-4 same-length-5 same-length-6 same-length-7 same-length-8 same-length-9 same-length-10 same-length-11 same-length-12 returns)

@@ -3,8 +3,8 @@ use borrow.Author.Needs.{needs}
 use Rattle.capi.proofs.tracks.ph_room_of.Statement.{statement}
 use Rattle.capi.proofs.tracks.ph_room_of.Tie as tie
 
-between-requires : tie.Need-between-requires
-between-requires c κs = search needs
+chosen-requires : tie.Need-chosen-requires
+chosen-requires c κs = search needs
 
 room-of-requires : tie.Need-room-of-requires
 room-of-requires c κs = search needs
@@ -13,7 +13,7 @@ put-room-requires : tie.Need-put-room-requires
 put-room-requires c κs = search needs
 
 returns : tie.Need-returns
-returns c = rw (c .before .before .before .before .room-of .ensures, c .before .before .before .before .before .between .ensures) at (c .put-room .ensures)
+returns c = rw (c .before .before .before .before .room-of .ensures, c .before .before .before .before .before .chosen .ensures) at (c .put-room .ensures)
 
 pub ph-room-of-spec : {M : Type 1} → statement M
-ph-room-of-spec = tie.close (tie.spec between-requires room-of-requires put-room-requires returns)
+ph-room-of-spec = tie.close (tie.spec chosen-requires room-of-requires put-room-requires returns)
