@@ -49,8 +49,16 @@ fn run(call: usize, line: &[u8]) {
     named(
         run_cases::column(line, 1),
         run_cases::column_u32(line, 2),
-        TempoOpts::new(),
+        opts_of(run_cases::column(line, 3)),
     );
+}
+
+// The default options, or those of the meter that is one less than what a column holds.
+fn opts_of(held: usize) -> TempoOpts {
+    if held == 0 {
+        return TempoOpts::new();
+    }
+    TempoOpts::new().with_meter(numbers::less(held, 1))
 }
 
 fn tempo_is(t: Tempo) {
@@ -166,7 +174,7 @@ fn lists_are(onsets: &[u32; 50], back: &[u32; 50], beats: &[u32; 50], downbeats:
 
 // The number of an analysis with the slice `short` of the eleven, counted from 1, one slot short; 0: exactly the room. An analysis asks for it first, by
 // the lengths of what is lent, and is refused by nothing else.
-fn refused(envelope: &[f64], rate: u32, short: usize) {
+fn refused(envelope: &[f64], rate: u32, short: usize, opts: TempoOpts) {
     let frames = [
         slots(48, 1, short),
         slots(48, 2, short),
@@ -184,7 +192,7 @@ fn refused(envelope: &[f64], rate: u32, short: usize) {
     run_show::small(rooms::envelope_refusal(
         envelope,
         rate,
-        TempoOpts::new(),
+        opts,
         &frames,
         &lags,
         slots(21, 11, short),
@@ -192,13 +200,14 @@ fn refused(envelope: &[f64], rate: u32, short: usize) {
     run_show::end();
 }
 
-// The clicks, or no numbers where (3) is 1, at rate (1), with slice (2) short.
+// The clicks, or no numbers where (3) is 1, at rate (1), with slice (2) short, and the options of (4).
 fn of_lengths(line: &[u8]) {
     let e = envelope_of(run_cases::column(line, 3));
     refused(
         &e,
         run_cases::column_u32(line, 1),
         run_cases::column(line, 2),
+        opts_of(run_cases::column(line, 4)),
     );
 }
 
@@ -230,7 +239,12 @@ short 11:|2048|11
 a NaN:|2048|0|1
 rate 0:|0|0
 rate 192,001:|192001|0
+meter 0:|2048|0|0|1
+meter 1:|2048|0|0|2
+meter 16:|2048|0|0|17
+meter 17:|2048|0|0|18
 3 before 4:|2048|11|1
+a meter before 3:|2048|11|0|1
 1 before 3:|0|11\n",
     );
 }
@@ -304,11 +318,18 @@ half a row:|47|24|2|48|2048
 2 before 3:|47|24|2|23|2048
 an infinity:|48|48|1|48|2048|1
 rate 0:|48|48|1|48|0
-rate 192,001:|48|48|1|48|192001\n",
+rate 192,001:|48|48|1|48|192001
+clicks in bars of one:|48|48|1|48|2048|0|2
+clicks in bars of sixteen:|48|48|1|48|2048|0|17
+a waltz in bars of three:|48|48|1|48|2048|2|4
+a waltz in bars of four:|48|48|1|48|2048|2|5
+meter 0:|48|48|1|48|2048|0|1
+meter 17:|48|48|1|48|2048|0|18\n",
     );
 }
 
-// The first (1) of the magnitudes, or of infinities where (6) is 1, (2) rows of (3) bins, room (4) for the flux, and rate (5).
+// The first (1) of the magnitudes, of infinities where (6) is 1, or of a waltz where it is 2, (2) rows of (3) bins, room (4) for the flux, rate (5), and
+// the options of (7).
 fn of_slab(line: &[u8]) {
     let m = slab_of(run_cases::column(line, 6));
     lent(
@@ -317,6 +338,7 @@ fn of_slab(line: &[u8]) {
         run_cases::column(line, 3),
         run_cases::column(line, 4),
         run_cases::column_u32(line, 5),
+        opts_of(run_cases::column(line, 7)),
     );
 }
 
@@ -324,11 +346,24 @@ fn slab_of(odd: usize) -> [f32; 48] {
     if odd == 1 {
         return [1.0f32 / 0.0; 48];
     }
+    if odd == 2 {
+        return waltz();
+    }
     CLICKS
 }
 
+// The clicks with an accent on every third, from the second on.
+fn waltz() -> [f32; 48] {
+    let mut m = CLICKS;
+    m[5] = 5.0;
+    m[17] = 5.0;
+    m[29] = 5.0;
+    m[41] = 5.0;
+    m
+}
+
 // Analyses magnitudes. Every slice but the flux is lent and shown with two slots past its room; the flux is shown with the slots that are not lent.
-fn lent(magnitudes: &[f32], rows: usize, bins: usize, room: usize, rate: u32) {
+fn lent(magnitudes: &[f32], rows: usize, bins: usize, room: usize, rate: u32, opts: TempoOpts) {
     let mut flux = [9.0f64; 48];
     let mut threshold = [9.0f64; 50];
     let mut onsets = [77u32; 50];
@@ -346,7 +381,7 @@ fn lent(magnitudes: &[f32], rows: usize, bins: usize, room: usize, rate: u32) {
         rows,
         bins,
         rate,
-        TempoOpts::new(),
+        opts,
         &mut flux[0..numbers::least(room, 48)],
         &mut threshold,
         &mut onsets,
@@ -396,7 +431,11 @@ frames, rate 1048577 48000:|1048577|48000
 frames, rate 48 0:|48|0
 frames, rate 48 192001:|48|192001
 frames, rate 20 2048:|20|2048
-frames, rate 48 2048:|48|2048\n",
+frames, rate 48 2048:|48|2048
+meter 0:|48|2048|1
+meter 1:|48|2048|2
+meter 16:|48|2048|17
+meter 17:|48|2048|18\n",
     );
 }
 
