@@ -337,6 +337,8 @@ class Tag:
     def __init__(self, name, rate, samples, flux, features, opts, warning=None):
         self.name, self.rate, self.samples, self.seconds, self.warning = name, rate, samples, samples / rate, warning
         self.flux, rows = flux, len(flux)
+        opts = ph.TempoOpts(*opts)
+        self.meter = opts.meter
 
         # the calls that `analyse_envelope` makes, in its order: one by one they leave the threshold at hand, to draw it
         self.threshold, frames = np.empty(rows), np.empty(rows, np.uint32)
@@ -350,7 +352,7 @@ class Tag:
         score, back = np.empty(rows), np.empty(rows, np.uint32)
         self.beats = frames[:ph.beat_grid(flux, self.lag, score, back, frames)].copy()
         frames = np.empty(len(self.beats), np.uint32)
-        self.downbeats = frames[:ph.downbeats(flux, self.beats, frames)].copy()
+        self.downbeats = frames[:ph.downbeats(flux, self.beats, frames, self.meter)].copy()
 
         seconds = len(features)
         alike, self.novelty = np.empty(ph.similarity_room(seconds)), np.empty(seconds)
@@ -506,6 +508,13 @@ def bound_of(words):
     return bound
 
 
+def meter_of(words):
+    """Beats of a bar."""
+    if not re.fullmatch("0*([1-9]|1[0-6])", words):
+        raise argparse.ArgumentTypeError("%r is no number of beats to the bar: 1 to 16" % words)
+    return int(words)
+
+
 def short(number):
     return ("%.1f" % number).rstrip("0").rstrip(".") or "0"
 
@@ -595,11 +604,11 @@ class Picture:
         if not len(song.beats):
             words = "no beats"
         elif apart < 3:
-            words = "downbeats; the beats are too close to draw" if 4 * apart >= 3 else "downbeats, as far as they are a pixel apart"
+            words = "downbeats; the beats are too close to draw" if song.meter * apart >= 3 else "downbeats, as far as they are a pixel apart"
         else:
             self.path("p", self.marks(song.beats, top + height // 3, height - height // 3))
         self.text(LEFT, top - 8, words, "s")
-        self.path("d", self.marks(song.downbeats, top, height, 1.5), 2 if 4 * apart >= 6 else 1)
+        self.path("d", self.marks(song.downbeats, top, height, 1.5), 2 if song.meter * apart >= 6 else 1)
         places, shown = self.within(song.downbeats)
         room = 14 + 9 * len(str(len(song.downbeats)))
         last = -room
@@ -731,6 +740,7 @@ def arguments(words):
                         help="the slowest tempo that is looked for (30), to the nearest lag; '' for no limit")
     parser.add_argument("--max-bpm", type=bound_of, default=300.0, metavar="BPM",
                         help="the fastest tempo that is looked for (300), to the nearest lag; '' or inf for no limit")
+    parser.add_argument("--meter", type=meter_of, default=4, metavar="BEATS", help="beats to the bar, 1 to 16 (4); 3 for a waltz")
     parser.add_argument("--quiet", action="store_true", help="no progress bar, and no lines on standard output")
     given = parser.parse_args(words)
     if given.onsets and not given.labels:
@@ -757,7 +767,7 @@ def run(given):
         check_place(path, given.song)
     progress = Progress(given.quiet)
     try:
-        song = tag(given.song, ph.TempoOpts(given.min_bpm, given.max_bpm), progress)
+        song = tag(given.song, ph.TempoOpts(given.min_bpm, given.max_bpm, given.meter), progress)
     finally:
         progress.clear()
     if song.warning:

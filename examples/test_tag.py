@@ -251,12 +251,38 @@ class Answer(Room):
         self.run_tag(self.song, "--picture", "-", "--part", "70-80", status=1)
 
     def test_what_analyse_envelope_says(self):
-        song = tag.tag(self.song)
-        buffers = ph.Buffers(len(song.flux), song.rate)
-        track = buffers.analyse_envelope(song.flux, song.rate)
-        self.assertEqual((song.tempo, song.candidates, song.stability), (track.tempo, track.candidates, track.stability))
-        for name in "onsets", "beats", "downbeats":
-            self.assertEqual(getattr(song, name).tolist(), list(getattr(track, name)), name)
+        for opts in (), (ph.TempoOpts(meter=3),), ((60, 300),), ((None, 300, 5),):
+            song = tag.tag(self.song, *opts)
+            buffers = ph.Buffers(len(song.flux), song.rate, *opts)
+            track = buffers.analyse_envelope(song.flux, song.rate, *opts)
+            self.assertEqual((song.tempo, song.candidates, song.stability), (track.tempo, track.candidates, track.stability))
+            for name in "onsets", "beats", "downbeats":
+                self.assertEqual(getattr(song, name).tolist(), list(getattr(track, name)), name)
+
+    def test_meter(self):
+        """A waltz, clicks at 120 beats a minute with the accent on every third, from the second on: bars of three begin there."""
+        beat, beats = piece.RATE // 2, 78
+        samples = np.zeros((beats + 2) * beat)
+        for k in range(beats):
+            sound = piece.click(0.9 if k % 3 == 1 else 0.5)
+            samples[(k + 1) * beat:][:len(sound)] += sound
+        waltz = self.path("waltz.wav")
+        piece.write(waltz, samples)
+        three, four, usual = (json.loads(self.run_tag(waltz, "--json", "-", *words)[0]) for words in (["--meter", "3"], ["--meter", "4"], []))
+        found, bars = three["beats"]["frames"], three["downbeats"]["frames"]
+        self.assertEqual(bars, found[found.index(bars[0])::3])
+        accents = 0.5 + 0.5 * np.arange(1, beats, 3)
+        self.assertGreaterEqual(len(bars), len(accents) - 1)
+        self.assertTrue(all(np.abs(accents - at).min() < 0.0045 for at in three["downbeats"]["seconds"]), three["downbeats"])
+        self.assertFalse(all(np.abs(accents - at).min() < 0.0045 for at in four["downbeats"]["seconds"]), four["downbeats"])
+        # four are what nothing is said of, and nothing else is chosen by it
+        self.assertEqual(four, usual)
+        self.assertEqual({**three, "downbeats": None}, {**four, "downbeats": None})
+        labels = [line.split("\t")[2] for line in self.run_tag(waltz, "--meter", "3", "--labels", "-")[0].splitlines()]
+        self.assertEqual({name.split(".")[1] for name in labels if re.fullmatch(r"\d+\.\d+", name)}, {"1", "2", "3"})
+        for words in "0", "17", "-1", "three", "3.0", "":
+            _, err = self.run_tag(self.song, "--meter=" + words, status=2)
+            self.assertIn("'%s' is no number of beats to the bar: 1 to 16" % words, err)
 
     def test_bounds_of_the_search(self):
         out, _ = self.run_tag(self.song, "--max-bpm", "100", "--json", "-")

@@ -7,8 +7,8 @@
  *   0  answered ("no tempo" and "no stability" are answers)
  *   1  a number is out of bounds: a rate outside 1 to 192,000, more than 1,048,576 magnitude rows or slots of an input that is an envelope,
  *      a flux or the curve of ph_suppress_close_peaks, bins outside 1 to 4,096, more than 50,000 feature rows or slots of ph_boundaries'
- *      novelty, a feature length outside 1 to 2^31, a period or whole lag above 45,000, a patch whose start is above its
- *      row count, a frame above 1,048,575, a listed row of 50,000 and above in ph_boundary_times, a peak list that doesn't ascend
+ *      novelty, a feature length outside 1 to 2^31, a period or whole lag above 45,000, a meter outside 1 to 16, a patch whose start is
+ *      above its row count, a frame above 1,048,575, a listed row of 50,000 and above in ph_boundary_times, a peak list that doesn't ascend
  *      strictly or points past its curve, or the median of nothing
  *   2  the length of an input isn't rows times width, a threshold isn't as long as its flux, however long it is, or a patch isn't whole rows
  *      or runs past the end
@@ -68,8 +68,8 @@ extern "C" {
 
 /* ---- the version, the numbers of refusal and the limits, each as the library has it (tools/header holds them to the source) */
 
-/* major * 1,000,000 + minor * 1,000 + patch: 0.1.0 */
-#define PROHUNSEV_VERSION 1000u
+/* major * 1,000,000 + minor * 1,000 + patch: 0.2.0 */
+#define PROHUNSEV_VERSION 2000u
 
 /* what a function returns */
 #define PROHUNSEV_ANSWERED 0u
@@ -103,6 +103,9 @@ extern "C" {
  * min_bpm, or anything up to 1, is 1, the least there is */
 #define PROHUNSEV_MIN_BPM 30.0
 #define PROHUNSEV_MAX_BPM 300.0
+/* the usual beats of a bar, meter, and the most (the least is 1): 3 is a waltz's */
+#define PROHUNSEV_DEFAULT_METER 4u
+#define PROHUNSEV_MOST_METER 16u
 
 /* The version of the library that is linked, as PROHUNSEV_VERSION is written: where the two differ, this header is not the library's.
  * Room: none.
@@ -158,23 +161,25 @@ uint32_t ph_frame_times(const uint32_t *frames, size_t frames_len, uint32_t rate
  * limit, -INFINITY as min_bpm, or anything up to 1, down to 1 beat a minute, the least there is; INFINITY as both gives the lags 1 and 2.
  * The rule: unless min_bpm <= max_bpm they swap, so a NaN swaps them; then the lower is 1 where it is a NaN or less, and the upper is the
  * lower + 1 where it is a NaN or less. So a NaN is not an open bound: NAN and 300 mean 300 to 301.
- * Refuses 1 for the rate. */
-uint32_t ph_lag_range(uint32_t rate, double min_bpm, double max_bpm, size_t *min_lag, size_t *max_lag);
+ * The meter, beats in a bar, stands behind the bounds in every function that takes them, since the three are one record, the options of a
+ * search; 4 is the usual. Each of these functions refuses a meter outside 1 to 16, and the downbeats alone are chosen by it.
+ * Refuses 1 for the rate or the meter. */
+uint32_t ph_lag_range(uint32_t rate, double min_bpm, double max_bpm, size_t meter, size_t *min_lag, size_t *max_lag);
 
 /* The tempo of an envelope with this many onsets. With a tempo: *found is 1, *bpm and *clarity are its, and lags and saliences begin with
  * *count candidates, 1 to 3, the winner first, the slots behind them 0. Without a tempo: *found, *bpm, *clarity, *count and all slots are 0.
  * Room: L slots each of clarity_curve and weight_curve, which then hold the lag curves (unchanged where the envelope is too short, has fewer
  * than two onsets or is flat), and of work, unchanged.
- * Refuses 1 for the length or the rate, 3, and 4 for a value. */
-uint32_t ph_estimate(const double *envelope, size_t envelope_len, size_t onsets, uint32_t rate, double min_bpm, double max_bpm,
+ * Refuses 1 for the length, the rate or the meter, 3, and 4 for a value. */
+uint32_t ph_estimate(const double *envelope, size_t envelope_len, size_t onsets, uint32_t rate, double min_bpm, double max_bpm, size_t meter,
                      double *clarity_curve, size_t clarity_curve_len, double *weight_curve, size_t weight_curve_len, double *work, size_t work_len,
                      uint32_t *found, double *bpm, double *clarity, size_t lags[3], double saliences[3], size_t *count);
 
 /* In how many of up to four windows the tempo is heard again; whole_lag is the winning candidate's lag, 0 for no tempo.
  * With a stability: *found is 1, *agreeing of *windows agree, and *fraction is *agreeing / *windows. Without one: all four numbers are 0.
  * Room: L slots each of clarity_curve, weight_curve and work, which hold anything where *found is 1 and else stay as they were.
- * Refuses 1 for the length, the rate or a lag above 45,000, 3, and 4 for a value. */
-uint32_t ph_stability_of(const double *envelope, size_t envelope_len, uint32_t rate, double min_bpm, double max_bpm, size_t whole_lag,
+ * Refuses 1 for the length, the rate, the meter or a lag above 45,000, 3, and 4 for a value. */
+uint32_t ph_stability_of(const double *envelope, size_t envelope_len, uint32_t rate, double min_bpm, double max_bpm, size_t meter, size_t whole_lag,
                          double *clarity_curve, size_t clarity_curve_len, double *weight_curve, size_t weight_curve_len, double *work, size_t work_len,
                          uint32_t *found, double *fraction, size_t *agreeing, size_t *windows);
 
@@ -186,10 +191,11 @@ uint32_t ph_stability_of(const double *envelope, size_t envelope_len, uint32_t r
 uint32_t ph_beat_grid(const double *envelope, size_t envelope_len, size_t period, double *score, size_t score_len,
                       uint32_t *back, size_t back_len, uint32_t *beats, size_t beats_len, size_t *count);
 
-/* Lists every fourth beat, from the one of the first four that makes their flux sum greatest, *count of them; the beats need not ascend.
+/* Lists the first beat of each bar of `meter` beats: every meter-th beat, from the one of the first meter beats that makes their flux sum
+ * greatest, the earliest of equal ones; *count of them. With 4 that is every fourth, with 3 a waltz's. The beats need not ascend.
  * Room: beats_len slots of frames.
- * Refuses 1 for the length of envelope or a beat above 1,048,575, 3, and 4 for a value. */
-uint32_t ph_downbeats(const double *envelope, size_t envelope_len, const uint32_t *beats, size_t beats_len,
+ * Refuses 1 for the length of envelope, a beat above 1,048,575 or a meter outside 1 to 16, 3, and 4 for a value. */
+uint32_t ph_downbeats(const double *envelope, size_t envelope_len, const uint32_t *beats, size_t beats_len, size_t meter,
                       uint32_t *frames, size_t frames_len, size_t *count);
 
 /* Where a time lies. From the first downbeat on: *found is 1, and *bar and *beat count from 1. Before it: *found, *bar and *beat are 0.
@@ -246,15 +252,18 @@ uint32_t ph_patch_features(double *features, size_t features_len, size_t rows, s
 /* The room of a whole analysis: *row_slots each for flux, threshold, onsets, score, back, beats and downbeats, *lag_slots for each of the
  * four lag curves, *work_slots for work.
  * With exactly this room neither analysis below refuses with 3; with one slot fewer in a slice that it is lent it does, unless a lower number applies.
- * Refuses 1 for rows above 1,048,576 or the rate. */
-uint32_t ph_room_of(size_t rows, uint32_t rate, double min_bpm, double max_bpm, size_t *row_slots, size_t *lag_slots, size_t *work_slots);
+ * The room is the same for every meter.
+ * Refuses 1 for rows above 1,048,576, the rate or the meter. */
+uint32_t ph_room_of(size_t rows, uint32_t rate, double min_bpm, double max_bpm, size_t meter,
+                    size_t *row_slots, size_t *lag_slots, size_t *work_slots);
 
 /* Onsets, tempo, candidates, stability, beats and downbeats of an envelope, as the calls above give them one after the other: *found and what
  * follows it up to *count are ph_estimate's, *steady is the *found of ph_stability_of. Without a tempo there is no stability and no beat.
  * Room: by ph_room_of; with a stability window_clarity, window_weight and work then hold anything, in those slots, else only min(21, N) slots
  * of work do.
- * Refuses 1 for the length or the rate, 3, and 4 for a value; a threshold above 2^150, made from a lent envelope that large, refuses nothing here. */
-uint32_t ph_analyse_envelope(const double *envelope, size_t envelope_len, uint32_t rate, double min_bpm, double max_bpm,
+ * Refuses 1 for the length, the rate or the meter, 3, and 4 for a value; a threshold above 2^150, made from a lent envelope that large, refuses
+ * nothing here. */
+uint32_t ph_analyse_envelope(const double *envelope, size_t envelope_len, uint32_t rate, double min_bpm, double max_bpm, size_t meter,
                              double *threshold, size_t threshold_len, uint32_t *onsets, size_t onsets_len,
                              double *clarity_curve, size_t clarity_curve_len, double *weight_curve, size_t weight_curve_len,
                              double *window_clarity, size_t window_clarity_len, double *window_weight, size_t window_weight_len,
@@ -265,8 +274,9 @@ uint32_t ph_analyse_envelope(const double *envelope, size_t envelope_len, uint32
 
 /* The same from magnitudes: their flux, which goes into flux, is the envelope.
  * Room: row_slots of flux, and else as ph_analyse_envelope.
- * Refuses 1 for rows, bins or the rate, 2 where there aren't rows times bins magnitudes, 3, and 4 for a magnitude. */
-uint32_t ph_analyse_magnitudes(const float *magnitudes, size_t magnitudes_len, size_t rows, size_t bins, uint32_t rate, double min_bpm, double max_bpm,
+ * Refuses 1 for rows, bins, the rate or the meter, 2 where there aren't rows times bins magnitudes, 3, and 4 for a magnitude. */
+uint32_t ph_analyse_magnitudes(const float *magnitudes, size_t magnitudes_len, size_t rows, size_t bins, uint32_t rate,
+                               double min_bpm, double max_bpm, size_t meter,
                                double *flux, size_t flux_len, double *threshold, size_t threshold_len, uint32_t *onsets, size_t onsets_len,
                                double *clarity_curve, size_t clarity_curve_len, double *weight_curve, size_t weight_curve_len,
                                double *window_clarity, size_t window_clarity_len, double *window_weight, size_t window_weight_len,

@@ -35,7 +35,7 @@ import threading
 import warnings
 from typing import Any, Iterator, NamedTuple, Optional, Sequence, Tuple
 
-__version__ = "0.1.0"
+__version__ = "0.2.0"
 
 __all__ = [
     "Analysis", "BarBeat", "Buffers", "Candidate", "LagRange", "NO_LINK", "Patched", "PatchedFeatures", "Refused", "Room", "Sections",
@@ -54,6 +54,7 @@ _MOST_ROWS = 1_048_576
 _MOST_BINS = 4_096
 _MOST_FRAME = 1_048_575
 _MOST_PERIOD = 45_000
+_MOST_METER = 16
 _MOST_FEATURE_ROWS = 50_000
 _MOST_LISTED_ROW = 49_999
 _MOST_FEATURE_LENGTH = 2_147_483_648
@@ -62,6 +63,7 @@ _MOST_VALUE = 1427247692705959881058285969449495136382746624.0
 _FEATURE_WIDTH = 16
 _SIMILARITY_WIDTH = 17
 _MEDIAN_WINDOW = 21
+_DEFAULT_METER = 4
 
 # anything with the buffer protocol, which has no type of its own before Python 3.12
 Lent = Any
@@ -73,8 +75,8 @@ class Refused(Exception):
 
     WHY = {
         1: "a number is out of bounds: sample rate 1 to 192,000, at most 1,048,576 rows or slots of 1 to 4,096 bins, period at most"
-           " 45,000, at most 50,000 feature rows of 1 to 2**31 samples, frames at most 1,048,575; or a patch starts past its rows,"
-           " a median's list is empty, or a peak list doesn't ascend or points past its curve",
+           " 45,000, meter 1 to 16, at most 50,000 feature rows of 1 to 2**31 samples, frames at most 1,048,575; or a patch starts past"
+           " its rows, a median's list is empty, or a peak list doesn't ascend or points past its curve",
         2: "an input's length isn't rows times width, or a patch isn't whole rows or runs past the end",
         3: "an output or work slice has fewer slots than its formula, which the call's help says under Room, and docs/ROOM.md",
         4: "a value isn't finite or is too large: magnitudes up to 2**126, envelopes, curves, medians and features up to 2**150,"
@@ -90,16 +92,20 @@ class Refused(Exception):
 
 
 class TempoOpts(NamedTuple):
-    """The bounds of the tempo search in beats a minute, in either order; where a call takes one, it takes a pair of numbers too.
+    """The bounds of the tempo search in beats a minute, in either order, and the beats of a bar: TempoOpts(meter=3) is a waltz's. Where a call
+    takes one, it takes a pair of bounds too, with the usual meter, or all three.
 
     None is an open bound: min_bpm=None goes down to 1, the least there is, as -math.inf and anything up to 1 do, max_bpm=None has no upper
     limit, as math.inf. No bound is refused. A NaN is not an open bound: it swaps the pair, as a lower bound above the upper one does, and then
-    stands for 1 as the lower one, and for one beat a minute above the lower as the upper one; (math.nan, 300) means 300 to 301."""
+    stands for 1 as the lower one, and for one beat a minute above the lower as the upper one; (math.nan, 300) means 300 to 301.
+
+    The meter is 1 to 16. Every call that takes the options refuses another with number 1; the downbeats alone are chosen by it."""
     min_bpm: Optional[float] = 30.0
     max_bpm: Optional[float] = 300.0
+    meter: int = _DEFAULT_METER
 
 
-# a TempoOpts, or any pair of numbers, of which None is an open one
+# a TempoOpts, or any pair of bounds, of which None is an open one, with or without the meter behind them
 Bounds = Sequence[Optional[float]]
 
 
@@ -167,7 +173,7 @@ class PatchedFeatures(NamedTuple):
 
 
 # the version of the library that this module is written for: major * 1,000,000 + minor * 1,000 + patch
-_VERSION = 1_000
+_VERSION = 2_000
 _REMEDY = "run tools/library in a clone of this module's source, which compiles it, or name another shared library in PROHUNSEV_LIBRARY"
 
 
@@ -218,16 +224,16 @@ _EXPORTED = {
     "ph_pick_onsets": "flux: &[f64], threshold: &[f64], rate: u32, frames: &mut [u32], count: &mut usize",
     "ph_suppress_close_peaks": "peaks: &[u32], curve: &[f64], gap: usize, frames: &mut [u32], count: &mut usize",
     "ph_frame_times": "frames: &[u32], rate: u32, ms: &mut [f64]",
-    "ph_lag_range": "rate: u32, min_bpm: f64, max_bpm: f64, min_lag: &mut usize, max_lag: &mut usize",
+    "ph_lag_range": "rate: u32, min_bpm: f64, max_bpm: f64, meter: usize, min_lag: &mut usize, max_lag: &mut usize",
     "ph_estimate": (
-        "envelope: &[f64], onsets: usize, rate: u32, min_bpm: f64, max_bpm: f64, clarity_curve: &mut [f64], weight_curve: &mut [f64], "
-        "work: &mut [f64], found: &mut u32, bpm: &mut f64, clarity: &mut f64, lags: &mut [usize; 3], saliences: &mut [f64; 3], "
-        "count: &mut usize"),
+        "envelope: &[f64], onsets: usize, rate: u32, min_bpm: f64, max_bpm: f64, meter: usize, clarity_curve: &mut [f64], "
+        "weight_curve: &mut [f64], work: &mut [f64], found: &mut u32, bpm: &mut f64, clarity: &mut f64, lags: &mut [usize; 3], "
+        "saliences: &mut [f64; 3], count: &mut usize"),
     "ph_stability_of": (
-        "envelope: &[f64], rate: u32, min_bpm: f64, max_bpm: f64, whole_lag: usize, clarity_curve: &mut [f64], "
+        "envelope: &[f64], rate: u32, min_bpm: f64, max_bpm: f64, meter: usize, whole_lag: usize, clarity_curve: &mut [f64], "
         "weight_curve: &mut [f64], work: &mut [f64], found: &mut u32, fraction: &mut f64, agreeing: &mut usize, windows: &mut usize"),
     "ph_beat_grid": "envelope: &[f64], period: usize, score: &mut [f64], back: &mut [u32], beats: &mut [u32], count: &mut usize",
-    "ph_downbeats": "envelope: &[f64], beats: &[u32], frames: &mut [u32], count: &mut usize",
+    "ph_downbeats": "envelope: &[f64], beats: &[u32], meter: usize, frames: &mut [u32], count: &mut usize",
     "ph_bar_beat_at": "time: f64, downbeats: &[f64], beats: &[f64], found: &mut u32, bar: &mut usize, beat: &mut usize",
     "ph_similarity": "features: &[f64], rows: usize, similarity: &mut [f64]",
     "ph_novelty": "similarity: &[f64], rows: usize, novelty: &mut [f64]",
@@ -242,16 +248,17 @@ _EXPORTED = {
         "features: &mut [f64], rows: usize, start: usize, new_rows: &[f64], similarity: &mut [f64], novelty: &mut [f64], "
         "similarity_first: &mut usize, similarity_past: &mut usize, novelty_first: &mut usize, novelty_past: &mut usize"),
     "ph_room_of": (
-        "rows: usize, rate: u32, min_bpm: f64, max_bpm: f64, row_slots: &mut usize, lag_slots: &mut usize, work_slots: &mut usize"),
+        "rows: usize, rate: u32, min_bpm: f64, max_bpm: f64, meter: usize, row_slots: &mut usize, lag_slots: &mut usize, "
+        "work_slots: &mut usize"),
     "ph_analyse_envelope": (
-        "envelope: &[f64], rate: u32, min_bpm: f64, max_bpm: f64, threshold: &mut [f64], onsets: &mut [u32], "
+        "envelope: &[f64], rate: u32, min_bpm: f64, max_bpm: f64, meter: usize, threshold: &mut [f64], onsets: &mut [u32], "
         "clarity_curve: &mut [f64], weight_curve: &mut [f64], window_clarity: &mut [f64], window_weight: &mut [f64], "
         "score: &mut [f64], back: &mut [u32], beats: &mut [u32], downbeats: &mut [u32], work: &mut [f64], onset_count: &mut usize, "
         "found: &mut u32, bpm: &mut f64, clarity: &mut f64, lags: &mut [usize; 3], saliences: &mut [f64; 3], count: &mut usize, "
         "steady: &mut u32, fraction: &mut f64, agreeing: &mut usize, windows: &mut usize, beat_count: &mut usize, "
         "downbeat_count: &mut usize"),
     "ph_analyse_magnitudes": (
-        "magnitudes: &[f32], rows: usize, bins: usize, rate: u32, min_bpm: f64, max_bpm: f64, flux: &mut [f64], "
+        "magnitudes: &[f32], rows: usize, bins: usize, rate: u32, min_bpm: f64, max_bpm: f64, meter: usize, flux: &mut [f64], "
         "threshold: &mut [f64], onsets: &mut [u32], clarity_curve: &mut [f64], weight_curve: &mut [f64], window_clarity: &mut [f64], "
         "window_weight: &mut [f64], score: &mut [f64], back: &mut [u32], beats: &mut [u32], downbeats: &mut [u32], work: &mut [f64], "
         "onset_count: &mut usize, found: &mut u32, bpm: &mut f64, clarity: &mut f64, lags: &mut [usize; 3], saliences: &mut [f64; 3], "
@@ -459,7 +466,7 @@ def _features(call, name, lent, rows, width, written=False):
 
 # the least and the greatest that calls take, of numbers that mean the same in every call
 _TAKEN = {"rate": (1, _MOST_RATE), "bins": (1, _MOST_BINS), "period": (0, _MOST_PERIOD), "whole_lag": (0, _MOST_PERIOD),
-          "length": (1, _MOST_FEATURE_LENGTH)}
+          "meter": (1, _MOST_METER), "length": (1, _MOST_FEATURE_LENGTH)}
 
 
 def _whole(name, number, kind, taken=None):
@@ -489,20 +496,24 @@ def _real(name, number):
         raise OverflowError(f"{name} is too large for a float64") from None
 
 
-def _bounds(opts):
-    """The bounds of a tempo search: a TempoOpts, or any pair of numbers; None is an open one."""
+def _options(opts):
+    """The options of a tempo search in the record's order: a TempoOpts, or a pair of bounds, of which None is an open one, with or without the
+    meter."""
     try:
-        first, second = opts
+        first, second, *meter = opts
+        meter, = meter or (_DEFAULT_METER,)
     except (TypeError, ValueError):
-        raise TypeError(f"opts must be a TempoOpts or a pair of numbers, not {opts!r}") from None
-    return _real("min_bpm", -math.inf if first is None else first), _real("max_bpm", math.inf if second is None else second)
+        raise TypeError(f"opts must be a TempoOpts, or a pair of bounds with or without a meter, not {opts!r}") from None
+    low, high = -math.inf if first is None else first, math.inf if second is None else second
+    return _real("min_bpm", low), _real("max_bpm", high), _meter(meter)
 
 
 def _written(n):
-    """The bounds of a refused call, as one may write them."""
+    """The options of a refused call, as one may write them."""
     def one(bound, open_):
         return "None" if bound == open_ else str(bound) if math.isfinite(bound) else f"float('{bound}')"
-    return f"({one(n.min_bpm, -math.inf)}, {one(n.max_bpm, math.inf)})"
+    meter = "" if n.meter == _DEFAULT_METER else f", {n.meter}"
+    return f"({one(n.min_bpm, -math.inf)}, {one(n.max_bpm, math.inf)}{meter})"
 
 
 def _size(name, number, taken=None):
@@ -511,6 +522,13 @@ def _size(name, number, taken=None):
 
 def _small(name, number):
     return _whole(name, number, ctypes.c_uint32)
+
+
+def _meter(meter):
+    """Beats of a bar; True, which Python takes for 1, would be a slip for some other word."""
+    if isinstance(meter, bool):
+        raise TypeError("meter must be a whole number, not bool")
+    return _size("meter", meter)
 
 
 # what calls have been lent that are still at work, each by the id of its list; ctypes lets other threads run meanwhile
@@ -717,7 +735,7 @@ def _value(name):
     return 4, lambda n: "" if abs(getattr(n, name)) <= _VALUE[0] else f"{name} is {getattr(n, name)}: {_VALUE[1]}"
 
 
-_RATE = _number("rate", *_TAKEN["rate"])
+_RATE, _METER = _number("rate", *_TAKEN["rate"]), _number("meter", *_TAKEN["meter"])
 _ROWS = (_number("rows", 0, _MOST_ROWS), _number("bins", *_TAKEN["bins"]), _table("magnitudes", "bins"))
 _FEATURE_ROWS, _LENGTH = _number("rows", 0, _MOST_FEATURE_ROWS), _number("length", *_TAKEN["length"])
 _LAG_CURVES = tuple(_room(name, lambda n: n.lags) for name in ("clarity", "weight", "work"))
@@ -737,7 +755,7 @@ def _track(rows, input_, first):
 
     by_row = tuple(_room(name, of_rows, made) for name in first + ("threshold", "onsets", "score", "back", "beats", "downbeats"))
     by_lag = tuple(_room(name, lambda n: n.lags, made) for name in ("clarity", "weight", "window_clarity", "window_weight"))
-    return (*input_, _RATE, *by_row, *by_lag, _room("work", lambda n: max(n.lags, threshold_room(of_rows(n))), made))
+    return (*input_, _RATE, _METER, *by_row, *by_lag, _room("work", lambda n: max(n.lags, threshold_room(of_rows(n))), made))
 
 
 # what each call takes, in the order of its parameters, in the words of include/prohunsev.h; bar_beat_at refuses nothing
@@ -751,12 +769,12 @@ _TAKES = {
                     _values("threshold")),
     "suppress_close_peaks": (_frames_of("curve"), _peaks("peaks", "curve"), _room("frames", lambda n: n.peaks), _values("curve")),
     "frame_times": (_RATE, _entries("frames", _MOST_FRAME), _room("ms", lambda n: n.frames)),
-    "lag_range": (_RATE,),
-    "estimate": (_frames_of("envelope"), _RATE, *_LAG_CURVES, _values("envelope")),
-    "stability_of": (_frames_of("envelope"), _RATE, _number("whole_lag", *_TAKEN["whole_lag"]), *_LAG_CURVES, _values("envelope")),
+    "lag_range": (_RATE, _METER),
+    "estimate": (_frames_of("envelope"), _RATE, _METER, *_LAG_CURVES, _values("envelope")),
+    "stability_of": (_frames_of("envelope"), _RATE, _METER, _number("whole_lag", *_TAKEN["whole_lag"]), *_LAG_CURVES, _values("envelope")),
     "beat_grid": (_frames_of("envelope"), _number("period", *_TAKEN["period"]),
                   *(_room(name, lambda n: n.envelope) for name in ("score", "back", "beats")), _values("envelope")),
-    "downbeats": (_frames_of("envelope"), _entries("beats", _MOST_FRAME), _room("frames", lambda n: n.beats), _values("envelope")),
+    "downbeats": (_frames_of("envelope"), _entries("beats", _MOST_FRAME), _METER, _room("frames", lambda n: n.beats), _values("envelope")),
     "similarity": (_FEATURE_ROWS, _table("features", _FEATURE_WIDTH), _room("similarity", lambda n: similarity_room(n.rows)), _values("features")),
     "novelty": (_FEATURE_ROWS, _table("similarity", _SIMILARITY_WIDTH), _room("novelty", lambda n: n.rows), _values("similarity", _SIMILARITY)),
     "boundaries": (_at_most("novelty", _MOST_FEATURE_ROWS), _LENGTH, _RATE, _room("rows", lambda n: n.novelty), _room("work", lambda n: n.novelty),
@@ -770,7 +788,7 @@ _TAKES = {
                        _room("similarity", lambda n: similarity_room(n.rows)), _room("novelty", lambda n: n.rows), _values("features"),
                        _values("new_rows"), _values("similarity", _SIMILARITY, lambda n: similarity_room(n.rows)),
                        _values("novelty", slots=lambda n: n.rows)),
-    "room_of": (_number("rows", 0, _MOST_ROWS), _RATE),
+    "room_of": (_number("rows", 0, _MOST_ROWS), _RATE, _METER),
     "analyse_envelope": (*_track("envelope", (_frames_of("envelope"),), ()), _values("envelope")),
     "analyse_magnitudes": (*_track("rows", _ROWS, ("flux",)), _values("magnitudes", _MAGNITUDE)),
 }
@@ -839,9 +857,10 @@ def frame_times(frames: Lent, rate: int, ms: Lent) -> None:
 
 
 def lag_range(rate: int, opts: Bounds = TempoOpts()) -> LagRange:
-    """The lags that the bounds stand for; its `lags` is the room of each lag curve. Here, as in every call, a bound of None is open (TempoOpts)."""
+    """The lags that the bounds stand for; its `lags` is the room of each lag curve. Here, as in every call, a bound of None is open (TempoOpts),
+    and a meter outside 1 to 16 is refused."""
     least, most = ctypes.c_size_t(), ctypes.c_size_t()
-    _call("lag_range", _small("rate", rate), *_bounds(opts), ctypes.byref(least), ctypes.byref(most))
+    _call("lag_range", _small("rate", rate), *_options(opts), ctypes.byref(least), ctypes.byref(most))
     return LagRange(least.value, most.value)
 
 
@@ -854,7 +873,7 @@ def estimate(envelope: Lent, onsets: int, rate: int, opts: Bounds = TempoOpts(),
     _given("estimate", clarity=clarity, weight=weight, work=work)
     found, bpm, clear, count = ctypes.c_uint32(), ctypes.c_double(), ctypes.c_double(), ctypes.c_size_t()
     lags, saliences = (ctypes.c_size_t * 3)(), (ctypes.c_double * 3)()
-    _call("estimate", _reals("envelope", envelope), _size("onsets", onsets), _small("rate", rate), *_bounds(opts),
+    _call("estimate", _reals("envelope", envelope), _size("onsets", onsets), _small("rate", rate), *_options(opts),
           _reals_out("clarity", clarity), _reals_out("weight", weight), _reals_out("work", work),
           ctypes.byref(found), ctypes.byref(bpm), ctypes.byref(clear), lags, saliences, ctypes.byref(count))
     tempo = Tempo(bpm.value, clear.value) if found.value else None
@@ -868,7 +887,7 @@ def stability_of(envelope: Lent, rate: int, opts: Bounds = TempoOpts(), whole_la
     All three then hold anything."""
     _given("stability_of", whole_lag=whole_lag, clarity=clarity, weight=weight, work=work)
     found, fraction, agreeing, windows = ctypes.c_uint32(), ctypes.c_double(), ctypes.c_size_t(), ctypes.c_size_t()
-    _call("stability_of", _reals("envelope", envelope), _small("rate", rate), *_bounds(opts),
+    _call("stability_of", _reals("envelope", envelope), _small("rate", rate), *_options(opts),
           _size("whole_lag", whole_lag), _reals_out("clarity", clarity), _reals_out("weight", weight), _reals_out("work", work),
           ctypes.byref(found), ctypes.byref(fraction), ctypes.byref(agreeing), ctypes.byref(windows))
     return Stability(fraction.value, agreeing.value, windows.value) if found.value else None
@@ -883,9 +902,10 @@ def beat_grid(envelope: Lent, period: int, score: Lent, back: Lent, beats: Lent)
                    _frames_out("back", back), _frames_out("beats", beats))
 
 
-def downbeats(envelope: Lent, beats: Lent, frames: Lent) -> int:
-    """Lists every fourth beat from the loudest phase on, and answers how many. Room: frames as long as beats."""
-    return _listed("downbeats", _reals("envelope", envelope), _frames("beats", beats), _frames_out("frames", frames))
+def downbeats(envelope: Lent, beats: Lent, frames: Lent, meter: int = _DEFAULT_METER) -> int:
+    """Lists the first beat of each bar of meter beats, from the loudest phase on, and answers how many: with 4 every fourth beat, with 3 a
+    waltz's. Of TempoOpts it needs the meter alone. Room: frames as long as beats."""
+    return _listed("downbeats", _reals("envelope", envelope), _frames("beats", beats), _meter(meter), _frames_out("frames", frames))
 
 
 def bar_beat_at(time: float, downbeats: Lent, beats: Lent) -> Optional[BarBeat]:
@@ -980,9 +1000,10 @@ class Room(NamedTuple):
 
 
 def room_of(rows: int, rate: int, opts: Bounds = TempoOpts()) -> Room:
-    """The room for a track of at most so many rows. A bound of None is open (TempoOpts), and an open lower bound has the most lags."""
+    """The room for a track of at most so many rows. A bound of None is open (TempoOpts), and an open lower bound has the most lags; the meter
+    makes no difference."""
     slots = [ctypes.c_size_t() for _ in range(3)]
-    _call("room_of", _size("rows", rows, (0, _MOST_ROWS)), _small("rate", rate), *_bounds(opts),
+    _call("room_of", _size("rows", rows, (0, _MOST_ROWS)), _small("rate", rate), *_options(opts),
           *map(ctypes.byref, slots))
     return Room(*(slot.value for slot in slots))
 
@@ -1014,7 +1035,7 @@ class _Last(NamedTuple):
     rows: int
     bins: Optional[int]
     rate: int
-    opts: Tuple[float, float]
+    opts: Tuple[float, float, int]
     lags: int
 
 
@@ -1025,7 +1046,7 @@ class Buffers:
     are used again. patch_magnitudes mends flux and threshold where rows are replaced, and analyse_patched makes the new grid of them.
 
     A bound of None is open, here and in the analyses (TempoOpts): a track may be analysed with other bounds than the buffers were made for, as
-    long as they have no more lags.
+    long as they have no more lags, and with any meter.
 
     One thread at a time: a call while another thread's is at work in the same Buffers raises ValueError. Once that one is done, a call
     writes over what its views show, so let each thread have Buffers of its own, or copy the views first. Nothing else may write the
@@ -1075,9 +1096,9 @@ class Buffers:
         found, steady = ctypes.c_uint32(), ctypes.c_uint32()
         bpm, clarity, fraction = (ctypes.c_double() for _ in range(3))
         lags, saliences = (ctypes.c_size_t * 3)(), (ctypes.c_double * 3)()
-        rate, bounds = _small("rate", rate), _bounds(opts)
+        rate, options = _small("rate", rate), _options(opts)
         with self._alone(call) as held:
-            _call(call, *lent, rate, *bounds, *flux,
+            _call(call, *lent, rate, *options, *flux,
                   _reals_out("threshold", self._threshold), _frames_out("onsets", self._onsets), _reals_out("clarity", self._clarity),
                   _reals_out("weight", self._weight), _reals_out("window_clarity", self._window_clarity),
                   _reals_out("window_weight", self._window_weight), _reals_out("score", self._score), _frames_out("back", self._back),
@@ -1086,7 +1107,7 @@ class Buffers:
                   ctypes.byref(count), ctypes.byref(steady), ctypes.byref(fraction), ctypes.byref(agreeing), ctypes.byref(windows),
                   ctypes.byref(beats), ctypes.byref(downbeats))
             rows = lent[0].slots if bins is None else lent[1].value
-            held[0] = _Last(rows, bins, rate.value, (bounds[0].value, bounds[1].value), 0)
+            held[0] = _Last(rows, bins, rate.value, tuple(word.value for word in options), 0)
             return self._answer(held, Tempo(bpm.value, clarity.value) if found.value else None,
                                 tuple(Candidate(lags[k], saliences[k]) for k in range(count.value)),
                                 Stability(fraction.value, agreeing.value, windows.value) if steady.value else None,
@@ -1136,7 +1157,7 @@ class Buffers:
             lag = found.candidates[0].lag if found.candidates else 0
             steady = stability_of(flux, last.rate, opts, lag, self._window_clarity, self._window_weight, self._work)
             laid = beat_grid(flux, lag, self._score, self._back, self._beats)
-            begun = downbeats(flux, self._beats[:laid], self._downbeats)
+            begun = downbeats(flux, self._beats[:laid], self._downbeats, opts[2])
             return self._answer(held, found.tempo, found.candidates, steady, onsets, laid, begun)
 
     @staticmethod

@@ -12,7 +12,7 @@ import prohunsev as ph
 HERE = pathlib.Path(ph.__file__).resolve().parent
 LIBRARY = pathlib.Path(ph._library._name)
 ASKED = "import prohunsev; print(prohunsev._library._name)"
-SONAME = "libprohunsev.so.0.1"
+SONAME = "libprohunsev.so.0.2"
 
 
 def ran(words, **more):
@@ -79,7 +79,7 @@ class Places(unittest.TestCase):
     @unittest.skipUnless(shutil.which("cc"), "no C compiler")
     def test_another_version(self):
         source, place = self.folder / "other.c", self.folder / "other.so"
-        for code, said in (("unsigned ph_version(void) { return 2003004; }", "is version 2.3.4, and this module is written for 0.1.0: run tools/library"),
+        for code, said in (("unsigned ph_version(void) { return 2003004; }", "is version 2.3.4, and this module is written for 0.2.0: run tools/library"),
                            ("int ph_median_of;", "has no ph_version, so it was made of older source than this module: run tools/library")):
             source.write_text(code)
             subprocess.run(["cc", "-shared", "-fPIC", str(source), "-o", str(place)], check=True)
@@ -131,7 +131,7 @@ class Installed(unittest.TestCase):
         self.assertEqual((tried.returncode, tried.stderr), (0, ""))
         self.assertIn(self.folder / "env", pathlib.Path(tried.stdout.strip()).parents)
         shown = self.pip("show", "--files", "prohunsev")
-        for line in ("Name: prohunsev", "Version: 0.1.0", "License: MIT OR Apache-2.0", "LICENSE-APACHE", "NOTICE", "libprohunsev.so"):
+        for line in ("Name: prohunsev", "Version: 0.2.0", "License: MIT OR Apache-2.0", "LICENSE-APACHE", "NOTICE", "libprohunsev.so"):
             self.assertIn(line, shown)
         self.gone()
 

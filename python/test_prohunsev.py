@@ -66,6 +66,11 @@ def turn(n=4_000):
     return envelope
 
 
+def waltz(n):
+    """A pulse every 80 frames, each third of them louder, from the second on."""
+    return array("d", ((1.5 if t // 80 % 3 == 1 else 1.0) if t % 80 == 5 else 0.0 for t in range(n)))
+
+
 class Marked(unittest.TestCase):
     """Document 01's marked numbers."""
 
@@ -313,6 +318,69 @@ class Answers(unittest.TestCase):
                 tempos += said[0].tempo is not None
         self.assertGreaterEqual(tempos, 10, "too few of them have a tempo to compare")
 
+    def test_the_options_meter(self):
+        self.assertEqual((OPTS.meter, ph.TempoOpts(50, 60).meter, ph.TempoOpts(meter=3)), (4, 4, (30, 300, 3)))
+        self.assertEqual(inspect.signature(ph.downbeats).parameters["meter"].default, 4)
+        self.assertEqual((ph._DEFAULT_METER, ph._MOST_METER), (4, 16))
+
+    @staticmethod
+    def bars_of(envelope, beats, meter):
+        """By its rule: of the beats that many apart those whose values sum up to the most, the earliest of equal ones."""
+        def total(phase):
+            at = 0.0
+            for t in beats[phase::meter]:
+                at += envelope[t] if t < len(envelope) else 0.0
+            return at
+        return list(beats[max(range(meter), key=lambda phase: (total(phase), -phase))::meter])
+
+    def test_meters(self):
+        n = 4_000
+        # levels that are no two phases' alike, the accents of a waltz, and all the same
+        for envelope in (array("d", (1 + 0.25 * (t * t % 7) if t % 80 == 5 else 0 for t in range(n))), waltz(n), turn()):
+            rows = array("f", envelope)
+
+            def told(opts):
+                """What isn't chosen by the meter."""
+                lags = ph.lag_range(RATE, opts)
+                curves = [room(lags.lags) for _ in range(5)]
+                found = ph.estimate(envelope, 40, RATE, opts, *curves[:3])
+                steady = ph.stability_of(envelope, RATE, opts, found.candidates[0].lag, *curves[2:])
+                return lags, ph.room_of(n, RATE, opts), found, steady, [list(curve) for curve in curves[:2]]
+
+            usual, beats = told(OPTS), frame_room(n)
+            beats = beats[:ph.beat_grid(envelope, usual[2].candidates[0].lag, room(n), frame_room(n), beats)]
+            counts = []
+            for meter in range(1, 17):
+                opts, bars = ph.TempoOpts(meter=meter), frame_room(len(beats) + 1)
+                self.assertEqual(told(opts), usual, meter)
+                begun = ph.downbeats(envelope, beats, bars, meter)
+                self.assertEqual((list(bars[:begun]), bars[begun]), (self.bars_of(envelope, beats, meter), WAS_FRAME), meter)
+                self.assertEqual(ph.downbeats(envelope, beats, frame_room(len(beats)), meter=meter), begun)
+                buffers = ph.Buffers(n, RATE)
+                was = Tracks.told(buffers.analyse_envelope(envelope, RATE))
+                # by the record, by all three, and by the record of the last analysis
+                for track in (lambda: buffers.analyse_envelope(envelope, RATE, opts), lambda: buffers.analyse_magnitudes(rows, n, 1, RATE, opts),
+                              lambda: buffers.analyse_envelope(envelope, RATE, (30, 300, meter)),
+                              lambda: buffers.analyse_magnitudes(rows, n, 1, RATE, opts=[30, 300, meter]), buffers.analyse_patched):
+                    self.assertEqual(Tracks.told(track()), (*was[:5], list(bars[:begun])), meter)
+                    self.assertEqual(buffers.lags, usual[0])
+                if meter == 4:
+                    self.assertEqual(list(bars[:begun]), was[5])
+                    self.assertEqual(ph.downbeats(envelope, beats, frame_room(len(beats))), begun)
+                counts.append(begun)
+            # a meter that another stood for would be seen
+            self.assertEqual(counts[:8], sorted(set(counts[:8]), reverse=True))
+
+    def test_a_waltz(self):
+        """Three beats apart, on the accent."""
+        envelope, opts = waltz(4_000), ph.TempoOpts(meter=3)
+        track = ph.Buffers(4_000, RATE, opts).analyse_envelope(envelope, RATE, opts)
+        accents = [t for t in range(4_000) if envelope[t] == 1.5]
+        self.assertEqual((track.candidates[0].lag, len(track.beats), list(track.downbeats)), (80, 50, accents))
+        self.assertEqual({b - a for a, b in zip(accents, accents[1:])}, {240})
+        track = ph.Buffers(4_000, RATE).analyse_envelope(envelope, RATE)
+        self.assertFalse(set(track.downbeats) <= set(accents))
+
 
 def value(named):
     """What is said of a value that is too large, or isn't finite."""
@@ -337,6 +405,9 @@ class Refusals(unittest.TestCase):
             self.assertEqual(str(refused), f"{name} refused with {number}: {detail}")
             self.assertEqual(before, [bytes(w) if isinstance(w, array) else None for w in words])
 
+    # meters outside their bounds, among them one that is 4 in fewer bits
+    NO_METERS = ((0, "meter 0, 1 to 16"), (17, "meter 17, 1 to 16"), (2 ** 32 + 4, "meter 4,294,967,300, 1 to 16"),
+                 (2 ** 64 - 1, "meter 18,446,744,073,709,551,615, 1 to 16"))
     MANY = array("d", [0.0]) * 1_048_577
     MOST = "1,048,577 slots lent, at most 1,048,576"
 
@@ -409,6 +480,15 @@ class Refusals(unittest.TestCase):
         self.refuses(3, "work: 337 slots lent, 338 needed", ph.stability_of, reals(1), RATE, OPTS, 9, a, b, short)
         self.refuses(4, value("envelope[1] is inf"), ph.stability_of, reals(1, math.inf), RATE, OPTS, 9, a, b, c)
 
+        # a meter that is none, though these answer the same for all: before room and values
+        for meter, words in self.NO_METERS:
+            for opts in (ph.TempoOpts(meter=meter), (None, math.nan, meter)):
+                self.refuses(1, words, ph.lag_range, RATE, opts)
+                self.refuses(1, words, ph.estimate, reals(1), 2, RATE, opts, a, b, c)
+                self.refuses(1, words, ph.estimate, reals(math.nan), 2, RATE, opts, short, b, c)
+                self.refuses(1, words, ph.stability_of, reals(1), RATE, opts, 9, a, b, c)
+                self.refuses(1, words, ph.stability_of, reals(1), RATE, opts, 45_001, a, b, c)
+
     def test_beats(self):
         self.refuses(1, "envelope: " + self.MOST, ph.beat_grid, self.MANY, 1, room(2), frame_room(2), frame_room(2))
         self.refuses(1, "period 45,001, 0 to 45,000", ph.beat_grid, reals(1, 2), 45_001, room(2), frame_room(2), frame_room(2))
@@ -420,6 +500,9 @@ class Refusals(unittest.TestCase):
         self.refuses(1, "beats[0] is 1,048,576, at most 1,048,575", ph.downbeats, reals(1, 2), frames(1_048_576), frame_room(1))
         self.refuses(3, "frames: 1 slot lent, 2 needed", ph.downbeats, reals(1, 2), frames(0, 1), frame_room(1))
         self.refuses(4, value("envelope[0] is nan"), ph.downbeats, reals(math.nan, 2), frames(0), frame_room(1))
+        for meter, words in self.NO_METERS:
+            self.refuses(1, words, ph.downbeats, reals(1, 2), frames(0, 1), frame_room(2), meter)
+            self.refuses(1, words, ph.downbeats, reals(math.nan, 2), frames(0, 1), frame_room(1), meter)
 
     def test_sections(self):
         self.refuses(1, "rows 50,001, 0 to 50,000", ph.similarity, room(31), 50_001, room(34))
@@ -482,6 +565,13 @@ class Refusals(unittest.TestCase):
         self.refuses(1, "rows 1,048,577, 0 to 1,048,576", ph.Buffers, 1_048_577, RATE)
         self.refuses(1, "rate 0, 1 to 192,000", ph.Buffers, 5, 0)
         self.refuses(1, "rate 0, 1 to 192,000", ph.Buffers, 5, 0, (30, math.nan))
+        for meter, words in self.NO_METERS:
+            opts = ph.TempoOpts(meter=meter)
+            self.refuses(1, words, ph.room_of, 1, RATE, opts)
+            self.refuses(1, words, ph.Buffers, 5, RATE, (30, 300, meter))
+            self.refuses(1, words, ph.Buffers(10, RATE).analyse_envelope, reals(1, math.nan), RATE, opts)
+            self.refuses(1, words, ph.Buffers(10, RATE).analyse_envelope, room(11), RATE, opts)
+            self.refuses(1, words, ph.Buffers(10, RATE).analyse_magnitudes, singles(1), 2, 1, RATE, opts)
         buffers, ones = ph.Buffers(10, RATE), singles(1)
         call = buffers.analyse_envelope
         self.refuses(1, "envelope: " + self.MOST, call, self.MANY, RATE)
@@ -490,7 +580,8 @@ class Refusals(unittest.TestCase):
         self.refuses(3, "clarity: 338 slots lent, 2,213 needed; Buffers(9, 48000, (5.0, 300.0)) has them", call, room(9), RATE, (5, 300))
         # what it says one can paste
         for opts, lags, told in (((30, math.nan), "10,876", "(30.0, float('nan'))"), ((-math.inf, 300), "11,213", "(None, 300.0)"),
-                                 ((None, None), "11,250", "(None, None)"), ((math.inf, -math.inf), "11,250", "(float('inf'), float('-inf'))")):
+                                 ((None, None), "11,250", "(None, None)"), ((math.inf, -math.inf), "11,250", "(float('inf'), float('-inf'))"),
+                                 ((None, 300, 3), "11,213", "(None, 300.0, 3)"), ((None, 300, 4), "11,213", "(None, 300.0)")):
             said = f"Buffers(9, 48000, {told})"
             self.refuses(3, f"clarity: 338 slots lent, {lags} needed; {said} has them", call, room(9), RATE, opts)
             self.assertEqual(f"{eval('ph.' + said).room.lags:,}", lags)
@@ -533,6 +624,7 @@ class Refusals(unittest.TestCase):
     def test_as_the_readme_says(self):
         text = self.README.read_text()
         for call, *words in ((ph.adaptive_threshold, pulses(4_096), room(4_095), room(21)), (ph.Buffers(1, 1).analyse_envelope, reals(1), 0),
+                             (ph.downbeats, reals(1), frames(0), frame_room(1), 17),
                              (ph.spectral_flux, singles(*range(7)), 4, 2, room(4)),
                              (ph.pick_onsets, room(17) + reals(math.nan), room(18), RATE, frame_room(18))):
             with self.assertRaises(ph.Refused) as caught:
@@ -579,7 +671,7 @@ class Declarations(unittest.TestCase):
             "median_of": (d, d), "mad_of": (d, 1.0, d), "spectral_flux": (f, 1, 1, d), "adaptive_threshold": (d, d, d),
             "pick_onsets": (d, d, 1, i), "suppress_close_peaks": (i, d, 1, i), "frame_times": (i, 1, d), "lag_range": (1, OPTS),
             "estimate": (d, 1, 1, OPTS, d, d, d), "stability_of": (d, 1, OPTS, 1, d, d, d), "beat_grid": (d, 1, d, i, i),
-            "downbeats": (d, i, i), "bar_beat_at": (1.0, d, d), "similarity": (d, 1, d), "novelty": (d, 1, d),
+            "downbeats": (d, i, i, 4), "bar_beat_at": (1.0, d, d), "similarity": (d, 1, d), "novelty": (d, 1, d),
             "boundaries": (d, 1, 1, 1, i, d), "boundary_times": (i, 1, 1, d), "patch_magnitudes": (f, 1, 1, 1, f, d, d, d),
             "patch_features": (d, 1, 1, d, d, d), "room_of": (1, 1, OPTS), "analyse_envelope": (d, 1, OPTS),
             "analyse_magnitudes": (f, 1, 1, 1, OPTS),
@@ -788,6 +880,15 @@ class Lending(unittest.TestCase):
         self.wrong(OverflowError, "period is -1, outside 0 to 45,000", ph.beat_grid, reals(1), -1, room(1), frame_room(1), frame_room(1))
         self.wrong(OverflowError, "length is -1, outside 1 to 2,147,483,648", ph.boundary_times, frames(1), -1, RATE, room(1))
         self.wrong(OverflowError, "gap is -1, outside 0 to 18,446,744,073,709,551,615", ph.suppress_close_peaks, frames(1), reals(1, 2), -1, frame_room(1))
+        for call, *words in ((ph.lag_range, RATE), (ph.room_of, 5, RATE), (ph.Buffers, 5, RATE), (ph.Buffers(5, RATE).analyse_envelope, reals(1), RATE)):
+            self.wrong(OverflowError, "meter is -1, outside 1 to 16", call, *words, ph.TempoOpts(meter=-1))
+            self.wrong(OverflowError, "meter is 18,446,744,073,709,551,620, outside 1 to 16", call, *words, (30, 300, 2 ** 64 + 4))
+            for meter, kind in ((4.0, "float"), ("4", "str"), (True, "bool"), (False, "bool"), (None, "NoneType")):
+                self.wrong(TypeError, f"meter must be a whole number, not {kind}", call, *words, (30, 300, meter))
+        self.wrong(OverflowError, "meter is -1, outside 1 to 16", ph.downbeats, reals(1), frames(0), frame_room(1), -1)
+        self.wrong(TypeError, "meter must be a whole number, not float", ph.downbeats, reals(1), frames(0), frame_room(1), 3.0)
+        self.wrong(TypeError, "meter must be a whole number, not bool", ph.downbeats, reals(1), frames(0), frame_room(1), True)
+        self.wrong(TypeError, "meter must be a whole number, not TempoOpts", ph.downbeats, reals(1), frames(0), frame_room(1), OPTS)
         self.wrong(TypeError, "rate must be a whole number, not float", ph.lag_range, 48_000.0)
         self.wrong(TypeError, "time must be a real number, not str", ph.bar_beat_at, "now", reals(), reals())
         self.wrong(TypeError, "median must be a real number, not NoneType", ph.mad_of, reals(1), None, room(1))
@@ -796,8 +897,11 @@ class Lending(unittest.TestCase):
     def test_bounds(self):
         self.assertEqual(ph.lag_range(RATE, (100, 200)), (56, 113))
         self.assertEqual(ph.room_of(30, RATE, [200, 100]).lags, 58)
-        self.wrong(TypeError, "opts must be a TempoOpts or a pair of numbers, not 120", ph.lag_range, RATE, 120)
-        self.wrong(TypeError, "opts must be a TempoOpts or a pair of numbers, not (1, 2, 3)", ph.room_of, 30, RATE, (1, 2, 3))
+        self.assertEqual(ph.lag_range(RATE, iter((100, 200, 3))), (56, 113))
+        said = "opts must be a TempoOpts, or a pair of bounds with or without a meter, not "
+        self.wrong(TypeError, said + "120", ph.lag_range, RATE, 120)
+        self.wrong(TypeError, said + "(1, 2, 3, 4)", ph.room_of, 30, RATE, (1, 2, 3, 4))
+        self.wrong(TypeError, said + "(1,)", ph.room_of, 30, RATE, (1,))
         self.wrong(TypeError, "max_bpm must be a real number, not str", ph.lag_range, RATE, (100, "200"))
 
     def test_empty_slices(self):
@@ -1021,7 +1125,7 @@ class Repairs(unittest.TestCase):
         for rows, bins, rate, opts, beat in (
             (0, 1, RATE, OPTS, 94), (1, 3, RATE, OPTS, 94), (30, 2, 1, OPTS, 3), (376, 1, RATE, OPTS, 94), (377, 1, RATE, OPTS, 94),
             (700, 2, 44_100, OPTS, 94), (1_300, 1, RATE, (30, 100), 73), (1_000, 1, 24_000, (300, 60), 60), (1_500, 1, RATE, (140, 300), 73),
-            (1_000, 1, RATE, OPTS, 0),
+            (1_000, 1, RATE, OPTS, 0), (1_300, 1, RATE, ph.TempoOpts(meter=3), 94), (1_300, 2, RATE, (40, 300, 7), 94),
         ):
             magnitudes, buffers, full = self.rows_of(rows, bins, beat, r), ph.Buffers(1_550, RATE), ph.Buffers(1_550, RATE)
             # another track's curves before

@@ -13,6 +13,8 @@
 
 /* two minutes of rows at 48,000 samples a second; a transform of 1,024 samples has 513 bins, and four do for clicks */
 enum { RATE = 48000, ROWS = 22500, BINS = 4, PERIOD = 94, FIRST = 5 };
+/* beats of a bar: 3 would be a waltz's */
+enum { METER = PROHUNSEV_DEFAULT_METER };
 /* the twenty seconds from 0:40 on, in rows, and how late they are */
 enum { BAD = 40 * RATE / PROHUNSEV_HOP, BAD_ROWS = 20 * RATE / PROHUNSEV_HOP, SLIP = 40 };
 
@@ -52,7 +54,7 @@ static void *room(size_t slots, size_t bytes)
 static void lend(struct track *t, size_t rows)
 {
     memset(t, 0, sizeof *t);
-    must(ph_room_of(rows, RATE, PROHUNSEV_MIN_BPM, PROHUNSEV_MAX_BPM, &t->row_slots, &t->lag_slots, &t->work_slots), "ph_room_of");
+    must(ph_room_of(rows, RATE, PROHUNSEV_MIN_BPM, PROHUNSEV_MAX_BPM, METER, &t->row_slots, &t->lag_slots, &t->work_slots), "ph_room_of");
     t->flux = room(t->row_slots, sizeof(double));
     t->threshold = room(t->row_slots, sizeof(double));
     t->score = room(t->row_slots, sizeof(double));
@@ -76,7 +78,7 @@ static void give_back(struct track *t)
 /* the analysis of rows */
 static void analyse(struct track *t, const float *magnitudes, size_t rows)
 {
-    must(ph_analyse_magnitudes(magnitudes, rows * BINS, rows, BINS, RATE, PROHUNSEV_MIN_BPM, PROHUNSEV_MAX_BPM, t->flux, t->row_slots,
+    must(ph_analyse_magnitudes(magnitudes, rows * BINS, rows, BINS, RATE, PROHUNSEV_MIN_BPM, PROHUNSEV_MAX_BPM, METER, t->flux, t->row_slots,
                                t->threshold, t->row_slots, t->onsets, t->row_slots, t->clarity_curve, t->lag_slots, t->weight_curve,
                                t->lag_slots, t->window_clarity, t->lag_slots, t->window_weight, t->lag_slots, t->score, t->row_slots, t->back,
                                t->row_slots, t->beats, t->row_slots, t->downbeats, t->row_slots, t->work, t->work_slots, &t->onset_count,
@@ -88,7 +90,7 @@ static void analyse(struct track *t, const float *magnitudes, size_t rows)
 /* the analysis of a flux that is there already, such as one that a patch has mended */
 static void analyse_flux(struct track *t, const double *flux, size_t rows)
 {
-    must(ph_analyse_envelope(flux, rows, RATE, PROHUNSEV_MIN_BPM, PROHUNSEV_MAX_BPM, t->threshold, t->row_slots, t->onsets, t->row_slots,
+    must(ph_analyse_envelope(flux, rows, RATE, PROHUNSEV_MIN_BPM, PROHUNSEV_MAX_BPM, METER, t->threshold, t->row_slots, t->onsets, t->row_slots,
                              t->clarity_curve, t->lag_slots, t->weight_curve, t->lag_slots, t->window_clarity, t->lag_slots,
                              t->window_weight, t->lag_slots, t->score, t->row_slots, t->back, t->row_slots, t->beats, t->row_slots,
                              t->downbeats, t->row_slots, t->work, t->work_slots, &t->onset_count, &t->found, &t->bpm, &t->clarity, t->lags,
@@ -101,17 +103,17 @@ static void analyse_flux(struct track *t, const double *flux, size_t rows)
 static void regrid(struct track *t, size_t rows)
 {
     must(ph_pick_onsets(t->flux, rows, t->threshold, rows, RATE, t->onsets, t->row_slots, &t->onset_count), "ph_pick_onsets");
-    must(ph_estimate(t->flux, rows, t->onset_count, RATE, PROHUNSEV_MIN_BPM, PROHUNSEV_MAX_BPM, t->clarity_curve, t->lag_slots,
+    must(ph_estimate(t->flux, rows, t->onset_count, RATE, PROHUNSEV_MIN_BPM, PROHUNSEV_MAX_BPM, METER, t->clarity_curve, t->lag_slots,
                      t->weight_curve, t->lag_slots, t->work, t->work_slots, &t->found, &t->bpm, &t->clarity, t->lags, t->saliences, &t->count),
          "ph_estimate");
     /* the winner's lag; 0 without a tempo, and then there is no stability and no beat */
     size_t lag = t->lags[0];
-    must(ph_stability_of(t->flux, rows, RATE, PROHUNSEV_MIN_BPM, PROHUNSEV_MAX_BPM, lag, t->window_clarity, t->lag_slots, t->window_weight,
+    must(ph_stability_of(t->flux, rows, RATE, PROHUNSEV_MIN_BPM, PROHUNSEV_MAX_BPM, METER, lag, t->window_clarity, t->lag_slots, t->window_weight,
                          t->lag_slots, t->work, t->work_slots, &t->steady, &t->fraction, &t->agreeing, &t->windows),
          "ph_stability_of");
     must(ph_beat_grid(t->flux, rows, lag, t->score, t->row_slots, t->back, t->row_slots, t->beats, t->row_slots, &t->beat_count),
          "ph_beat_grid");
-    must(ph_downbeats(t->flux, rows, t->beats, t->beat_count, t->downbeats, t->row_slots, &t->downbeat_count), "ph_downbeats");
+    must(ph_downbeats(t->flux, rows, t->beats, t->beat_count, METER, t->downbeats, t->row_slots, &t->downbeat_count), "ph_downbeats");
 }
 
 static double seconds(uint32_t frame)

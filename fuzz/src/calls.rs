@@ -21,6 +21,8 @@ pub struct Call {
     pub bound: fn(&mut Numbers, u64) -> Option<Vec<Arg>>,
     /// Which slots of each lent argument an answer may have changed, by argument; or what is wrong with the answer.
     pub reach: fn(&[Arg], &After) -> Reach,
+    /// The lent arguments that are chosen by the meter; in no other does it make a difference to an answer.
+    pub chosen: &'static [usize],
 }
 
 // how an exported function is handed its words, by the kind of each: s a slice, p a lent number, n size, u u32, l u64, f float
@@ -65,7 +67,10 @@ macro_rules! hand {
 }
 
 macro_rules! call {
-    ($name:ident, $function:ident, $module:ident, $refuses:tt, $($word:tt)*) => {
+    ($name:ident, $function:ident, $module:ident, $refuses:tt, $($word:ident)*) => {
+        call!($name, $function, $module, $refuses, $($word)*; [])
+    };
+    ($name:ident, $function:ident, $module:ident, $refuses:tt, $($word:ident)*; $chosen:tt) => {
         Call {
             name: stringify!($name),
             function: hand!($function, $($word)*),
@@ -73,6 +78,7 @@ macro_rules! call {
             draw: $module::draw,
             bound: $module::bound,
             reach: $module::reach,
+            chosen: &$chosen,
         }
     };
 }
@@ -91,11 +97,11 @@ pub const CALLS: [Call; 22] = [
     call!(pick_onsets, ph_pick_onsets, onsets, [1, 2, 3, 4], s s u s p),
     call!(suppress_close_peaks, ph_suppress_close_peaks, peaks, [1, 3, 4], s s n s p),
     call!(frame_times, ph_frame_times, times, [1, 3], s u s),
-    call!(lag_range, ph_lag_range, lags, [1], u f f p p),
-    call!(estimate, ph_estimate, tempo, [1, 3, 4], s n u f f s s s p p p p p p),
-    call!(stability_of, ph_stability_of, stability, [1, 3, 4], s u f f n s s s p p p p),
+    call!(lag_range, ph_lag_range, lags, [1], u f f n p p),
+    call!(estimate, ph_estimate, tempo, [1, 3, 4], s n u f f n s s s p p p p p p),
+    call!(stability_of, ph_stability_of, stability, [1, 3, 4], s u f f n n s s s p p p p),
     call!(beat_grid, ph_beat_grid, grid, [1, 3, 4], s n s s s p),
-    call!(downbeats, ph_downbeats, bars, [1, 3, 4], s s s p),
+    call!(downbeats, ph_downbeats, bars, [1, 3, 4], s s n s p; [3, 4]),
     call!(bar_beat_at, ph_bar_beat_at, places, [], f s s p p p),
     call!(similarity, ph_similarity, similarity, [1, 2, 3, 4], s n s),
     call!(novelty, ph_novelty, novelty, [1, 2, 3, 4], s n s),
@@ -103,22 +109,36 @@ pub const CALLS: [Call; 22] = [
     call!(boundary_times, ph_boundary_times, section_times, [1, 3], s l u s),
     call!(patch_magnitudes, ph_patch_magnitudes, magnitudes, [1, 2, 3, 4], s n n n s s s s p p p p),
     call!(patch_features, ph_patch_features, features, [1, 2, 3, 4], s n n s s s p p p p),
-    call!(room_of, ph_room_of, track_rooms, [1], n u f f p p p),
+    call!(room_of, ph_room_of, track_rooms, [1], n u f f n p p p),
     call!(
         analyse_envelope,
         ph_analyse_envelope,
         tracks,
         [1, 3, 4],
-        s u f f s s s s s s s s s s s p p p p p p p p p p p p p
+        s u f f n s s s s s s s s s s s p p p p p p p p p p p p p; [14, 28]
     ),
     call!(
         analyse_magnitudes,
         ph_analyse_magnitudes,
         slabs,
         [1, 2, 3, 4],
-        s n n u f f s s s s s s s s s s s s p p p p p p p p p p p p p
+        s n n u f f n s s s s s s s s s s s s p p p p p p p p p p p p p; [17, 31]
     ),
 ];
+
+/// The downbeats by a call that doesn't hand the meter on (misbehave.rs).
+pub const BARS_OF_FOUR: Call = Call {
+    name: "lists_every_fourth_beat",
+    // SAFETY: as above
+    function: |w| unsafe {
+        ph_downbeats(w[0].at(), w[0].slots(), w[1].at(), w[1].slots(), 4, w[3].at(), w[3].slots(), w[4].at())
+    },
+    refuses: &[1, 3, 4],
+    draw: |r| bars::draw(r).into_iter().map(|arg| if let Arg::Meter(_) = arg { Arg::Meter(3) } else { arg }).collect(),
+    bound: |_, _| None,
+    reach: bars::reach,
+    chosen: &[3, 4],
+};
 
 /// The bounds of the tempo, of a call that takes them: the only two floats side by side.
 pub fn bounds(args: &[Arg]) -> Option<[f64; 2]> {
@@ -133,6 +153,27 @@ pub fn with_usual_bounds(args: &[Arg]) -> Vec<Arg> {
     let mut bounds = usual.into_iter();
     let one = |arg: &Arg| if let Arg::Real(_) = arg { bounds.next() } else { None }.unwrap_or_else(|| arg.clone());
     args.iter().map(one).collect()
+}
+/// The beats of a bar, of a call that takes them.
+pub fn meter_of(args: &[Arg]) -> Option<usize> {
+    args.iter().find_map(|arg| if let Arg::Meter(meter) = arg { Some(*meter) } else { None })
+}
+/// Whether number 1 leaves a meter alone, as request No. 4 says it.
+pub fn is_meter(meter: usize) -> bool {
+    (1..=16).contains(&meter)
+}
+/// The same arguments with four beats to the bar.
+pub fn with_usual_meter(args: &[Arg]) -> Vec<Arg> {
+    args.iter().map(|arg| if let Arg::Meter(_) = arg { Arg::Meter(4) } else { arg.clone() }).collect()
+}
+// The downbeats of beats, by their rule: each meter-th, from the first of the first meter beats that makes the sum of their values greatest;
+// a beat past the envelope adds 0.
+fn bars_of(envelope: &[f64], beats: &[u32], meter: usize) -> Vec<u32> {
+    let of = |phase: usize| beats.iter().copied().skip(phase).step_by(meter);
+    let value = |beat: u32| envelope.get(beat as usize).copied().unwrap_or(0.0);
+    let sums: Vec<f64> = (0..meter).map(|phase| of(phase).fold(0.0, |sum, beat| sum + value(beat))).collect();
+    let first = (0..meter).fold(0, |best, phase| if sums[phase] > sums[best] { phase } else { best });
+    of(first).collect()
 }
 
 // ---- what the calls' arguments have in common
@@ -149,6 +190,14 @@ fn number(arg: &Arg) -> usize {
         _ => unreachable!("no whole number"),
     }
 }
+// of an answer, which no other meter has
+fn beats_of_a_bar(arg: &Arg) -> Result<usize, String> {
+    match arg {
+        Arg::Meter(meter) if is_meter(*meter) => Ok(*meter),
+        Arg::Meter(meter) => Err(format!("answers the meter {meter}")),
+        _ => unreachable!("no meter"),
+    }
+}
 fn real(arg: &Arg) -> f64 {
     match arg {
         Arg::Real(x) => *x,
@@ -163,6 +212,12 @@ fn floats(bytes: &[u8]) -> Vec<f64> {
 fn reals(arg: &Arg) -> Vec<f64> {
     match arg {
         Arg::Lent { values, .. } => floats(values),
+        _ => unreachable!("a number has no slots"),
+    }
+}
+fn frames(arg: &Arg) -> Vec<u32> {
+    match arg {
+        Arg::Lent { values, .. } => values.chunks(4).map(|b| u32::from_ne_bytes(b.try_into().unwrap())).collect(),
         _ => unreachable!("a number has no slots"),
     }
 }
@@ -343,15 +398,17 @@ mod times {
 mod lags {
     use super::*;
     pub fn draw(r: &mut Numbers) -> Vec<Arg> {
-        vec![whole(rate(r) as usize), Arg::Real(bpm(r)), Arg::Real(bpm(r)), cell::<usize>(), cell::<usize>()]
+        let (hertz, low, high) = (rate(r), bpm(r), bpm(r));
+        let opts = [Arg::Real(low), Arg::Real(high), Arg::Meter(meter(r))];
+        [whole(hertz as usize)].into_iter().chain(opts).chain([cell::<usize>(), cell::<usize>()]).collect()
     }
     pub fn bound(_: &mut Numbers, _: u64) -> Option<Vec<Arg>> {
         None
     }
     pub fn reach(_: &[Arg], after: &After) -> Reach {
-        let (least, most) = (after.whole(3), after.whole(4));
+        let (least, most) = (after.whole(4), after.whole(5));
         must(1 <= least && least < most && most <= MOST_PERIOD, "lags out of range")?;
-        Ok(vec![all(3), all(4)])
+        Ok(vec![all(4), all(5)])
     }
 }
 
@@ -427,15 +484,18 @@ mod tempo {
         let (rate, low, high, lags) = search(r);
         let envelope = searched(r, lags);
         let onsets = r.one_of(&[0, 1, 2, 3, 9, usize::MAX]);
-        call(rate, low, high, &envelope, onsets, [room(r, lags), room(r, lags), room(r, lags)])
+        let rooms = [room(r, lags), room(r, lags), room(r, lags)];
+        call(rate, [low, high], meter(r), &envelope, onsets, rooms)
     }
     pub fn bound(_: &mut Numbers, k: u64) -> Option<Vec<Arg>> {
         let (rate, low, high, n) = widest(k)?;
         let lags = rooms::lags(rate, TempoOpts::between(low, high)).unwrap();
-        Some(call(rate, low, high, &steady(n), 9, [lags; 3]))
+        Some(call(rate, [low, high], 4, &steady(n), 9, [lags; 3]))
     }
-    fn call(rate: u32, low: f64, high: f64, envelope: &[f64], onsets: usize, rooms: [usize; 3]) -> Vec<Arg> {
-        let mut args = vec![input(envelope), whole(onsets), whole(rate as usize), Arg::Real(low), Arg::Real(high)];
+    fn call(rate: u32, bounds: [f64; 2], meter: usize, envelope: &[f64], onsets: usize, rooms: [usize; 3]) -> Vec<Arg> {
+        let mut args = vec![input(envelope), whole(onsets), whole(rate as usize)];
+        args.extend(bounds.map(Arg::Real));
+        args.push(Arg::Meter(meter));
         args.extend(rooms.map(output::<f64>));
         args.extend(tempo_cells());
         args
@@ -443,11 +503,11 @@ mod tempo {
     pub fn reach(a: &[Arg], after: &After) -> Reach {
         let opts = TempoOpts::between(real(&a[3]), real(&a[4]));
         let range = lag_range(number(&a[2]) as u32, opts).map_err(|e| e.to_string())?;
-        tempo_fits(after, 8, range)?;
+        tempo_fits(after, 9, range)?;
         // the work slice is asked for and left alone
         let curves = heard_at(&reals(&a[0]), number(&a[1]), range);
-        let mut reach = vec![(5, curves.clone()), (6, curves)];
-        reach.extend((8..=13).map(all));
+        let mut reach = vec![(6, curves.clone()), (7, curves)];
+        reach.extend((9..=14).map(all));
         Ok(reach)
     }
 }
@@ -459,15 +519,18 @@ mod stability {
         let envelope = searched(r, lags);
         let right = r.between(0, 2 * lags + 40);
         let lag = if r.once_in(10) { r.one_of(&[0, 45_000, 45_001, usize::MAX]) } else { right };
-        call(rate, low, high, &envelope, lag, [room(r, lags), room(r, lags), room(r, lags)])
+        let rooms = [room(r, lags), room(r, lags), room(r, lags)];
+        call(rate, [low, high], meter(r), &envelope, lag, rooms)
     }
     pub fn bound(_: &mut Numbers, k: u64) -> Option<Vec<Arg>> {
         let (rate, low, high, n) = widest(k)?;
         let lags = rooms::lags(rate, TempoOpts::between(low, high)).unwrap();
-        Some(call(rate, low, high, &steady(n), 2, [lags; 3]))
+        Some(call(rate, [low, high], 4, &steady(n), 2, [lags; 3]))
     }
-    fn call(rate: u32, low: f64, high: f64, envelope: &[f64], lag: usize, rooms: [usize; 3]) -> Vec<Arg> {
-        let mut args = vec![input(envelope), whole(rate as usize), Arg::Real(low), Arg::Real(high), whole(lag)];
+    fn call(rate: u32, bounds: [f64; 2], meter: usize, envelope: &[f64], lag: usize, rooms: [usize; 3]) -> Vec<Arg> {
+        let mut args = vec![input(envelope), whole(rate as usize)];
+        args.extend(bounds.map(Arg::Real));
+        args.extend([Arg::Meter(meter), whole(lag)]);
         args.extend(rooms.map(output::<f64>));
         args.extend(stability_cells());
         args
@@ -475,10 +538,10 @@ mod stability {
     pub fn reach(a: &[Arg], after: &After) -> Reach {
         let opts = TempoOpts::between(real(&a[2]), real(&a[3]));
         let lags = rooms::lags(number(&a[1]) as u32, opts).map_err(|e| e.to_string())?;
-        stability_fits(after, 8)?;
+        stability_fits(after, 9)?;
         // without a stability no window was searched
-        let searched = if after.whole(8) == 1 { 0..lags } else { 0..0 };
-        Ok((5..=7).map(|k| (k, searched.clone())).chain((8..=11).map(all)).collect())
+        let searched = if after.whole(9) == 1 { 0..lags } else { 0..0 };
+        Ok((6..=8).map(|k| (k, searched.clone())).chain((9..=12).map(all)).collect())
     }
 }
 
@@ -525,16 +588,22 @@ mod bars {
         let (n, m) = (length(r), length(r));
         let past = r.between(1, 2 * n + 1);
         let beats: Vec<u32> = (0..m).map(|_| frame(r, past)).collect();
-        vec![input(&values::<f64>(r, n)), input(&beats), output::<u32>(room(r, m)), cell::<usize>()]
+        let (envelope, room) = (values::<f64>(r, n), room(r, m));
+        vec![input(&envelope), input(&beats), Arg::Meter(meter(r)), output::<u32>(room), cell::<usize>()]
     }
     pub fn bound(_: &mut Numbers, k: u64) -> Option<Vec<Arg>> {
-        let n = around(k, MOST_ROWS)?;
+        // the usual meter, and then the least and the most
+        let (n, meter) =
+            [4, 1, 16].into_iter().flat_map(|m| (0..3).map(move |k| (around(k, MOST_ROWS), m))).nth(k as usize)?;
         let beats: Vec<u32> = (0..MOST_ROWS as u32).rev().collect();
-        Some(vec![input(&steady(n)), input(&beats), output::<u32>(beats.len()), cell::<usize>()])
+        let (envelope, frames) = (input(&steady(n?)), output::<u32>(beats.len()));
+        Some(vec![envelope, input(&beats), Arg::Meter(meter), frames, cell::<usize>()])
     }
     pub fn reach(a: &[Arg], after: &After) -> Reach {
-        let count = counted(after, 3, slots(&a[1]).div_ceil(4))?;
-        Ok(vec![(2, 0..count), all(3)])
+        let (beats, meter) = (frames(&a[1]), beats_of_a_bar(&a[2])?);
+        let count = counted(after, 4, beats.len().div_ceil(meter))?;
+        must(after.frames(3, count) == bars_of(&reals(&a[0]), &beats, meter), "other downbeats than the beats give")?;
+        Ok(vec![(3, 0..count), all(4)])
     }
 }
 
@@ -802,13 +871,16 @@ mod track_rooms {
     use super::*;
     pub fn draw(r: &mut Numbers) -> Vec<Arg> {
         let rows = length(r);
-        call(count(r, rows), rate(r), bpm(r), bpm(r))
+        let (rows, rate, bounds) = (count(r, rows), rate(r), [bpm(r), bpm(r)]);
+        call(rows, rate, bounds, meter(r))
     }
     pub fn bound(_: &mut Numbers, k: u64) -> Option<Vec<Arg>> {
-        Some(call(around(k, MOST_ROWS)?, 48_000, 30.0, 300.0))
+        Some(call(around(k, MOST_ROWS)?, 48_000, [30.0, 300.0], 4))
     }
-    fn call(rows: usize, rate: u32, low: f64, high: f64) -> Vec<Arg> {
-        let mut args = vec![whole(rows), whole(rate as usize), Arg::Real(low), Arg::Real(high)];
+    fn call(rows: usize, rate: u32, bounds: [f64; 2], meter: usize) -> Vec<Arg> {
+        let mut args = vec![whole(rows), whole(rate as usize)];
+        args.extend(bounds.map(Arg::Real));
+        args.push(Arg::Meter(meter));
         args.extend([(); 3].map(|_| cell::<usize>()));
         args
     }
@@ -816,8 +888,8 @@ mod track_rooms {
         let (rows, rate) = (number(&a[0]), number(&a[1]) as u32);
         let lags = rooms::lags(rate, TempoOpts::between(real(&a[2]), real(&a[3]))).map_err(|e| e.to_string())?;
         let need = [rows, lags, lags.max(rows.min(21))];
-        must([4, 5, 6].map(|k| after.whole(k)) == need, "another room than the calls of its own ask for")?;
-        Ok((4..=6).map(all).collect())
+        must([5, 6, 7].map(|k| after.whole(k)) == need, "another room than the calls of its own ask for")?;
+        Ok((5..=7).map(all).collect())
     }
 }
 
@@ -851,7 +923,7 @@ fn lend_track(args: &mut Vec<Arg>, rooms: [usize; TRACK_SLICES]) {
     args.extend([cell::<usize>(), cell::<usize>()]);
 }
 // what a track with this envelope may have changed, its thresholds being argument k
-fn track_reach(after: &After, k: usize, envelope: &[f64], range: LagRange) -> Reach {
+fn track_reach(after: &After, k: usize, envelope: &[f64], range: LagRange, meter: usize) -> Reach {
     let (n, first) = (envelope.len(), k + TRACK_SLICES);
     let [onsets, found, steady, beats, bars] = [0, 1, 7, 11, 12].map(|i| first + i);
     let heard = counted(after, onsets, n)?;
@@ -862,9 +934,8 @@ fn track_reach(after: &After, k: usize, envelope: &[f64], range: LagRange) -> Re
     let laid = counted(after, beats, n)?;
     let laid_frames = after.frames(k + 8, laid);
     ascend(&laid_frames, n)?;
-    let begun = counted(after, bars, laid.div_ceil(4))?;
-    let among = after.frames(k + 9, begun).iter().all(|d| laid_frames.binary_search(d).is_ok());
-    must(among, "a downbeat that is no beat")?;
+    let begun = counted(after, bars, laid.div_ceil(meter))?;
+    must(after.frames(k + 9, begun) == bars_of(envelope, &laid_frames, meter), "other downbeats than the beats give")?;
     must(after.whole(found) == 1 || after.whole(steady) == 0 && laid == 0, "no tempo, but a stability or beats")?;
 
     let curves = heard_at(envelope, heard, range);
@@ -896,23 +967,25 @@ mod tracks {
         let mut envelope = searched(r, lags);
         envelope.truncate(TRACK_FRAMES);
         let rooms = track_room(r, envelope.len(), lags);
-        call(&envelope, rate, low, high, rooms)
+        call(&envelope, rate, [low, high], meter(r), rooms)
     }
     pub fn bound(_: &mut Numbers, k: u64) -> Option<Vec<Arg>> {
         let tracks = [(1, 30.0, 300.0, MOST_ROWS), (1, 30.0, 300.0, MOST_ROWS + 1), (192_000, 1.0, 2.0, TRACK_FRAMES)];
         let (rate, low, high, n) = *tracks.get(k as usize)?;
         let lags = rooms::lags(rate, TempoOpts::between(low, high)).unwrap();
-        Some(call(&steady(n), rate, low, high, track_needs(n, lags)))
+        Some(call(&steady(n), rate, [low, high], 4, track_needs(n, lags)))
     }
-    fn call(envelope: &[f64], rate: u32, low: f64, high: f64, rooms: [usize; TRACK_SLICES]) -> Vec<Arg> {
-        let mut args = vec![input(envelope), whole(rate as usize), Arg::Real(low), Arg::Real(high)];
+    fn call(envelope: &[f64], rate: u32, bounds: [f64; 2], meter: usize, rooms: [usize; TRACK_SLICES]) -> Vec<Arg> {
+        let mut args = vec![input(envelope), whole(rate as usize)];
+        args.extend(bounds.map(Arg::Real));
+        args.push(Arg::Meter(meter));
         lend_track(&mut args, rooms);
         args
     }
     pub fn reach(a: &[Arg], after: &After) -> Reach {
         let opts = TempoOpts::between(real(&a[2]), real(&a[3]));
         let range = lag_range(number(&a[1]) as u32, opts).map_err(|e| e.to_string())?;
-        track_reach(after, 4, &reals(&a[0]), range)
+        track_reach(after, 5, &reals(&a[0]), range, beats_of_a_bar(&a[4])?)
     }
 }
 
@@ -928,26 +1001,28 @@ mod slabs {
         }
         let flux = if r.once_in(20) { room(r, rows) } else { rows + r.between(0, 3) };
         let rooms = track_room(r, rows, lags);
-        call(&slab, [count(r, rows), count(r, bins)], rate, [low, high], flux, rooms)
+        let told = [count(r, rows), count(r, bins)];
+        call(&slab, told, rate, [low, high], meter(r), flux, rooms)
     }
     pub fn bound(_: &mut Numbers, k: u64) -> Option<Vec<Arg>> {
         let shapes = [(MOST_ROWS, 1), (MOST_ROWS + 1, 1), (300, MOST_BINS), (300, MOST_BINS + 1)];
         let (rows, bins) = *shapes.get(k as usize)?;
         let slab: Vec<f32> = (0..rows * bins).map(|i| if i / bins % 16 == 3 { 9.0 } else { 0.0 }).collect();
         let lags = rooms::lags(900, TempoOpts::new()).unwrap();
-        Some(call(&slab, [rows, bins], 900, [30.0, 300.0], rows, track_needs(rows, lags)))
+        Some(call(&slab, [rows, bins], 900, [30.0, 300.0], 4, rows, track_needs(rows, lags)))
     }
     fn call(
         slab: &[f32],
         told: [usize; 2],
         rate: u32,
         bounds: [f64; 2],
+        meter: usize,
         flux: usize,
         rooms: [usize; TRACK_SLICES],
     ) -> Vec<Arg> {
         let mut args = vec![input(slab), whole(told[0]), whole(told[1]), whole(rate as usize)];
         args.extend(bounds.map(Arg::Real));
-        args.push(output::<f64>(flux));
+        args.extend([Arg::Meter(meter), output::<f64>(flux)]);
         lend_track(&mut args, rooms);
         args
     }
@@ -955,9 +1030,9 @@ mod slabs {
         let opts = TempoOpts::between(real(&a[4]), real(&a[5]));
         let range = lag_range(number(&a[3]) as u32, opts).map_err(|e| e.to_string())?;
         let rows = number(&a[1]);
-        let flux = floats(&after.held[6][..8 * rows]);
-        let mut reach = track_reach(after, 7, &flux, range)?;
-        reach.push((6, 0..rows));
+        let flux = floats(&after.held[7][..8 * rows]);
+        let mut reach = track_reach(after, 8, &flux, range, beats_of_a_bar(&a[6])?)?;
+        reach.push((7, 0..rows));
         Ok(reach)
     }
 }

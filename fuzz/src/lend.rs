@@ -12,6 +12,8 @@ pub enum Arg {
     /// A number by value: a count, a rate, or the bits of a float.
     Whole(u64),
     Real(f64),
+    /// Beats of a bar, a number by value too.
+    Meter(usize),
     /// Lent memory of so many slots: what the first of them hold before the call, while the others are room, and whether it may be
     /// written.
     Lent {
@@ -264,6 +266,7 @@ pub fn call(
     for (k, (arg, bytes)) in args.iter().zip(lent).enumerate() {
         let (word, region) = match arg {
             Arg::Whole(n) => (Word::Whole(*n), None),
+            Arg::Meter(n) => (Word::Whole(*n as u64), None),
             Arg::Real(x) => (Word::Real(*x), None),
             Arg::Lent { slots, written, .. } => {
                 let mut region = pool.region(k, bytes.len(), *written);

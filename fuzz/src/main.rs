@@ -1,8 +1,10 @@
 //! Guarded runs: the exported functions on random and damaged input, with every lent slice against an unmapped page, once behind it and
 //! once before it. No read or write may go outside what was lent, no input may be written, a refusal may change nothing, and an answer
 //! may change nothing past its count or its formula; and neither the place of the memory nor what room held may make a difference. A call
-//! gives no number of refusal that it doesn't have, and none for a bound of the tempo, which may be any float; and among 2,000 inputs and
-//! more it answers, with such bounds too, and refuses with each number that it has, while NaNs show that slots stay.
+//! gives no number of refusal that it doesn't have, and none for a bound of the tempo, which may be any float; it refuses a meter outside 1
+//! to 16 with 1, and no other, and the meter makes no difference but to downbeats, which are those of their rule; and among 2,000 inputs and
+//! more it answers, with such bounds and with other meters than 4 too, and refuses with each number that it has, and for a meter alone, while
+//! NaNs show that slots stay.
 //!
 //!   fuzz run SEED COUNT [CALL]    COUNT inputs a call, and those at the bounds; the last line is 'N calls, 0 faults', or the exit is not 0
 //!   fuzz case CALL SEED NUMBER    one of the inputs again, and what came of it; `fuzz case CALL bound NUMBER` for one at the bounds
@@ -97,20 +99,22 @@ fn slots(made: &Made, k: usize, kind: Kind) -> impl Iterator<Item = (&[u8], &[u8
     made.lent[k].chunks(kind.bytes).zip(made.after.held[k].chunks(kind.bytes))
 }
 
-// whether two calls did the same: each slot stayed in both, or holds the same bits after both
-fn alike(args: &[Arg], one: &Made, other: &Made) -> bool {
+// whether two calls did the same, but for these arguments: each slot stayed in both, or holds the same bits after both
+fn alike(args: &[Arg], one: &Made, other: &Made, but: &[usize]) -> bool {
     let same = |(k, arg): (usize, &Arg)| {
         let Arg::Lent { kind, written: true, .. } = arg else { return true };
-        slots(one, k, *kind).zip(slots(other, k, *kind)).all(|((a, b), (c, d))| b == d || a == b && c == d)
+        but.contains(&k)
+            || slots(one, k, *kind).zip(slots(other, k, *kind)).all(|((a, b), (c, d))| b == d || a == b && c == d)
     };
     one.after.number == other.after.number && args.iter().enumerate().all(same)
 }
 
-/// What came of an input: the number, the calls made, and whether NaNs showed that slots stay.
+/// What came of an input: the number, the calls made, whether NaNs showed that slots stay, and whether it is refused for its meter alone.
 struct Came {
     number: u32,
     calls: u64,
     shown: bool,
+    for_meter: bool,
 }
 
 /// The calls on one input: what came of them, or what is wrong.
@@ -122,20 +126,38 @@ fn tried(call: &Call, case: Case, args: &[Arg], pool: &mut Pool) -> Result<Came,
         Ok::<_, String>(Made { lent, after, shown })
     };
     let (one, other) = (made(args, Guard::Behind, Fill::Nans)?, made(args, Guard::Before, Fill::Bytes)?);
-    if !alike(args, &one, &other) {
+    if !alike(args, &one, &other, &[]) {
         return Err("the same input in other memory gives another outcome".into());
     }
     let (number, shown) = (one.after.number, one.shown);
-    if number == 1 && calls::bounds(args).is_some() {
+    let (mut calls, mut for_meter) = (2, false);
+    if let Some(meter) = calls::meter_of(args).filter(|&meter| meter != 4) {
+        if !calls::is_meter(meter) && number != 1 {
+            return Err(format!("gives {number} for the meter {meter}, and not 1"));
+        }
+        // with the usual one: what is refused for its meter is not, and all else stays but what is chosen by it
+        let usual = made(&calls::with_usual_meter(args), Guard::Behind, Fill::Nans)?;
+        calls += 1;
+        if calls::is_meter(meter) {
+            if usual.after.number != number {
+                return Err(format!("gives {number} for the meter {meter}, and {} for 4", usual.after.number));
+            }
+            if !alike(args, &one, &usual, call.chosen) {
+                return Err("the meter makes a difference to more than downbeats".into());
+            }
+        }
+        for_meter = usual.after.number == 0 && number == 1;
+    }
+    if number == 1 && !for_meter && calls::bounds(args).is_some() {
         // no bound is out of bounds, so the usual ones are refused too
         let usual = made(&calls::with_usual_bounds(args), Guard::Behind, Fill::Nans)?;
+        calls += 1;
         if usual.after.number != 1 {
             return Err("refuses a bound of the tempo".into());
         }
-        return Ok(Came { number, calls: 3, shown });
     }
     if number == 0 || !args.iter().any(Arg::is_changed) {
-        return Ok(Came { number, calls: 2, shown });
+        return Ok(Came { number, calls, shown, for_meter });
     }
     // It stays this refusal where what the call was lent to change is NaNs: numbers 1 to 3 come before a look at values, and number 4 is
     // theirs too.
@@ -143,7 +165,7 @@ fn tried(call: &Call, case: Case, args: &[Arg], pool: &mut Pool) -> Result<Came,
     if refused.after.number != number {
         return Err(format!("with NaNs to change it gives {} in place of {number}", refused.after.number));
     }
-    Ok(Came { number, calls: 3, shown: refused.shown })
+    Ok(Came { number, calls: calls + 1, shown: refused.shown, for_meter })
 }
 
 #[derive(Default)]
@@ -156,6 +178,10 @@ struct Tally {
     // whether it takes bounds of the tempo, and the answers with one that isn't finite
     bounds: bool,
     open: u64,
+    // whether it takes a meter, the answers with another than 4, and the refusals for the meter alone
+    meter: bool,
+    other: u64,
+    for_meter: u64,
     faults: u64,
 }
 
@@ -168,10 +194,14 @@ fn all_of(call: &Call, seed: u64, count: u64, pool: &mut Pool) -> Tally {
         tally.floats |= args.iter().any(|arg| matches!(arg, Arg::Lent { kind, written: true, .. } if kind.float));
         let bounds = calls::bounds(&args);
         tally.bounds |= bounds.is_some();
+        let meter = calls::meter_of(&args);
+        tally.meter |= meter.is_some();
         match tried(call, case, &args, pool) {
             Ok(came) => {
                 let open = came.number == 0 && bounds.is_some_and(|pair| pair.iter().any(|bound| !bound.is_finite()));
                 tally.open += u64::from(open);
+                tally.other += u64::from(came.number == 0 && meter.is_some_and(|meter| meter != 4));
+                tally.for_meter += u64::from(came.for_meter);
                 tally.numbers[came.number as usize] += came.calls;
                 tally.shown[came.number as usize] += u64::from(came.shown);
             }
@@ -203,8 +233,13 @@ fn never(call: &Call, tally: &Tally) -> Vec<String> {
             None
         }
     };
-    let open = (tally.bounds && tally.open == 0).then(|| "never answered with a bound that isn't finite".into());
-    [0].iter().chain(call.refuses).filter_map(lacks).chain(open).collect()
+    let others = [
+        (tally.bounds && tally.open == 0, "never answered with a bound that isn't finite"),
+        (tally.meter && tally.other == 0, "never answered with another meter than 4"),
+        (tally.meter && tally.for_meter == 0, "never refused with 1 for the meter alone"),
+    ];
+    let others = others.into_iter().filter(|other| other.0).map(|(_, what)| what.into());
+    [0].iter().chain(call.refuses).filter_map(lacks).chain(others).collect()
 }
 
 fn run(list: &[&Call], seed: u64, count: u64) -> bool {

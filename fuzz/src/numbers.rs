@@ -203,3 +203,14 @@ pub fn bpm(r: &mut Numbers) -> f64 {
         _ => 30.0 + r.share() * 270.0,
     }
 }
+
+/// Beats of a bar: the usual four, any from 1 to 16, or one that is none, among them some that are 4 in fewer bits.
+pub fn meter(r: &mut Numbers) -> usize {
+    match r.between(0, 19) {
+        0 => r.one_of(&[0, 17, 18, 255, 260, (1 << 16) + 4, (1 << 32) + 4, (1 << 63) + 4, usize::MAX]),
+        1 => r.one_of(&[0, 17]),
+        2..=4 => r.one_of(&[1, 2, 3, 15, 16]),
+        5..=12 => r.between(1, 16),
+        _ => 4,
+    }
+}

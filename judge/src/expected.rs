@@ -120,7 +120,7 @@ pub fn lags(rate: u32, min_bpm: f64, max_bpm: f64) -> (usize, usize) {
 }
 
 pub fn lag_range(f: &[Field]) -> Expected {
-    let number = table::lag_range(f[0].whole());
+    let number = table::lag_range(f[0].whole(), f[3].whole());
     let mut answers = vec![cell::<usize>(); 2];
     if number == 0 {
         let (min, max) = lags(f[0].small(), f[1].real(), f[2].real());
@@ -136,8 +136,8 @@ fn lag_count(rate: u32, bpm: (f64, f64)) -> usize {
 
 pub fn estimate(f: &[Field]) -> Expected {
     let (envelope, rate, bpm) = (f[0].reals(), f[2].small(), (f[3].real(), f[4].real()));
-    let rooms = [f[5].size(), f[6].size(), f[7].size()];
-    let number = table::estimate(envelope, f[2].whole(), rooms, || lag_count(rate, bpm));
+    let rooms = [f[6].size(), f[7].size(), f[8].size()];
+    let number = table::estimate(envelope, f[2].whole(), f[5].whole(), rooms, || lag_count(rate, bpm));
     let mut curves = (vec![], vec![]);
     let mut answers = vec![cell::<u32>(), cell::<f64>(), cell::<f64>(), cell::<usize>()];
     let mut pairs = (poisoned::<usize>(3), poisoned::<f64>(3));
@@ -165,9 +165,9 @@ pub fn estimate(f: &[Field]) -> Expected {
 }
 
 pub fn stability_of(f: &[Field]) -> Expected {
-    let (envelope, rate, bpm, whole_lag) = (f[0].reals(), f[1].small(), (f[2].real(), f[3].real()), f[4].size());
-    let rooms = [f[5].size(), f[6].size(), f[7].size()];
-    let number = table::stability_of(envelope, f[1].whole(), f[4].whole(), rooms, || lag_count(rate, bpm));
+    let (envelope, rate, bpm, whole_lag) = (f[0].reals(), f[1].small(), (f[2].real(), f[3].real()), f[5].size());
+    let rooms = [f[6].size(), f[7].size(), f[8].size()];
+    let number = table::stability_of(envelope, f[1].whole(), f[4].whole(), f[5].whole(), rooms, || lag_count(rate, bpm));
     let mut answers = vec![cell::<u32>(), cell::<f64>(), cell::<usize>(), cell::<usize>()];
     // lag room is open only where windows are searched
     let mut formula = 0;
@@ -203,7 +203,7 @@ pub fn beat_grid(f: &[Field]) -> Expected {
 
 pub fn room_of(f: &[Field]) -> Expected {
     let bpm = (f[2].real(), f[3].real());
-    let number = table::room_of(f[0].whole(), f[1].whole());
+    let number = table::room_of(f[0].whole(), f[1].whole(), f[4].whole());
     let mut answers = [cell::<usize>(); 3];
     if number == 0 {
         let lags = lag_count(f[1].small(), bpm);
@@ -218,10 +218,11 @@ fn track_room(f: &[Field]) -> table::TrackRoom {
 }
 
 // A whole track from its envelope: the Rust's functions one after the other. `f` are the lent rooms.
-fn track(number: u32, envelope: &[f64], rate: u32, bpm: (f64, f64), f: &[Field]) -> Expected {
+fn track(number: u32, envelope: &[f64], rate: u32, bpm: (f64, f64), meter: &Field, f: &[Field]) -> Expected {
     let room_at = |k: usize| f[k].size();
     let field = |n: usize| Field::Whole(n as u64);
-    let (hertz, low, high) = (field(rate as usize), Field::Real(bpm.0), Field::Real(bpm.1));
+    let hertz = field(rate as usize);
+    let opts = [Field::Real(bpm.0), Field::Real(bpm.1), meter.clone()];
     let lent = || Field::Reals(envelope.to_vec());
     let mut answers = vec![cell::<usize>(); 11];
     (answers[1], answers[5]) = (cell::<u32>(), cell::<u32>());
@@ -240,7 +241,7 @@ fn track(number: u32, envelope: &[f64], rate: u32, bpm: (f64, f64), f: &[Field])
     slots[0] = listed(room_at(0), &threshold);
     slots[1] = listed(room_at(1), &frames(&heard));
     let curves = [field(room_at(2)), field(room_at(3)), field(lags)];
-    let found = estimate(&[&[lent(), field(heard.len()), hertz.clone(), low.clone(), high.clone()][..], &curves].concat());
+    let found = estimate(&[&[lent(), field(heard.len()), hertz.clone()][..], &opts, &curves].concat());
     answers = vec![0; 11];
     answers[0] = heard.len().bits();
     answers[1..5].copy_from_slice(&found.answers);
@@ -249,7 +250,7 @@ fn track(number: u32, envelope: &[f64], rate: u32, bpm: (f64, f64), f: &[Field])
     if answers[1] == 1 {
         let lag = Field::Whole(slots[11].bits[0]);
         let enough = [field(lags), field(lags), field(lags)];
-        let steady = stability_of(&[&[lent(), hertz, low, high, lag.clone()][..], &enough].concat());
+        let steady = stability_of(&[&[lent(), hertz][..], &opts, &[lag.clone()], &enough].concat());
         answers[5..9].copy_from_slice(&steady.answers);
         if answers[5] == 1 {
             (slots[4].open, slots[5].open) = (lags, lags);
@@ -260,7 +261,7 @@ fn track(number: u32, envelope: &[f64], rate: u32, bpm: (f64, f64), f: &[Field])
         let beats: Vec<u32> = grid.slots[2].bits.iter().take(answers[9] as usize).map(|&t| t as u32).collect();
         let [score, back, list] = grid.slots.try_into().ok().unwrap();
         (slots[6], slots[7], slots[8]) = (score, back, list);
-        let bars = downbeats(&[lent(), Field::Frames(beats), field(room_at(9))]);
+        let bars = downbeats(&[lent(), Field::Frames(beats), meter.clone(), field(room_at(9))]);
         answers[10] = bars.answers[0];
         slots[9] = bars.slots.into_iter().next().unwrap();
     }
@@ -269,31 +270,27 @@ fn track(number: u32, envelope: &[f64], rate: u32, bpm: (f64, f64), f: &[Field])
 
 pub fn analyse_envelope(f: &[Field]) -> Expected {
     let (rate, bpm) = (f[1].small(), (f[2].real(), f[3].real()));
-    let number = table::analyse_envelope(f[0].reals(), f[1].whole(), &track_room(&f[4..]), || lag_count(rate, bpm));
-    track(number, f[0].reals(), rate, bpm, &f[4..])
+    let number = table::analyse_envelope(f[0].reals(), f[1].whole(), f[4].whole(), &track_room(&f[5..]), || lag_count(rate, bpm));
+    track(number, f[0].reals(), rate, bpm, &f[4], &f[5..])
 }
 
 pub fn analyse_magnitudes(f: &[Field]) -> Expected {
-    let (rate, bpm, flux_room) = (f[3].small(), (f[4].real(), f[5].real()), f[6].size());
+    let (rate, bpm, flux_room) = (f[3].small(), (f[4].real(), f[5].real()), f[7].size());
     let lags = || lag_count(rate, bpm);
-    let room = track_room(&f[7..]);
-    let number = table::analyse_magnitudes(f[0].singles(), f[1].whole(), f[2].whole(), f[3].whole(), flux_room, &room, lags);
+    let room = track_room(&f[8..]);
+    let [rows, bins, hertz, meter] = [1, 2, 3, 6].map(|k: usize| f[k].whole());
+    let number = table::analyse_magnitudes(f[0].singles(), rows, bins, hertz, meter, flux_room, &room, lags);
     let flux = if number == 0 { flux_of(f[0].singles(), f[1].size(), f[2].size()) } else { vec![] };
-    let mut e = track(number, &flux, rate, bpm, &f[7..]);
+    let mut e = track(number, &flux, rate, bpm, &f[6], &f[8..]);
     e.slots.insert(0, listed(flux_room, &flux));
     e
 }
 
 pub fn downbeats(f: &[Field]) -> Expected {
-    let number = table::downbeats(f[0].reals(), f[1].frames(), f[2].size());
-    let mut bars = vec![];
-    if number == 0 {
-        let beats = indices(f[1].frames());
-        let phase = tempo::open::downbeat_phase(f[0].reals(), &beats, DEFAULT_BEATS_PER_BAR);
-        // as `estimate_from_parts` filters its beats
-        bars = beats.into_iter().enumerate().filter(|(i, _)| i % DEFAULT_BEATS_PER_BAR == phase).map(|(_, t)| t).collect();
-    }
-    list(number, &bars, f[2].size())
+    let number = table::downbeats(f[0].reals(), f[1].frames(), f[2].whole(), f[3].size());
+    // the Rust has no meter: its lines with another number in the place of their 4
+    let bars = if number == 0 { tempo::bars::downbeats(f[0].reals(), &indices(f[1].frames()), f[2].size()) } else { vec![] };
+    list(number, &bars, f[3].size())
 }
 
 pub fn bar_beat_at(f: &[Field]) -> Expected {

@@ -14,6 +14,9 @@ fn size(n: usize) -> Field {
     Whole(n as u64)
 }
 
+// the usual meter; `other_meters` and main.rs have the others
+const FOUR: Field = Whole(4);
+
 // every list over these values up to a length
 fn lists<T: Copy>(values: &[T], most: usize, each: &mut dyn FnMut(&[T])) {
     fn go<T: Copy>(values: &[T], list: &mut Vec<T>, most: usize, each: &mut dyn FnMut(&[T])) {
@@ -203,18 +206,18 @@ pub fn frame_times(r: &mut Numbers) -> Fields {
 
 pub fn all_lag_ranges(each: &mut dyn FnMut(Fields)) {
     for rate in 0..=192_001 {
-        each(vec![Whole(rate), Real(30.0), Real(300.0)]);
+        each(vec![Whole(rate), Real(30.0), Real(300.0), FOUR]);
     }
     for low in 0..200 {
         for high in 0..200 {
-            each(vec![Whole(48_000), Real(low as f64), Real(high as f64)]);
+            each(vec![Whole(48_000), Real(low as f64), Real(high as f64), FOUR]);
         }
     }
 }
 
 pub fn lag_range(r: &mut Numbers) -> Fields {
     let (low, high) = bpm(r);
-    vec![Whole(rate(r)), Real(low), Real(high)]
+    vec![Whole(rate(r)), Real(low), Real(high), FOUR]
 }
 
 // the lags of a search, some where its rate is refused
@@ -230,11 +233,11 @@ fn lag_rooms(r: &mut Numbers, rate: u64, bpm: (f64, f64)) -> [usize; 3] {
 pub fn all_tempos(each: &mut dyn FnMut(Fields)) {
     for rate in [1, 512, 900] {
         lists(&[0.0, 1.0, 3.0], 8, &mut |xs| {
-            each(vec![Reals(xs.to_vec()), Whole(2), Whole(rate), Real(30.0), Real(300.0), size(9), size(8), size(7)])
+            each(vec![Reals(xs.to_vec()), Whole(2), Whole(rate), Real(30.0), Real(300.0), FOUR, size(9), size(8), size(7)])
         });
     }
     lists(&FAINT, 5, &mut |xs| {
-        each(vec![Reals(faint(1.0, 4, xs)), Whole(2), Whole(512), Real(30.0), Real(300.0), size(4), size(5), size(4)])
+        each(vec![Reals(faint(1.0, 4, xs)), Whole(2), Whole(512), Real(30.0), Real(300.0), FOUR, size(4), size(5), size(4)])
     });
 }
 
@@ -276,14 +279,14 @@ pub fn estimate(r: &mut Numbers) -> Fields {
     let (envelope, rate, bpm) = search(r);
     let onsets = r.of(&[0, 1, 2, 2, 2, 3, 9, 100, u64::MAX]);
     let [a, b, c] = lag_rooms(r, rate, bpm);
-    vec![Reals(envelope), Whole(onsets), Whole(rate), Real(bpm.0), Real(bpm.1), size(a), size(b), size(c)]
+    vec![Reals(envelope), Whole(onsets), Whole(rate), Real(bpm.0), Real(bpm.1), FOUR, size(a), size(b), size(c)]
 }
 
 pub fn all_stabilities(each: &mut dyn FnMut(Fields)) {
     for whole_lag in 0..4u64 {
         lists(&[0.0, 1.0, 3.0], 9, &mut |xs| {
             if xs.len() >= 7 {
-                each(vec![Reals(xs.to_vec()), Whole(1), Real(30.0), Real(300.0), Whole(whole_lag), size(3), size(2), size(4)])
+                each(vec![Reals(xs.to_vec()), Whole(1), Real(30.0), Real(300.0), FOUR, Whole(whole_lag), size(3), size(2), size(4)])
             }
         });
     }
@@ -298,7 +301,7 @@ pub fn stability_of(r: &mut Numbers) -> Fields {
         _ => r.whole(min as u64, max as u64),
     };
     let [a, b, c] = lag_rooms(r, rate, bpm);
-    vec![Reals(envelope), Whole(rate), Real(bpm.0), Real(bpm.1), Whole(whole_lag), size(a), size(b), size(c)]
+    vec![Reals(envelope), Whole(rate), Real(bpm.0), Real(bpm.1), FOUR, Whole(whole_lag), size(a), size(b), size(c)]
 }
 
 // ---- beats and bars
@@ -330,7 +333,7 @@ pub fn all_downbeats(each: &mut dyn FnMut(Fields)) {
     lists(&[-1.0, 0.0, 2.0], 3, &mut |envelope| {
         lists(&[0u32, 1, 2, 3], 6, &mut |beats| {
             if envelope.len() == 3 {
-                each(vec![Reals(envelope.to_vec()), Frames(beats.to_vec()), size(beats.len())]);
+                each(vec![Reals(envelope.to_vec()), Frames(beats.to_vec()), FOUR, size(beats.len())]);
             }
         })
     });
@@ -347,7 +350,7 @@ pub fn downbeats(r: &mut Numbers) -> Fields {
     if r.once_in(20) && count > 0 {
         beats[r.size(0, count - 1)] = r.of(&[MOST_FRAME, MOST_FRAME + 1, u32::MAX]);
     }
-    vec![Reals(envelope), Frames(beats), room_field(r, count)]
+    vec![Reals(envelope), Frames(beats), FOUR, room_field(r, count)]
 }
 
 pub fn all_bars(each: &mut dyn FnMut(Fields)) {
@@ -656,14 +659,14 @@ fn track_rooms(r: &mut Numbers, n: usize, rate: u64, bpm: (f64, f64)) -> Vec<usi
 
 pub fn all_rooms(each: &mut dyn FnMut(Fields)) {
     for rate in (0..=192_001).step_by(7) {
-        each(vec![Whole(rate % 30), Whole(rate), Real(30.0), Real(300.0)]);
+        each(vec![Whole(rate % 30), Whole(rate), Real(30.0), Real(300.0), FOUR]);
     }
 }
 
 pub fn room_of(r: &mut Numbers) -> Fields {
     let (low, high) = bpm(r);
     let rows = r.of(&[0, 1, 20, 21, 22, 8_000, MOST_ROWS as u64, MOST_ROWS as u64 + 1, u64::MAX]);
-    vec![Whole(rows), Whole(rate(r)), Real(low), Real(high)]
+    vec![Whole(rows), Whole(rate(r)), Real(low), Real(high), FOUR]
 }
 
 pub fn all_envelopes(each: &mut dyn FnMut(Fields)) {
@@ -671,7 +674,7 @@ pub fn all_envelopes(each: &mut dyn FnMut(Fields)) {
         if xs.len() >= 6 {
             let mut rooms: Vec<Field> = vec![size(10); 11];
             (rooms[1], rooms[2]) = (size(9), size(2));
-            each([vec![Reals(xs.to_vec()), Whole(1), Real(30.0), Real(300.0)], rooms].concat());
+            each([vec![Reals(xs.to_vec()), Whole(1), Real(30.0), Real(300.0), FOUR], rooms].concat());
         }
     });
 }
@@ -679,14 +682,14 @@ pub fn all_envelopes(each: &mut dyn FnMut(Fields)) {
 pub fn analyse_envelope(r: &mut Numbers) -> Fields {
     let (envelope, rate, bpm) = search(r);
     let rooms = track_rooms(r, envelope.len(), rate, bpm);
-    let first = vec![Reals(envelope), Whole(rate), Real(bpm.0), Real(bpm.1)];
+    let first = vec![Reals(envelope), Whole(rate), Real(bpm.0), Real(bpm.1), FOUR];
     [first, rooms.into_iter().map(size).collect()].concat()
 }
 
 pub fn all_slabs(each: &mut dyn FnMut(Fields)) {
     lists(&[0.0f32, 1.0, 5.0], 8, &mut |xs| {
         let n = xs.len();
-        let first = vec![Singles(xs.to_vec()), size(n), Whole(1), Whole(1), Real(30.0), Real(300.0), size(n)];
+        let first = vec![Singles(xs.to_vec()), size(n), Whole(1), Whole(1), Real(30.0), Real(300.0), FOUR, size(n)];
         each([first, vec![size(9); 11]].concat());
     });
 }
@@ -710,7 +713,7 @@ pub fn analyse_magnitudes(r: &mut Numbers) -> Fields {
     if rooms.iter().any(|&k| k > 100_000) {
         rooms = vec![rows; 11];
     }
-    let first = vec![Singles(slab), size(rows_said), size(bins_said), Whole(rate), Real(bpm.0), Real(bpm.1), size(flux)];
+    let first = vec![Singles(slab), size(rows_said), size(bins_said), Whole(rate), Real(bpm.0), Real(bpm.1), FOUR, size(flux)];
     [first, rooms.into_iter().map(size).collect()].concat()
 }
 
@@ -722,7 +725,7 @@ pub fn open_bounds(call: &str, each: &mut dyn FnMut(Fields)) {
     // the rates of most tracks, and the least and the greatest, are among those of every pair
     let rates = |step| [1, 44_100, 48_000, 192_000].into_iter().chain((0..=192_001).step_by(step));
     for (low, high) in kinds.iter().flat_map(|&low| kinds.iter().map(move |&high| (low, high))) {
-        let bounds = [Real(low), Real(high)];
+        let bounds = [Real(low), Real(high), FOUR];
         match call {
             "lag_range" => rates(61).for_each(|rate| each([&[Whole(rate)][..], &bounds].concat())),
             "room_of" => rates(997).for_each(|rate| each([&[Whole(rate % 30), Whole(rate)][..], &bounds].concat())),
@@ -751,6 +754,54 @@ pub fn open_bounds(call: &str, each: &mut dyn FnMut(Fields)) {
     }
 }
 
+// ---- beats of a bar: every number of them but the usual four, also outside its bounds, on clicks of which some are accented
+
+pub fn other_meters(call: &str, each: &mut dyn FnMut(Fields)) {
+    for meter in METERS_TRIED.filter(|&meter| meter != 4).chain(HUGE_METERS) {
+        let opts = [Real(30.0), Real(300.0), Whole(meter)];
+        match call {
+            "lag_range" => (0..=192_001).step_by(997).for_each(|rate| each([&[Whole(rate)][..], &opts].concat())),
+            "room_of" => (0..=192_001).step_by(997).for_each(|rate| each([&[Whole(rate % 30), Whole(rate)][..], &opts].concat())),
+            "downbeats" => {
+                lists(&[-1.0, 0.0, 2.0], 3, &mut |envelope| {
+                    lists(&[0u32, 1, 2, 3], 4, &mut |beats| {
+                        if envelope.len() == 3 {
+                            each(vec![Reals(envelope.to_vec()), Frames(beats.to_vec()), Whole(meter), size(beats.len())]);
+                        }
+                    })
+                });
+                // an accent on each place of bars of each length, and sums that are equal
+                for (bar, at) in (1..=17usize).flat_map(|bar| (0..bar).map(move |at| (bar, at))) {
+                    for (accent, n) in [(2.0, 40), (0.5, 40), (2.0, 48), (1.0, 49)] {
+                        let envelope = (0..n).map(|t| if t % bar == at { accent } else { 1.0 }).collect();
+                        each(vec![Reals(envelope), Frames((0..n as u32).collect()), Whole(meter), size(n)]);
+                    }
+                }
+            }
+            _ => {}
+        }
+        if !["estimate", "stability_of", "analyse_envelope", "analyse_magnitudes"].contains(&call) {
+            continue;
+        }
+        let (rate, hertz) = (1_000, Whole(1_000));
+        let (min, max) = lags(rate, (30.0, 300.0));
+        for (n, period, accent) in [40, 150].into_iter().flat_map(|n| (2..=8).flat_map(move |p| (2..=5).map(move |a| (n, p, a)))) {
+            let level = |t: usize| if t / period % accent == 1 { 9.0 } else { 4.0 };
+            let clicks: Vec<f64> = (0..n).map(|t| if t % period == 1 { level(t) } else { 0.0 }).collect();
+            let (curves, rooms) = (vec![size(max - min + 1); 3], track_needs(n, (min, max)).map(size));
+            each(match call {
+                "estimate" => [&[Reals(clicks), Whole(9), hertz.clone()][..], &opts, &curves].concat(),
+                "stability_of" => [&[Reals(clicks), hertz.clone()][..], &opts, &[size(period)], &curves].concat(),
+                "analyse_envelope" => [&[Reals(clicks), hertz.clone()][..], &opts, &rooms].concat(),
+                _ => {
+                    let rows = clicks.iter().map(|&x| x as f32).collect();
+                    [&[Singles(rows), size(n), Whole(1), hertz.clone()][..], &opts, &[size(n)], &rooms].concat()
+                }
+            });
+        }
+    }
+}
+
 // ---- sizes at the bounds, each just inside and just outside
 
 pub fn at_the_bounds(call: &str, each: &mut dyn FnMut(Fields)) {
@@ -767,24 +818,24 @@ pub fn at_the_bounds(call: &str, each: &mut dyn FnMut(Fields)) {
                 each(vec![Reals(saw(3)), Reals(vec![40.0; n]), Whole(48_000), size(3)]);
             }
             "suppress_close_peaks" => each(vec![Frames((0..n as u32).step_by(3).collect()), Reals(saw(n)), Whole(7), size(n)]),
-            "estimate" => each(vec![Reals(saw(n)), Whole(2), Whole(900), Real(30.0), Real(300.0), Whole(9), Whole(9), Whole(9)]),
-            "stability_of" => each(vec![Reals(saw(n)), Whole(900), Real(30.0), Real(300.0), Whole(3), Whole(9), Whole(9), Whole(9)]),
+            "estimate" => each(vec![Reals(saw(n)), Whole(2), Whole(900), Real(30.0), Real(300.0), FOUR, Whole(9), Whole(9), Whole(9)]),
+            "stability_of" => each(vec![Reals(saw(n)), Whole(900), Real(30.0), Real(300.0), FOUR, Whole(3), Whole(9), Whole(9), Whole(9)]),
             "beat_grid" => each(vec![Reals(saw(n)), Whole(5), size(n), size(n), size(n)]),
-            "downbeats" => each(vec![Reals(saw(n)), Frames((0..n.min(MOST_ROWS) as u32).step_by(97).collect()), size(n)]),
+            "downbeats" => each(vec![Reals(saw(n)), Frames((0..n.min(MOST_ROWS) as u32).step_by(97).collect()), FOUR, size(n)]),
             "patch_magnitudes" => {
                 let slab: Vec<f32> = (0..n).map(|t| (t * t % 101) as f32).collect();
                 let (bins, start, new) = (Whole(1), size(n - 9), Singles(vec![50.0; 9]));
                 each(vec![Singles(slab), size(n), bins, start, new, Reals(saw(n)), Reals(saw(n)), Whole(21)]);
             }
-            "room_of" => each(vec![size(n), Whole(48_000), Real(30.0), Real(300.0)]),
+            "room_of" => each(vec![size(n), Whole(48_000), Real(30.0), Real(300.0), FOUR]),
             "analyse_envelope" => {
                 let rooms = [vec![size(n); 2], vec![Whole(9); 4], vec![size(n); 4], vec![Whole(21)]].concat();
-                each([vec![Reals(saw(n)), Whole(900), Real(30.0), Real(300.0)], rooms].concat());
+                each([vec![Reals(saw(n)), Whole(900), Real(30.0), Real(300.0), FOUR], rooms].concat());
             }
             "analyse_magnitudes" => {
                 let slab: Vec<f32> = (0..n).map(|t| (t * t % 101) as f32).collect();
                 let rooms = [vec![size(n); 3], vec![Whole(9); 4], vec![size(n); 4], vec![Whole(21)]].concat();
-                each([vec![Singles(slab), size(n), Whole(1), Whole(900), Real(30.0), Real(300.0)], rooms].concat());
+                each([vec![Singles(slab), size(n), Whole(1), Whole(900), Real(30.0), Real(300.0), FOUR], rooms].concat());
             }
             _ => {}
         }
@@ -831,10 +882,20 @@ pub fn at_the_bounds(call: &str, each: &mut dyn FnMut(Fields)) {
         // all 45,000 lags less a few, and lags 38 to 375 on both sides of 377 slots
         "estimate" => {
             for n in [45_001, 45_002] {
-                each(vec![Reals(saw(n)), Whole(2), Whole(192_000), Real(1.0), Real(300.0), Whole(45_000), Whole(45_000), Whole(45_000)]);
+                each(vec![
+                    Reals(saw(n)),
+                    Whole(2),
+                    Whole(192_000),
+                    Real(1.0),
+                    Real(300.0),
+                    FOUR,
+                    Whole(45_000),
+                    Whole(45_000),
+                    Whole(45_000),
+                ]);
             }
             for n in [375, 376, 377, 378] {
-                each(vec![Reals(saw(n)), Whole(2), Whole(48_000), Real(30.0), Real(300.0), Whole(338), Whole(338), Whole(338)]);
+                each(vec![Reals(saw(n)), Whole(2), Whole(48_000), Real(30.0), Real(300.0), FOUR, Whole(338), Whole(338), Whole(338)]);
             }
         }
         "beat_grid" => {

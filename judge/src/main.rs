@@ -24,8 +24,9 @@ mod tracks;
 use cases::Field;
 use expected::{Expected, Slots};
 use inputs::Fields;
-use numbers::{BOUND_KINDS, Numbers, bound_kind};
+use numbers::{BOUND_KINDS, Numbers, bound_kind, meter};
 use port::Outcome;
+use table::METER;
 
 pub struct Call {
     pub name: &'static str,
@@ -63,23 +64,29 @@ pub const CALLS: &[Call] = &[
     call!(pick_onsets, "flux threshold rate frames", [1, 2, 3, 4], all_onsets, 60_000),
     call!(suppress_close_peaks, "peaks curve gap frames", [1, 3, 4], all_peaks, 60_000),
     call!(frame_times, "frames rate ms", [1, 3], all_times, 40_000),
-    call!(lag_range, "rate min_bpm max_bpm", [1], all_lag_ranges, 100_000),
-    call!(estimate, "envelope onsets rate min_bpm max_bpm clarity_curve weight_curve work", [1, 3, 4], all_tempos, 30_000),
-    call!(stability_of, "envelope rate min_bpm max_bpm whole_lag clarity_curve weight_curve work", [1, 3, 4], all_stabilities, 30_000),
+    call!(lag_range, "rate min_bpm max_bpm meter", [1], all_lag_ranges, 100_000),
+    call!(estimate, "envelope onsets rate min_bpm max_bpm meter clarity_curve weight_curve work", [1, 3, 4], all_tempos, 30_000),
+    call!(
+        stability_of,
+        "envelope rate min_bpm max_bpm meter whole_lag clarity_curve weight_curve work",
+        [1, 3, 4],
+        all_stabilities,
+        30_000
+    ),
     call!(beat_grid, "envelope period score back beats", [1, 3, 4], all_grids, 25_000),
-    call!(downbeats, "envelope beats frames", [1, 3, 4], all_downbeats, 40_000),
+    call!(downbeats, "envelope beats meter frames", [1, 3, 4], all_downbeats, 40_000),
     call!(bar_beat_at, "time downbeats beats", [], all_bars, 60_000),
-    call!(room_of, "rows rate min_bpm max_bpm", [1], all_rooms, 40_000),
+    call!(room_of, "rows rate min_bpm max_bpm meter", [1], all_rooms, 40_000),
     call!(
         analyse_envelope,
-        "envelope rate min_bpm max_bpm threshold onsets clarity_curve weight_curve window_clarity window_weight score back beats downbeats work",
+        "envelope rate min_bpm max_bpm meter threshold onsets clarity_curve weight_curve window_clarity window_weight score back beats downbeats work",
         [1, 3, 4],
         all_envelopes,
         15_000
     ),
     call!(
         analyse_magnitudes,
-        "magnitudes rows bins rate min_bpm max_bpm flux threshold onsets clarity_curve weight_curve window_clarity window_weight \
+        "magnitudes rows bins rate min_bpm max_bpm meter flux threshold onsets clarity_curve weight_curve window_clarity window_weight \
          score back beats downbeats work",
         [1, 2, 3, 4],
         all_slabs,
@@ -169,6 +176,11 @@ struct Tally {
     open: u64,
     // the full answers to each kind of lower bound with each of upper bound (`BOUND_KINDS`)
     bounds: [[u64; 4]; 4],
+    // calls with another meter than 4, the full answers to each meter, and how often 0, 17 and any above were refused, of inputs that are
+    // answered with 4
+    other_meters: u64,
+    meters: [u64; 17],
+    refused_meters: [u64; 3],
     differences: u64,
 }
 
@@ -184,7 +196,27 @@ fn bound_kinds(call: &Call, fields: &[Field]) -> Option<(usize, usize)> {
     Some((bound_kind(fields[low].real()), bound_kind(fields[low + 1].real())))
 }
 
+/// Where a call takes its meter, if it does.
+fn meter_at(call: &Call) -> Option<usize> {
+    call.fields.split(' ').position(|name| name == "meter")
+}
+
 impl Tally {
+    /// Counts a case of a call that takes a meter.
+    fn of_meter(&mut self, call: &Call, fields: &[Field], one: &Judged) {
+        let Some(at) = meter_at(call) else { return };
+        let meter = fields[at].whole();
+        self.other_meters += if meter == 4 { 0 } else { one.calls };
+        if METER.contains(&meter) {
+            self.meters[meter as usize] += u64::from(full(&one.must));
+        } else if one.must.number == 1 {
+            let mut usual = fields.to_vec();
+            usual[at] = Field::Whole(4);
+            let kind = [0, 17].iter().position(|&m| m == meter).unwrap_or(2);
+            self.refused_meters[kind] += u64::from((call.expected)(&usual).number == 0);
+        }
+    }
+
     fn calls(&self) -> u64 {
         self.numbers.iter().sum()
     }
@@ -199,6 +231,7 @@ fn judge(call: &Call, fields: &[Field], tally: &mut Tally) -> Outcome {
     tally.shown[number] += u64::from(one.shown);
     tally.floats |= one.must.slots.iter().any(|s| s.floats.is_some());
     tally.full += u64::from(full(&one.must));
+    tally.of_meter(call, fields, &one);
     if let Some((low, high)) = bound_kinds(call, fields) {
         tally.open += if (low, high) == (0, 0) { 0 } else { one.calls };
         tally.bounds[low][high] += u64::from(full(&one.must));
@@ -241,6 +274,15 @@ fn never(call: &Call, tally: &Tally) -> Vec<String> {
             all.extend(none.map(|(_, high)| format!("never told anything of bounds {} and {high}", BOUND_KINDS[low])));
         }
     }
+    // and of each meter, and refuses those that are none
+    if meter_at(call).is_some() {
+        if tally.other_meters < LEAST_OTHER_EACH {
+            all.push(format!("fewer than {LEAST_OTHER_EACH} times with another meter than 4"));
+        }
+        all.extend(METER.filter(|&meter| tally.meters[meter as usize] == 0).map(|meter| format!("never told anything of meter {meter}")));
+        let kinds = ["meter 0", "meter 17", "a meter above 17"].into_iter().zip(tally.refused_meters);
+        all.extend(kinds.filter(|kind| kind.1 == 0).map(|(kind, _)| format!("never refused {kind} alone")));
+    }
     all
 }
 
@@ -261,6 +303,16 @@ fn one(call: &Call, seed: u64) -> Tally {
         let fields = (call.random)(&mut r);
         judge(call, &fields, &mut tally);
     }
+    // all of these have the usual meter; now the others, and random inputs of their own
+    if let Some(at) = meter_at(call) {
+        inputs::other_meters(call.name, &mut |fields| drop(judge(call, &fields, &mut tally)));
+        let mut r = seed_of(seed, &format!("{} in other bars", call.name));
+        for _ in 0..if call.name == "downbeats" { call.count } else { call.count / 2 } {
+            let mut fields = (call.random)(&mut r);
+            fields[at] = Field::Whole(meter(&mut r));
+            judge(call, &fields, &mut tally);
+        }
+    }
     tally
 }
 
@@ -269,12 +321,27 @@ fn together(seed: u64) -> Vec<(&'static str, Tally)> {
     let call = |name: &str| CALLS.iter().find(|c| c.name == name).unwrap();
     let (magnitudes, features) = (call("patch_magnitudes"), call("patch_features"));
     let mut out = Vec::new();
-    for (name, runs) in [("whole tracks", 3_000), ("sections of rows", 3_000), ("runs on magnitudes", 3_000), ("runs on features", 600)] {
+    for (name, runs) in [
+        ("whole tracks", 3_000),
+        ("tracks in other bars", 3_000),
+        ("sections of rows", 3_000),
+        ("runs on magnitudes", 3_000),
+        ("runs on features", 600),
+    ] {
         let (mut tally, mut r) = (Tally::default(), seed_of(seed, name));
         for _ in 0..runs {
             let wrong = match name {
-                "whole tracks" | "sections of rows" => {
-                    let (calls, wrong) = if name == "whole tracks" { tracks::track(&mut r) } else { tracks::sections(&mut r) };
+                "whole tracks" | "tracks in other bars" | "sections of rows" => {
+                    let (calls, wrong) = match name {
+                        "whole tracks" => tracks::track(&mut r, 4),
+                        "sections of rows" => tracks::sections(&mut r),
+                        _ => {
+                            let meter = r.of(&[1, 2, 3, 3, 5, 6, 7, 8, 9, 10, 11, 12, 13, 14, 15, 16]);
+                            let (calls, wrong) = tracks::track(&mut r, meter);
+                            tally.other_meters += calls;
+                            (calls, wrong)
+                        }
+                    };
                     tally.numbers[0] += calls;
                     tally.full += calls;
                     wrong
@@ -297,6 +364,9 @@ fn together(seed: u64) -> Vec<(&'static str, Tally)> {
 // so many calls of a whole run have a bound that is not finite, and so many of each call that takes bounds
 const LEAST_OPEN: u64 = 100_000;
 const LEAST_OPEN_EACH: u64 = 5_000;
+// and so many another meter than 4
+const LEAST_OTHER: u64 = 100_000;
+const LEAST_OTHER_EACH: u64 = 5_000;
 
 fn run(seed: u64, only: &[&str]) -> bool {
     differences::tell();
@@ -305,12 +375,13 @@ fn run(seed: u64, only: &[&str]) -> bool {
         "{:24}{:>10}{:>10}{:>10}{:>8}{:>8}{:>8}{:>8}{:>13}",
         "call", "calls", "answered", "not empty", "no. 1", "no. 2", "no. 3", "no. 4", "differences"
     );
-    let (mut calls, mut open, mut differences, mut lacks) = (0, vec![], 0, vec![]);
+    let (mut calls, mut open, mut other, mut differences, mut lacks) = (0, vec![], vec![], 0, vec![]);
     let mut line = |name: &str, t: Tally| {
         let [a, b, c, d, e] = t.numbers;
         println!("{name:24}{:>10}{a:>10}{:>10}{b:>8}{c:>8}{d:>8}{e:>8}{:>13}", t.calls(), t.full, t.differences);
         calls += t.calls();
         open.extend((t.open > 0).then(|| (name.to_string(), t.open)));
+        other.extend((t.other_meters > 0).then(|| (name.to_string(), t.other_meters)));
         differences += t.differences;
     };
     for call in CALLS.iter().filter(|c| only.is_empty() || only.contains(&c.name)) {
@@ -322,11 +393,16 @@ fn run(seed: u64, only: &[&str]) -> bool {
     for (name, tally) in runs {
         line(name, tally);
     }
-    let all: u64 = open.iter().map(|(_, of)| of).sum();
-    let each: Vec<String> = open.iter().map(|(name, of)| format!("{name} {of}")).collect();
-    println!("{all} of the calls have a bound of the tempo that is not finite: {}", each.join(", "));
-    if only.is_empty() && all < LEAST_OPEN {
-        lacks.push(format!("fewer than {LEAST_OPEN} calls with such a bound"));
+    for (list, what, least, such) in [
+        (open, "a bound of the tempo that is not finite", LEAST_OPEN, "such a bound"),
+        (other, "another meter than 4", LEAST_OTHER, "such a meter"),
+    ] {
+        let all: u64 = list.iter().map(|(_, of)| of).sum();
+        let each: Vec<String> = list.iter().map(|(name, of)| format!("{name} {of}")).collect();
+        println!("{all} of the calls have {what}: {}", each.join(", "));
+        if only.is_empty() && all < least {
+            lacks.push(format!("fewer than {least} calls with {such}"));
+        }
     }
     lacks.iter().for_each(|what| println!("{what}"));
     println!("{calls} calls, {differences} differences");

@@ -267,6 +267,21 @@ pub fn bpm(r: &mut Numbers) -> (f64, f64) {
     }
 }
 
+/// Meters around their bounds, and some far above: among them those that are 4 in fewer bits.
+pub const METERS_TRIED: std::ops::RangeInclusive<u64> = 0..=18;
+pub const HUGE_METERS: [u64; 6] = [20, 260, (1 << 16) + 4, (1 << 32) + 4, (1 << 63) + 4, u64::MAX];
+
+/// Beats of a bar, outside their bounds at times.
+pub fn meter(r: &mut Numbers) -> u64 {
+    match r.whole(0, 15) {
+        0 => r.of(&[0, 17, 18]),
+        1 => r.of(&HUGE_METERS),
+        2 => r.next(),
+        3..=5 => r.of(&[1, 2, 3, 15, 16]),
+        _ => r.whole(1, 16),
+    }
+}
+
 /// The kinds of bounds of the tempo, as `bound_kind` numbers them.
 pub const BOUND_KINDS: [&str; 4] = ["finite", "NaN", "+inf", "-inf"];
 

@@ -105,14 +105,14 @@ pub fn frame_times(f: &[Field]) -> Outcome {
 
 pub fn lag_range(f: &[Field]) -> Outcome {
     let (mut min_lag, mut max_lag) = (Number::<usize>::lent(), Number::<usize>::lent());
-    let number = unsafe { ph_lag_range(f[0].small(), f[1].real(), f[2].real(), min_lag.ptr_mut(), max_lag.ptr_mut()) };
+    let number = unsafe { ph_lag_range(f[0].small(), f[1].real(), f[2].real(), f[3].size(), min_lag.ptr_mut(), max_lag.ptr_mut()) };
     let mut harm = false;
     ended(number, vec![min_lag.end(&mut harm), max_lag.end(&mut harm)], [], harm)
 }
 
 pub fn estimate(f: &[Field]) -> Outcome {
     let envelope = Lent::of(f[0].reals());
-    let mut room = [5, 6, 7].map(|k| Lent::<f64>::room(f[k].size()));
+    let mut room = [6, 7, 8].map(|k| Lent::<f64>::room(f[k].size()));
     let (mut found, mut bpm, mut clarity, mut count) =
         (Number::<u32>::lent(), Number::<f64>::lent(), Number::<f64>::lent(), Number::<usize>::lent());
     let (mut lags, mut saliences) = (Lent::<usize>::room(3), Lent::<f64>::room(3));
@@ -125,6 +125,7 @@ pub fn estimate(f: &[Field]) -> Outcome {
             f[2].small(),
             f[3].real(),
             f[4].real(),
+            f[5].size(),
             clarities.ptr_mut(),
             clarities.len(),
             weights.ptr_mut(),
@@ -148,7 +149,7 @@ pub fn estimate(f: &[Field]) -> Outcome {
 
 pub fn stability_of(f: &[Field]) -> Outcome {
     let envelope = Lent::of(f[0].reals());
-    let mut room = [5, 6, 7].map(|k| Lent::<f64>::room(f[k].size()));
+    let mut room = [6, 7, 8].map(|k| Lent::<f64>::room(f[k].size()));
     let (mut found, mut fraction, mut agreeing, mut windows) =
         (Number::<u32>::lent(), Number::<f64>::lent(), Number::<usize>::lent(), Number::<usize>::lent());
     let [clarities, weights, work] = &mut room;
@@ -160,6 +161,7 @@ pub fn stability_of(f: &[Field]) -> Outcome {
             f[2].real(),
             f[3].real(),
             f[4].size(),
+            f[5].size(),
             clarities.ptr_mut(),
             clarities.len(),
             weights.ptr_mut(),
@@ -180,7 +182,9 @@ pub fn stability_of(f: &[Field]) -> Outcome {
 
 pub fn room_of(f: &[Field]) -> Outcome {
     let (mut rows, mut lags, mut work) = (Number::<usize>::lent(), Number::<usize>::lent(), Number::<usize>::lent());
-    let number = unsafe { ph_room_of(f[0].size(), f[1].small(), f[2].real(), f[3].real(), rows.ptr_mut(), lags.ptr_mut(), work.ptr_mut()) };
+    let number = unsafe {
+        ph_room_of(f[0].size(), f[1].small(), f[2].real(), f[3].real(), f[4].size(), rows.ptr_mut(), lags.ptr_mut(), work.ptr_mut())
+    };
     let mut harm = false;
     let answers = vec![rows.end(&mut harm), lags.end(&mut harm), work.end(&mut harm)];
     ended(number, answers, [], harm)
@@ -242,7 +246,7 @@ impl Track {
 
 pub fn analyse_envelope(f: &[Field]) -> Outcome {
     let envelope = Lent::of(f[0].reals());
-    let mut t = Track::lent(&f[4..]);
+    let mut t = Track::lent(&f[5..]);
     let ([c, w, wc, ww], [back, beats, downbeats]) = (&mut t.curves, &mut t.lists);
     let ([heard, count, agreeing, windows, laid, bars], [found, steady], [bpm, clarity, fraction]) =
         (&mut t.counts, &mut t.kinds, &mut t.values);
@@ -253,6 +257,7 @@ pub fn analyse_envelope(f: &[Field]) -> Outcome {
             f[1].small(),
             f[2].real(),
             f[3].real(),
+            f[4].size(),
             t.threshold.ptr_mut(),
             t.threshold.len(),
             t.onsets.ptr_mut(),
@@ -296,8 +301,8 @@ pub fn analyse_envelope(f: &[Field]) -> Outcome {
 }
 
 pub fn analyse_magnitudes(f: &[Field]) -> Outcome {
-    let (magnitudes, mut flux) = (Lent::of(f[0].singles()), Lent::<f64>::room(f[6].size()));
-    let mut t = Track::lent(&f[7..]);
+    let (magnitudes, mut flux) = (Lent::of(f[0].singles()), Lent::<f64>::room(f[7].size()));
+    let mut t = Track::lent(&f[8..]);
     let ([c, w, wc, ww], [back, beats, downbeats]) = (&mut t.curves, &mut t.lists);
     let ([heard, count, agreeing, windows, laid, bars], [found, steady], [bpm, clarity, fraction]) =
         (&mut t.counts, &mut t.kinds, &mut t.values);
@@ -310,6 +315,7 @@ pub fn analyse_magnitudes(f: &[Field]) -> Outcome {
             f[3].small(),
             f[4].real(),
             f[5].real(),
+            f[6].size(),
             flux.ptr_mut(),
             flux.len(),
             t.threshold.ptr_mut(),
@@ -379,9 +385,10 @@ pub fn beat_grid(f: &[Field]) -> Outcome {
 
 pub fn downbeats(f: &[Field]) -> Outcome {
     let (envelope, beats) = (Lent::of(f[0].reals()), Lent::of(f[1].frames()));
-    let (mut frames, mut count) = (Lent::<u32>::room(f[2].size()), Number::<usize>::lent());
-    let number =
-        unsafe { ph_downbeats(envelope.ptr(), envelope.len(), beats.ptr(), beats.len(), frames.ptr_mut(), frames.len(), count.ptr_mut()) };
+    let (mut frames, mut count) = (Lent::<u32>::room(f[3].size()), Number::<usize>::lent());
+    let number = unsafe {
+        ph_downbeats(envelope.ptr(), envelope.len(), beats.ptr(), beats.len(), f[2].size(), frames.ptr_mut(), frames.len(), count.ptr_mut())
+    };
     let mut harm = false;
     envelope.same(f[0].reals(), &mut harm);
     beats.same(f[1].frames(), &mut harm);

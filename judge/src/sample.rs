@@ -106,21 +106,21 @@ fn tempos(s: u64) {
     let all = curve(60, s);
     let envelope = || Reals(all.clone());
     let (rate, low, high) = (Whole(s % 5000 + 1), Real(30.0 + level(2, 0, s)), Real(300.0));
-    let lags = expected::lag_range(&[rate.clone(), low.clone(), high.clone()]);
+    let lags = expected::lag_range(&[rate.clone(), low.clone(), high.clone(), size(4)]);
     line("lags", [number(lags.number), number(lags.answers[0]), number(lags.answers[1])]);
     let room = || size(60);
-    let e = expected::estimate(&[envelope(), size(2), rate.clone(), low.clone(), high.clone(), room(), room(), room()]);
+    let e = expected::estimate(&[envelope(), size(2), rate.clone(), low.clone(), high.clone(), size(4), room(), room(), room()]);
     let found = if e.answers[0] == 1 { vec![float(e.answers[1]), float(e.answers[2])] } else { vec!["none".into()] };
     let pairs = (0..3).flat_map(|k| [number(e.slots[3].bits[k]), float(e.slots[4].bits[k])]);
     line("tempo", [number(e.number)].into_iter().chain(found).chain([number(e.answers[3])]).chain(pairs));
     let lag = if e.answers[3] == 0 { Whole(s % 21) } else { Whole(e.slots[3].bits[0]) };
-    let w = expected::stability_of(&[envelope(), rate, low, high, lag.clone(), room(), room(), room()]);
+    let w = expected::stability_of(&[envelope(), rate, low, high, size(4), lag.clone(), room(), room(), room()]);
     let share = || vec![float(w.answers[1]), number(w.answers[2]), number(w.answers[3])];
     line("stability", if w.answers[0] == 1 { share() } else { vec!["none".into()] });
     let grid = expected::beat_grid(&[envelope(), lag, room(), room(), room()]);
     let beats = list("beats", &grid, 2);
     line("last score", [float(slots::<f64>(&grid, 0, 60)[59])]);
-    list("downbeats", &expected::downbeats(&[envelope(), Frames(beats), room()]), 0);
+    list("downbeats", &expected::downbeats(&[envelope(), Frames(beats), size(4), room()]), 0);
     let at = expected::bar_beat_at(&[Real(level(s % 4, 1, next(s))), Reals(curve(7, s)), Reals(curve(30, s))]);
     line("at", if at.answers[0] == 1 { vec![number(at.answers[1]), number(at.answers[2])] } else { vec!["nowhere".into()] });
 }

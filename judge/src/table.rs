@@ -9,6 +9,8 @@ pub const MOST_PERIOD: u64 = 45_000;
 pub const MOST_FEATURE_ROWS: usize = 50_000;
 pub const LENGTH: std::ops::RangeInclusive<u64> = 1..=1 << 31;
 pub const MOST_FRAME: u32 = 1_048_575;
+/// Request No. 4: beats of a bar.
+pub const METER: std::ops::RangeInclusive<u64> = 1..=16;
 /// 2^126 and 2^150, by their bits
 pub const MOST_MAGNITUDE: f32 = f32::from_bits(253 << 23);
 pub const MOST_VALUE: f64 = f64::from_bits(1173 << 52);
@@ -89,22 +91,27 @@ pub fn frame_times(frames: &[u32], rate: u64, ms: usize) -> u32 {
     lowest(!RATE.contains(&rate) || frames.iter().any(|&t| t > MOST_FRAME), no, || ms < frames.len(), no)
 }
 
-// no number covers the bounds of the tempo: any two floats are taken
-pub fn lag_range(rate: u64) -> u32 {
-    lowest(!RATE.contains(&rate), no, no, no)
+// a search's rate, and of its options the meter; no number covers the bounds of the tempo: any two floats are taken
+fn search_bounds(rate: u64, meter: u64) -> bool {
+    !RATE.contains(&rate) || !METER.contains(&meter)
+}
+
+pub fn lag_range(rate: u64, meter: u64) -> u32 {
+    lowest(search_bounds(rate, meter), no, no, no)
 }
 
 /// `lags` answers L, the number of lags, and is asked only where number 1 doesn't apply.
-pub fn estimate(envelope: &[f64], rate: u64, rooms: [usize; 3], lags: impl FnOnce() -> usize) -> u32 {
-    lowest(envelope.len() > MOST_ROWS || !RATE.contains(&rate), no, || rooms.iter().min() < Some(&lags()), || any(envelope, value))
+pub fn estimate(envelope: &[f64], rate: u64, meter: u64, rooms: [usize; 3], lags: impl FnOnce() -> usize) -> u32 {
+    let bounds = envelope.len() > MOST_ROWS || search_bounds(rate, meter);
+    lowest(bounds, no, || rooms.iter().min() < Some(&lags()), || any(envelope, value))
 }
 
-pub fn stability_of(envelope: &[f64], rate: u64, whole_lag: u64, rooms: [usize; 3], lags: impl FnOnce() -> usize) -> u32 {
-    if whole_lag > MOST_PERIOD { 1 } else { estimate(envelope, rate, rooms, lags) }
+pub fn stability_of(envelope: &[f64], rate: u64, meter: u64, whole_lag: u64, rooms: [usize; 3], lags: impl FnOnce() -> usize) -> u32 {
+    if whole_lag > MOST_PERIOD { 1 } else { estimate(envelope, rate, meter, rooms, lags) }
 }
 
-pub fn room_of(rows: u64, rate: u64) -> u32 {
-    lowest(rows > MOST_ROWS as u64 || !RATE.contains(&rate), no, no, no)
+pub fn room_of(rows: u64, rate: u64, meter: u64) -> u32 {
+    lowest(rows > MOST_ROWS as u64 || search_bounds(rate, meter), no, no, no)
 }
 
 /// Sorting room of a whole track: that of the thresholds and that of the lags, one after the other.
@@ -125,23 +132,26 @@ impl TrackRoom {
     }
 }
 
-pub fn analyse_envelope(envelope: &[f64], rate: u64, room: &TrackRoom, lags: impl FnOnce() -> usize) -> u32 {
+pub fn analyse_envelope(envelope: &[f64], rate: u64, meter: u64, room: &TrackRoom, lags: impl FnOnce() -> usize) -> u32 {
     let n = envelope.len();
-    lowest(n > MOST_ROWS || !RATE.contains(&rate), no, || room.short(n, lags()), || any(envelope, value))
+    lowest(n > MOST_ROWS || search_bounds(rate, meter), no, || room.short(n, lags()), || any(envelope, value))
 }
 
+#[allow(clippy::too_many_arguments)]
 pub fn analyse_magnitudes(
     magnitudes: &[f32],
     rows: u64,
     bins: u64,
     rate: u64,
+    meter: u64,
     flux: usize,
     room: &TrackRoom,
     lags: impl FnOnce() -> usize,
 ) -> u32 {
     let n = rows as usize;
     let length = || magnitudes.len() as u64 != rows * bins;
-    lowest(slab_bounds(rows, bins) || !RATE.contains(&rate), length, || flux < n || room.short(n, lags()), || any(magnitudes, magnitude))
+    let bounds = slab_bounds(rows, bins) || search_bounds(rate, meter);
+    lowest(bounds, length, || flux < n || room.short(n, lags()), || any(magnitudes, magnitude))
 }
 
 pub fn beat_grid(envelope: &[f64], period: u64, rooms: [usize; 3]) -> u32 {
@@ -149,8 +159,9 @@ pub fn beat_grid(envelope: &[f64], period: u64, rooms: [usize; 3]) -> u32 {
     lowest(n > MOST_ROWS || period > MOST_PERIOD, no, || rooms.iter().any(|&r| r < n), || any(envelope, value))
 }
 
-pub fn downbeats(envelope: &[f64], beats: &[u32], frames: usize) -> u32 {
-    let bounds = envelope.len() > MOST_ROWS || beats.iter().any(|&t| t > MOST_FRAME);
+// of the options the meter alone: the bounds of the tempo are not lent
+pub fn downbeats(envelope: &[f64], beats: &[u32], meter: u64, frames: usize) -> u32 {
+    let bounds = envelope.len() > MOST_ROWS || beats.iter().any(|&t| t > MOST_FRAME) || !METER.contains(&meter);
     lowest(bounds, no, || frames < beats.len(), || any(envelope, value))
 }
 

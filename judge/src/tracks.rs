@@ -1,7 +1,8 @@
 //! Whole tracks: the calls one after the other, as a worker makes them, and the one call that makes them all, against the Rust's own whole
 //! run.
 //!
-//! Here the Rust is not taken apart: onsets by `analyze_stft`, tempo, candidates, stability, beats and downbeats by `estimate_from_parts`;
+//! Here the Rust is not taken apart: onsets by `analyze_stft`, tempo, candidates, stability, beats and downbeats by `estimate_from_parts`, for
+//! another meter than its own by the copy of it that has that number in the place of its 4, and which with 4 must say the same;
 //! sections by the functions that `detect_structure` calls, from feature rows on.
 use crate::cases::Field::{self, *};
 use crate::expected;
@@ -9,7 +10,7 @@ use crate::numbers::{Numbers, features, magnitudes, open_bpm};
 use crate::port::{self, Outcome};
 use crate::table::BAND;
 use oracle::structure::StructureOpts;
-use oracle::tempo::TempoOpts;
+use oracle::tempo::{DEFAULT_BEATS_PER_BAR, TempoOpts};
 use oracle::{onsets, structure, tempo};
 
 fn size(n: usize) -> Field {
@@ -49,10 +50,13 @@ impl Worker {
 /// beat times; downbeat times.
 type Analysis = [Vec<u64>; 6];
 
-fn by_the_rust(slab: &[f32], bins: usize, rate: u32, opts: &TempoOpts) -> Analysis {
+fn by_the_rust(slab: &[f32], bins: usize, rate: u32, opts: &TempoOpts, meter: Option<usize>) -> Analysis {
     let stft = onsets::open::stft(slab.chunks(bins).map(|row| row.to_vec()).collect(), rate);
     let heard = onsets::open::analyze_stft(&stft);
-    let report = tempo::open::estimate_from_parts(&stft, &heard, rate, opts);
+    let report = match meter {
+        None => tempo::open::estimate_from_parts(&stft, &heard, rate, opts),
+        Some(meter) => tempo::bars::estimate_from_parts(&stft, &heard, rate, opts, meter),
+    };
     [
         bits(&heard.times_ms),
         report.bpm.map_or(vec![], |bpm| vec![bpm.to_bits(), report.confidence.to_bits()]),
@@ -63,8 +67,13 @@ fn by_the_rust(slab: &[f32], bins: usize, rate: u32, opts: &TempoOpts) -> Analys
     ]
 }
 
-fn by_the_port(w: &mut Worker, slab: &[f32], rows: usize, bins: usize, rate: u32, opts: &TempoOpts) -> Analysis {
-    let (hertz, low, high) = (Whole(rate.into()), Real(opts.min_bpm), Real(opts.max_bpm));
+// the options as the calls take them
+fn options(opts: &TempoOpts, meter: usize) -> [Field; 3] {
+    [Real(opts.min_bpm), Real(opts.max_bpm), size(meter)]
+}
+
+fn by_the_port(w: &mut Worker, slab: &[f32], rows: usize, bins: usize, rate: u32, opts: &[Field; 3]) -> Analysis {
+    let hertz = Whole(rate.into());
     let flux = w.call(port::spectral_flux, vec![Singles(slab.to_vec()), size(rows), size(bins), size(rows)]);
     let flux = reals(&flux.slots[0]);
     let envelope = || Reals(flux.clone());
@@ -72,11 +81,11 @@ fn by_the_port(w: &mut Worker, slab: &[f32], rows: usize, bins: usize, rate: u32
     let threshold = reals(&threshold.slots[0]);
     let picked = w.call(port::pick_onsets, vec![envelope(), Reals(threshold), hertz.clone(), size(rows)]);
     let heard = frames(&picked.slots[0][..picked.answers[0] as usize]);
-    let lags = w.call(port::lag_range, vec![hertz.clone(), low.clone(), high.clone()]);
+    let lags = w.call(port::lag_range, [&[hertz.clone()][..], opts].concat());
     let count = Whole(lags.answers[1] - lags.answers[0] + 1);
     let rooms = [count.clone(), count.clone(), count.clone()];
     let onset_count = size(heard.len());
-    let fields = [vec![envelope(), onset_count, hertz.clone(), low.clone(), high.clone()], rooms.to_vec()].concat();
+    let fields = [&[envelope(), onset_count, hertz.clone()][..], opts, &rooms].concat();
     let found = w.call(port::estimate, fields);
     let mut out = [w.times(heard, rate), vec![], vec![], vec![], vec![], vec![]];
     if found.answers[0] == 1 {
@@ -86,14 +95,14 @@ fn by_the_port(w: &mut Worker, slab: &[f32], rows: usize, bins: usize, rate: u32
             out[2].extend([bpm.to_bits(), found.slots[4][k]]);
         }
         let lag = Whole(found.slots[3][0]);
-        let fields = [vec![envelope(), hertz, low, high, lag.clone()], rooms.to_vec()].concat();
+        let fields = [&[envelope(), hertz][..], opts, &[lag.clone()], &rooms].concat();
         let steady = w.call(port::stability_of, fields);
         if steady.answers[0] == 1 {
             out[3] = vec![steady.answers[1]];
         }
         let grid = w.call(port::beat_grid, vec![envelope(), lag, size(rows), size(rows), size(rows)]);
         let beats = frames(&grid.slots[2][..grid.answers[0] as usize]);
-        let bars = w.call(port::downbeats, vec![envelope(), Frames(beats.clone()), size(beats.len())]);
+        let bars = w.call(port::downbeats, vec![envelope(), Frames(beats.clone()), opts[2].clone(), size(beats.len())]);
         let bars = frames(&bars.slots[0][..bars.answers[0] as usize]);
         out[4] = w.times(beats, rate);
         out[5] = w.times(bars, rate);
@@ -102,11 +111,11 @@ fn by_the_port(w: &mut Worker, slab: &[f32], rows: usize, bins: usize, rate: u32
 }
 
 // the same by the one call that does it all
-fn by_one_call(w: &mut Worker, slab: &[f32], rows: usize, bins: usize, rate: u32, opts: &TempoOpts) -> Analysis {
-    let (hertz, low, high) = (Whole(rate.into()), Real(opts.min_bpm), Real(opts.max_bpm));
-    let room = w.call(port::room_of, vec![size(rows), hertz.clone(), low.clone(), high.clone()]);
+fn by_one_call(w: &mut Worker, slab: &[f32], rows: usize, bins: usize, rate: u32, opts: &[Field; 3]) -> Analysis {
+    let hertz = Whole(rate.into());
+    let room = w.call(port::room_of, [&[size(rows), hertz.clone()][..], opts].concat());
     let (n, l, sorting) = (Whole(room.answers[0]), Whole(room.answers[1]), Whole(room.answers[2]));
-    let input = vec![Singles(slab.to_vec()), size(rows), size(bins), hertz, low, high, n.clone()];
+    let input = [&[Singles(slab.to_vec()), size(rows), size(bins), hertz][..], opts, &[n.clone()]].concat();
     let rooms = [vec![n.clone(); 2], vec![l; 4], vec![n; 4], vec![sorting]].concat();
     let a = w.call(port::analyse_magnitudes, [input, rooms].concat());
     let list = |k: usize, count: u64| frames(&a.slots[k][..count as usize]);
@@ -126,8 +135,8 @@ fn by_one_call(w: &mut Worker, slab: &[f32], rows: usize, bins: usize, rate: u32
     out
 }
 
-/// One track: calls made, and what differs.
-pub fn track(r: &mut Numbers) -> (u64, Option<String>) {
+/// One track in bars of so many beats: calls made, and what differs.
+pub fn track(r: &mut Numbers, meter: usize) -> (u64, Option<String>) {
     let bins = r.size(1, 6);
     let (rate, rows) = if r.once_in(3) { (48_000, r.size(340, 1_700)) } else { (r.whole(1, 9_000) as u32, r.size(0, 400)) };
     let mut slab = magnitudes(r, rows, bins);
@@ -155,12 +164,16 @@ pub fn track(r: &mut Numbers) -> (u64, Option<String>) {
     };
     let opts = TempoOpts { min_bpm, max_bpm };
     let mut w = Worker { calls: 0, refused: false };
-    let is = by_the_port(&mut w, &slab, rows, bins, rate, &opts);
-    let at_once = by_one_call(&mut w, &slab, rows, bins, rate, &opts);
-    let must = by_the_rust(&slab, bins, rate, &opts);
+    let lent = options(&opts, meter);
+    let is = by_the_port(&mut w, &slab, rows, bins, rate, &lent);
+    let at_once = by_one_call(&mut w, &slab, rows, bins, rate, &lent);
+    let must = by_the_rust(&slab, bins, rate, &opts, (meter != DEFAULT_BEATS_PER_BAR).then_some(meter));
     let names = ["onset times", "tempo", "candidates", "stability", "beat times", "downbeat times"];
-    let wrong = (0..6).find(|&k| is[k] != must[k] || at_once[k] != must[k]).map(|k| names[k]).or(w.refused.then_some("a refusal"));
-    let what = |name| format!("{name}, rate {rate}, {bins} bins, bounds {:?} {:?}, rows {slab:?}", opts.min_bpm, opts.max_bpm);
+    let unlike = (0..6).find(|&k| is[k] != must[k] || at_once[k] != must[k]).map(|k| names[k]);
+    let copied = || meter == DEFAULT_BEATS_PER_BAR && must != by_the_rust(&slab, bins, rate, &opts, Some(meter));
+    let wrong = unlike.or(w.refused.then_some("a refusal")).or(copied().then_some("the Rust's copy with a number in the place of its 4"));
+    let bounds = (opts.min_bpm, opts.max_bpm);
+    let what = |name| format!("{name}, rate {rate}, {bins} bins, bounds {bounds:?}, meter {meter}, rows {slab:?}");
     (w.calls, wrong.map(what))
 }
 

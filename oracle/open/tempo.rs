@@ -64,11 +64,30 @@ pub mod open {
         Vec::new()
     }
 
-    pub fn downbeat_phase(flux: &[f64], beat_frames: &[usize], beats_per_bar: usize) -> usize {
-        super::downbeat_phase(flux, beat_frames, beats_per_bar)
-    }
-
     pub fn frame_center_ms(frame: usize, sample_rate: u32) -> f64 {
         super::frame_center_ms(frame, sample_rate)
     }
+}
+
+/// Appended for the judge: bars of another number of beats than `DEFAULT_BEATS_PER_BAR`, by this file's own lines, in which that number stands
+/// for the constant (build.rs), and which call this file's own functions.
+pub mod bars {
+    use super::*;
+
+    /// The downbeats that `estimate_from_parts` lists of beats that are given, as frames: what its lines take a frame's time by gives the frame.
+    pub fn downbeats(flux: &[f64], beat_frames: &[usize], beats_per_bar: usize) -> Vec<usize> {
+        let (frame_center_ms, sample_rate) = (|frame: usize, _: ()| frame as f64, ());
+        {{downbeats}}
+        downbeats_ms.into_iter().map(|frame| frame as usize).collect()
+    }
+
+    /// The whole of `estimate_from_parts`. The lines end with its own brace.
+    pub fn estimate_from_parts(
+        stft: &Stft,
+        onset_report: &OnsetsReport,
+        sample_rate: u32,
+        opts: &TempoOpts,
+        beats_per_bar: usize,
+    ) -> TempoReport {
+        {{estimate}}
 }

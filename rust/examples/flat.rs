@@ -216,7 +216,7 @@ impl Vectors {
         stability_of(flux, RATE, OPTS, lag, clarity, weight, work)?;
         let beats = beat_grid(flux, lag, &mut self.score, &mut self.back, &mut self.beats)?;
         let beats = &self.beats[..beats];
-        let bars = downbeats(flux, beats, &mut self.bars)?;
+        let bars = downbeats(flux, beats, OPTS, &mut self.bars)?;
         let bars = &self.bars[..bars];
 
         let (bar_times, beat_times) = (&mut self.bar_times[..bars.len()], &mut self.beat_times[..beats.len()]);

@@ -1,5 +1,5 @@
 //! Beats and bars.
-use crate::{ffi, limits, rooms, Refused};
+use crate::{ffi, limits, rooms, Refused, TempoOpts};
 
 /// A place in the music: bar and beat, both counted from 1.
 #[derive(Clone, Copy, Debug, PartialEq, Eq)]
@@ -60,21 +60,25 @@ pub fn beat_grid(
     Ok(count)
 }
 
-/// Lists the downbeats of a beat list in common time: every fourth beat, from the one that makes their flux sum greatest. Answers how
-/// many there are.
+/// Lists the downbeats of a beat list, the first beat of each bar: every `opts.meter`-th beat, from the one of the first bar's that makes
+/// their flux sum greatest, the earliest of equal ones. Answers how many there are. The bounds of the options are not read.
 ///
 /// Room: `beats.len()` slots of `frames`. A beat past the envelope counts as silent.
-/// Refuses [`OutOfBounds`](crate::Refusal::OutOfBounds) (the envelope's length, a beat above 1,048,575),
+/// Refuses [`OutOfBounds`](crate::Refusal::OutOfBounds) (the envelope's length, a beat above 1,048,575, the meter),
 /// [`TooLittleRoom`](crate::Refusal::TooLittleRoom), and [`WrongValue`](crate::Refusal::WrongValue) (an envelope value).
 ///
 /// ```
 /// # use prohunsev::*;
 /// let mut frames = [0; 3];
-/// let count = downbeats(&[0.0, 4.0, 0.0, 4.0, 0.0, 4.0], &[1, 3, 5], &mut frames)?;
+/// let count = downbeats(&[0.0, 4.0, 0.0, 4.0, 0.0, 4.0], &[1, 3, 5], TempoOpts::new(), &mut frames)?;
 /// assert_eq!(frames[..count], [1]);
+/// // a waltz: the accent is on the second beat, and on every third from there
+/// let (envelope, waltz) = ([1.0, 4.0, 1.0, 1.0, 4.0, 1.0, 1.0, 4.0], TempoOpts::new().with_meter(3));
+/// let count = downbeats(&envelope, &[0, 1, 2, 3, 4, 5, 6, 7], waltz, &mut [0; 8])?;
+/// assert_eq!(count, 3);
 /// # Ok::<(), Refused>(())
 /// ```
-pub fn downbeats(envelope: &[f64], beats: &[u32], frames: &mut [u32]) -> Result<usize, Refused> {
+pub fn downbeats(envelope: &[f64], beats: &[u32], opts: TempoOpts, frames: &mut [u32]) -> Result<usize, Refused> {
     let mut count = 0;
     // SAFETY: the pointers and lengths are those of borrowed slices and a local (the reason in lib.rs)
     let number = unsafe {
@@ -83,6 +87,7 @@ pub fn downbeats(envelope: &[f64], beats: &[u32], frames: &mut [u32]) -> Result<
             envelope.len(),
             beats.as_ptr(),
             beats.len(),
+            opts.meter,
             frames.as_mut_ptr(),
             frames.len(),
             &mut count,
@@ -91,6 +96,7 @@ pub fn downbeats(envelope: &[f64], beats: &[u32], frames: &mut [u32]) -> Result<
     Refused::unless_answered("downbeats", number, |why| {
         why.frames("envelope", envelope.len())
             .entries("beats", beats, limits::MOST_FRAME)
+            .meter(opts)
             .room("frames", frames.len(), rooms::entries(beats.len()))
             .values("envelope", envelope)
     })?;

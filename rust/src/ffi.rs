@@ -57,7 +57,14 @@ unsafe extern "C" {
         count: *mut usize,
     ) -> u32;
     pub fn ph_frame_times(frames: *const u32, frames_len: usize, rate: u32, ms: *mut f64, ms_len: usize) -> u32;
-    pub fn ph_lag_range(rate: u32, min_bpm: f64, max_bpm: f64, min_lag: *mut usize, max_lag: *mut usize) -> u32;
+    pub fn ph_lag_range(
+        rate: u32,
+        min_bpm: f64,
+        max_bpm: f64,
+        meter: usize,
+        min_lag: *mut usize,
+        max_lag: *mut usize,
+    ) -> u32;
     pub fn ph_estimate(
         envelope: *const f64,
         envelope_len: usize,
@@ -65,6 +72,7 @@ unsafe extern "C" {
         rate: u32,
         min_bpm: f64,
         max_bpm: f64,
+        meter: usize,
         clarity_curve: *mut f64,
         clarity_curve_len: usize,
         weight_curve: *mut f64,
@@ -84,6 +92,7 @@ unsafe extern "C" {
         rate: u32,
         min_bpm: f64,
         max_bpm: f64,
+        meter: usize,
         whole_lag: usize,
         clarity_curve: *mut f64,
         clarity_curve_len: usize,
@@ -113,6 +122,7 @@ unsafe extern "C" {
         envelope_len: usize,
         beats: *const u32,
         beats_len: usize,
+        meter: usize,
         frames: *mut u32,
         frames_len: usize,
         count: *mut usize,
@@ -203,6 +213,7 @@ unsafe extern "C" {
         rate: u32,
         min_bpm: f64,
         max_bpm: f64,
+        meter: usize,
         row_slots: *mut usize,
         lag_slots: *mut usize,
         work_slots: *mut usize,
@@ -213,6 +224,7 @@ unsafe extern "C" {
         rate: u32,
         min_bpm: f64,
         max_bpm: f64,
+        meter: usize,
         threshold: *mut f64,
         threshold_len: usize,
         onsets: *mut u32,
@@ -257,6 +269,7 @@ unsafe extern "C" {
         rate: u32,
         min_bpm: f64,
         max_bpm: f64,
+        meter: usize,
         flux: *mut f64,
         flux_len: usize,
         threshold: *mut f64,

@@ -13,6 +13,8 @@ pub const MOST_BINS: usize = 4_096;
 pub const MOST_FRAME: u32 = 1_048_575;
 /// The longest beat period, in frames, and the greatest lag.
 pub const MOST_PERIOD: usize = 45_000;
+/// The most beats of a bar; the least is 1.
+pub const MOST_METER: usize = 16;
 /// The most feature rows.
 pub const MOST_FEATURE_ROWS: usize = 50_000;
 /// The most samples that a feature row stands for, 2^31; the least is 1.

@@ -38,7 +38,7 @@ impl Refusal {
         match self {
             Refusal::OutOfBounds => {
                 "a number is out of bounds: sample rate 1 to 192,000, at most 1,048,576 rows or slots of 1 to 4,096 bins, period at most \
-                 45,000, at most 50,000 feature rows of 1 to 2^31 samples, frames at most 1,048,575; or a patch starts past its rows, \
+                 45,000, meter 1 to 16, at most 50,000 feature rows of 1 to 2^31 samples, frames at most 1,048,575; or a patch starts past its rows, \
                  a median's list is empty, or a peak list doesn't ascend or points past its curve"
             }
             Refusal::WrongLength => {

@@ -75,8 +75,8 @@ pub struct Track {
 }
 
 impl Track {
-    /// The room for a track of at most so many rows. Refuses [`OutOfBounds`](crate::Refusal::OutOfBounds) for more than 1,048,576 rows and for the
-    /// rate.
+    /// The room for a track of at most so many rows, the same for every meter. Refuses [`OutOfBounds`](crate::Refusal::OutOfBounds) for more than
+    /// 1,048,576 rows, for the rate and for the meter.
     ///
     /// ```
     /// # use prohunsev::*;
@@ -89,10 +89,11 @@ impl Track {
         let mut room = Track { rows: 0, lags: 0, sorting: 0 };
         let Track { rows: row_slots, lags: lag_slots, sorting: work_slots } = &mut room;
         // SAFETY: the pointers are those of a local's three fields (the reason in lib.rs)
-        let number =
-            unsafe { ffi::ph_room_of(rows, rate, opts.min_bpm, opts.max_bpm, row_slots, lag_slots, work_slots) };
+        let number = unsafe {
+            ffi::ph_room_of(rows, rate, opts.min_bpm, opts.max_bpm, opts.meter, row_slots, lag_slots, work_slots)
+        };
         Refused::unless_answered("room_of", number, |why| {
-            why.number("rows", rows as u64, 0, limits::MOST_ROWS as u64).rate(rate)
+            why.number("rows", rows as u64, 0, limits::MOST_ROWS as u64).rate(rate).meter(opts)
         })?;
         Ok(room)
     }

@@ -1,12 +1,16 @@
 //! Tempo: how fast the pulse of an envelope is, and how steady.
 use crate::{ffi, limits, Refused};
 
-/// The bounds of the tempo search in beats a minute, 30 to 300 where nothing else is said. They may come in either order.
+/// The bounds of the tempo search in beats a minute, 30 to 300 where nothing else is said, and the beats of a bar, 4 where nothing else is.
+/// The bounds may come in either order.
 ///
 /// A bound may be open: `f64::INFINITY` as the upper one means no upper limit, `f64::NEG_INFINITY` as the lower one (or anything up to 1)
 /// down to 1 beat a minute, the least there is. Every float is taken, by one rule: a pair that isn't `min_bpm <= max_bpm` swaps, so a NaN
 /// swaps it; then the lower bound is 1 where it is a NaN or less, and the upper one the lower one + 1 where it is a NaN or less. A NaN is
 /// therefore not an open bound: NaN and 300 mean 300 to 301.
+///
+/// The meter is 1 to [`MOST_METER`](TempoOpts::MOST_METER), 3 for a waltz; each call that takes the options refuses another with
+/// [`OutOfBounds`](crate::Refusal::OutOfBounds). The downbeats alone are chosen by it.
 ///
 /// ```
 /// # use prohunsev::*;
@@ -14,6 +18,10 @@ use crate::{ffi, limits, Refused};
 /// assert_eq!(TempoOpts::new().with_max_bpm(200.0).max_bpm, 200.0);
 /// let open = lag_range(48_000, TempoOpts::new().with_max_bpm(f64::INFINITY))?;
 /// assert_eq!((open.min_lag, open.max_lag), (1, 375));
+/// let waltz = TempoOpts::new().with_meter(3);
+/// assert_eq!((waltz.meter, waltz.with_meter(TempoOpts::DEFAULT_METER)), (3, TempoOpts::new()));
+/// let refused = lag_range(48_000, waltz.with_meter(17)).unwrap_err();
+/// assert_eq!(refused.to_string(), "lag_range refused with 1: meter 17, 1 to 16");
 /// # Ok::<(), Refused>(())
 /// ```
 #[derive(Clone, Copy, Debug, PartialEq)]
@@ -22,6 +30,8 @@ pub struct TempoOpts {
     pub min_bpm: f64,
     /// The fastest tempo that is looked for; `f64::INFINITY` for no upper limit.
     pub max_bpm: f64,
+    /// The beats of a bar.
+    pub meter: usize,
 }
 
 impl TempoOpts {
@@ -29,15 +39,19 @@ impl TempoOpts {
     pub const DEFAULT_MIN_BPM: f64 = 30.0;
     /// A dance track heard in double time.
     pub const DEFAULT_MAX_BPM: f64 = 300.0;
+    /// Common time.
+    pub const DEFAULT_METER: usize = 4;
+    /// The most beats of a bar; the least is 1.
+    pub const MOST_METER: usize = limits::MOST_METER;
 
-    /// The defaults, 30 to 300.
+    /// The defaults, 30 to 300 and four beats to the bar.
     pub const fn new() -> TempoOpts {
         TempoOpts::between(TempoOpts::DEFAULT_MIN_BPM, TempoOpts::DEFAULT_MAX_BPM)
     }
 
-    /// Both bounds, any two floats. Neither this nor a call that is lent the options refuses them.
+    /// Both bounds, any two floats, with the default meter. Neither this nor a call that is lent the options refuses a bound.
     pub const fn between(min_bpm: f64, max_bpm: f64) -> TempoOpts {
-        TempoOpts { min_bpm, max_bpm }
+        TempoOpts { min_bpm, max_bpm, meter: TempoOpts::DEFAULT_METER }
     }
 
     /// The same options with another lower bound, `f64::NEG_INFINITY` for the least there is, 1.
@@ -50,6 +64,12 @@ impl TempoOpts {
     #[must_use]
     pub const fn with_max_bpm(self, max_bpm: f64) -> TempoOpts {
         TempoOpts { max_bpm, ..self }
+    }
+
+    /// The same options with another number of beats to the bar. It is the calls that are lent the options that refuse one outside 1 to 16.
+    #[must_use]
+    pub const fn with_meter(self, meter: usize) -> TempoOpts {
+        TempoOpts { meter, ..self }
     }
 }
 
@@ -137,7 +157,7 @@ pub struct Stability {
 
 /// The lags that the options' bounds stand for.
 ///
-/// Refuses [`OutOfBounds`](crate::Refusal::OutOfBounds) (the rate). No bound is refused.
+/// Refuses [`OutOfBounds`](crate::Refusal::OutOfBounds) (the rate, the meter). No bound is refused.
 ///
 /// ```
 /// # use prohunsev::*;
@@ -148,8 +168,10 @@ pub struct Stability {
 pub fn lag_range(rate: u32, opts: TempoOpts) -> Result<LagRange, Refused> {
     let mut range = LagRange { min_lag: 0, max_lag: 0 };
     // SAFETY: the pointers are those of a local's two fields (the reason in lib.rs)
-    let number = unsafe { ffi::ph_lag_range(rate, opts.min_bpm, opts.max_bpm, &mut range.min_lag, &mut range.max_lag) };
-    Refused::unless_answered("lag_range", number, |why| why.rate(rate))?;
+    let number = unsafe {
+        ffi::ph_lag_range(rate, opts.min_bpm, opts.max_bpm, opts.meter, &mut range.min_lag, &mut range.max_lag)
+    };
+    Refused::unless_answered("lag_range", number, |why| why.rate(rate).meter(opts))?;
     Ok(range)
 }
 
@@ -158,7 +180,7 @@ pub fn lag_range(rate: u32, opts: TempoOpts) -> Result<LagRange, Refused> {
 /// Room: [`rooms::lags`](crate::rooms::lags) slots of each of `clarity`, `weight` and `work`, also where there is no tempo.
 /// Unless the envelope is too short or flat or has fewer than two onsets, `clarity` and `weight` then hold the clarity and the weight of
 /// each lag.
-/// Refuses [`OutOfBounds`](crate::Refusal::OutOfBounds) (the envelope's length, the rate),
+/// Refuses [`OutOfBounds`](crate::Refusal::OutOfBounds) (the envelope's length, the rate, the meter),
 /// [`TooLittleRoom`](crate::Refusal::TooLittleRoom), and [`WrongValue`](crate::Refusal::WrongValue) (an envelope value).
 ///
 /// ```
@@ -191,6 +213,7 @@ pub fn estimate(
             rate,
             opts.min_bpm,
             opts.max_bpm,
+            opts.meter,
             clarity.as_mut_ptr(),
             clarity.len(),
             weight.as_mut_ptr(),
@@ -208,6 +231,7 @@ pub fn estimate(
     Refused::unless_answered("estimate", number, |why| {
         why.frames("envelope", envelope.len())
             .rate(rate)
+            .meter(opts)
             .lag_curves(rate, opts, [("clarity", clarity.len()), ("weight", weight.len()), ("work", work.len())])
             .values("envelope", envelope)
     })?;
@@ -248,6 +272,7 @@ pub fn stability_of(
             rate,
             opts.min_bpm,
             opts.max_bpm,
+            opts.meter,
             whole_lag,
             clarity.as_mut_ptr(),
             clarity.len(),
@@ -264,6 +289,7 @@ pub fn stability_of(
     Refused::unless_answered("stability_of", number, |why| {
         why.frames("envelope", envelope.len())
             .rate(rate)
+            .meter(opts)
             .number("whole_lag", whole_lag as u64, 0, limits::MOST_PERIOD as u64)
             .lag_curves(rate, opts, [("clarity", clarity.len()), ("weight", weight.len()), ("work", work.len())])
             .values("envelope", envelope)

@@ -18,7 +18,7 @@ pub struct Analysis<'a> {
     pub onsets: &'a [u32],
     /// The frames of the beats, ascending.
     pub beats: &'a [u32],
-    /// The frames of the downbeats, ascending.
+    /// The frames of the downbeats, ascending, the first beat of each bar by the options' meter.
     pub downbeats: &'a [u32],
     estimate: TempoEstimate,
 }
@@ -277,16 +277,18 @@ impl Buffers {
 
     /// Analyses a track from its envelope, one slot a frame.
     ///
-    /// Refuses [`OutOfBounds`](Refusal::OutOfBounds) (the length, the rate),
+    /// Refuses [`OutOfBounds`](Refusal::OutOfBounds) (the length, the rate, the meter),
     /// [`TooLittleRoom`](Refusal::TooLittleRoom), and [`WrongValue`](Refusal::WrongValue) (an envelope value).
     pub fn analyse_envelope(&mut self, envelope: &[f64], rate: u32, opts: TempoOpts) -> Result<Analysis<'_>, Refused> {
         let rows = envelope.len();
-        let (number, told) =
-            analyse!(ph_analyse_envelope, &mut self.lists, envelope.as_ptr(), rows, rate, opts.min_bpm, opts.max_bpm);
+        let TempoOpts { min_bpm, max_bpm, meter } = opts;
+        let input = envelope.as_ptr();
+        let (number, told) = analyse!(ph_analyse_envelope, &mut self.lists, input, rows, rate, min_bpm, max_bpm, meter);
         Refused::unless_answered("analyse_envelope", number, |why| {
             let (of_rows, of_lags) = self.lists.lent();
             why.frames("envelope", rows)
                 .rate(rate)
+                .meter(opts)
                 .track((rows, rate, opts), &of_rows, &of_lags, self.lists.work.len())
                 .values("envelope", envelope)
         })?;
@@ -295,7 +297,7 @@ impl Buffers {
 
     /// Analyses a track from its magnitudes, `rows` rows of `bins` values. The buffers then hold its curves.
     ///
-    /// Refuses [`OutOfBounds`](Refusal::OutOfBounds) (rows, bins, the rate),
+    /// Refuses [`OutOfBounds`](Refusal::OutOfBounds) (rows, bins, the rate, the meter),
     /// [`WrongLength`](Refusal::WrongLength), [`TooLittleRoom`](Refusal::TooLittleRoom), and [`WrongValue`](Refusal::WrongValue) (a
     /// magnitude).
     pub fn analyse_magnitudes(
@@ -316,6 +318,7 @@ impl Buffers {
             rate,
             opts.min_bpm,
             opts.max_bpm,
+            opts.meter,
             self.flux.as_mut_ptr(),
             self.flux.len()
         );
@@ -323,6 +326,7 @@ impl Buffers {
             let (of_rows, of_lags) = self.lists.lent();
             why.magnitude_rows("magnitudes", magnitudes.len(), rows, bins)
                 .rate(rate)
+                .meter(opts)
                 .track((rows, rate, opts), &[("flux", self.flux.len())], &[], usize::MAX)
                 .track((rows, rate, opts), &of_rows, &of_lags, self.lists.work.len())
                 .magnitudes("magnitudes", magnitudes)
@@ -384,7 +388,7 @@ impl Buffers {
             let (clarity, weight) = (&mut lists.window_clarity, &mut lists.window_weight);
             let stability = stability_of(flux, rate, opts, lag, clarity, weight, &mut lists.work)?;
             let beats = beat_grid(flux, lag, &mut lists.score, &mut lists.back, &mut lists.beats)?;
-            let downbeats = downbeats(flux, &lists.beats[..beats], &mut lists.downbeats)?;
+            let downbeats = downbeats(flux, &lists.beats[..beats], opts, &mut lists.downbeats)?;
             Ok(Answer { estimate: found, stability, onsets, beats, downbeats })
         })();
         let answer = answer.map_err(|refused: Refused| refused.of_call(CALL))?;

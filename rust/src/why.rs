@@ -159,6 +159,10 @@ impl Why {
         self.number("rate", rate.into(), 1, limits::MOST_RATE.into())
     }
 
+    pub fn meter(self, opts: TempoOpts) -> Why {
+        self.number("meter", opts.meter as u64, 1, limits::MOST_METER as u64)
+    }
+
     pub fn slots(self, slice: &'static str, lent: usize, most: usize) -> Why {
         self.or(Refusal::OutOfBounds, || (lent > most).then_some(Detail::TooMany { slice, lent, most }))
     }

@@ -124,7 +124,7 @@ fn tracks() {
         let (mut score, mut back, mut beats) = (vec![WAS; n], vec![WAS_FRAME; n], vec![WAS_FRAME; n]);
         let laid = beat_grid(&envelope, lag, &mut score, &mut back, &mut beats).unwrap();
         let mut bars = vec![WAS_FRAME; laid + 1];
-        let begun = downbeats(&envelope, &beats[..laid], &mut bars).unwrap();
+        let begun = downbeats(&envelope, &beats[..laid], opts, &mut bars).unwrap();
         for (count, list, (many, first, last)) in [(laid, &beats, heard.beats), (begun, &bars, heard.downbeats)] {
             assert_eq!((count, &list[..3], list[count - 1], list[count]), (many, &first[..], last, WAS_FRAME));
         }
@@ -191,6 +191,98 @@ fn open_bounds() {
         assert_eq!(by_open.candidates(), told(open).0.candidates());
     }
     assert!(tempos >= 5, "too few of them have a tempo to compare");
+}
+
+// pulses a beat apart, each third of them louder, from the second on
+fn waltz(n: usize) -> Vec<f64> {
+    let level = |t: usize| if t / 80 % 3 == 1 { 1.5 } else { 1.0 };
+    (0..n).map(|t| if t % 80 == 5 { level(t) } else { 0.0 }).collect()
+}
+
+// by its rule: of the beats that many apart those whose values sum up to the most, the earliest of equal ones
+fn bars_of(envelope: &[f64], beats: &[u32], meter: usize) -> Vec<u32> {
+    let of = |phase: usize| beats.iter().copied().skip(phase).step_by(meter);
+    let sum = |phase| of(phase).fold(0.0, |sum, t| sum + envelope.get(t as usize).unwrap_or(&0.0));
+    let best = (0..meter).fold(0, |best, phase| if sum(phase) > sum(best) { phase } else { best });
+    of(best).collect()
+}
+
+#[test]
+fn the_options_meter() {
+    let new = TempoOpts::new();
+    assert_eq!((TempoOpts::DEFAULT_METER, TempoOpts::MOST_METER, limits::MOST_METER), (4, 16, 16));
+    assert_eq!((new.meter, TempoOpts::default().meter, TempoOpts::between(50.0, 60.0).meter), (4, 4, 4));
+    let opts = new.with_meter(3).with_min_bpm(50.0).with_max_bpm(60.0);
+    assert_eq!(opts, TempoOpts { min_bpm: 50.0, max_bpm: 60.0, meter: 3 });
+    assert_eq!((opts.with_meter(4), opts.with_meter(0).meter), (TempoOpts::between(50.0, 60.0), 0));
+}
+
+#[test]
+fn meters() {
+    let (n, rate, usual) = (4_000, 48_000, TempoOpts::new());
+    // levels that no two phases share, whatever the meter, and then every third
+    let uneven: Vec<f64> = (0..n).map(|t| if t % 80 == 5 { 1.0 + 0.25 * ((t * t) % 7) as f64 } else { 0.0 }).collect();
+    for envelope in [uneven, waltz(n), turn()] {
+        let magnitudes: Vec<f32> = envelope.iter().map(|&x| x as f32).collect();
+        let room = rooms::lags(rate, usual).unwrap();
+        let told = |opts: TempoOpts| {
+            let (mut clarity, mut weight, mut work) = (vec![WAS; room], vec![WAS; room], vec![WAS; room]);
+            let found = estimate(&envelope, 40, rate, opts, &mut clarity, &mut weight, &mut work).unwrap();
+            let curves = (clarity.clone(), weight.clone());
+            let lag = found.lag().unwrap();
+            let steady = stability_of(&envelope, rate, opts, lag, &mut clarity, &mut weight, &mut work).unwrap();
+            (lag_range(rate, opts).unwrap(), rooms::Track::of(n, rate, opts).unwrap(), found, curves, steady)
+        };
+        let (mut score, mut back, mut beats) = (vec![WAS; n], vec![WAS_FRAME; n], vec![WAS_FRAME; n]);
+        let lag = told(usual).2.lag().unwrap();
+        let laid = beat_grid(&envelope, lag, &mut score, &mut back, &mut beats).unwrap();
+        let beats = &beats[..laid];
+        let mut counts = vec![];
+        for meter in 1..=16 {
+            let opts = usual.with_meter(meter);
+            // nothing else is chosen by it
+            assert_eq!(told(opts), told(usual), "{opts:?}");
+            let mut bars = vec![WAS_FRAME; laid + 1];
+            let begun = downbeats(&envelope, beats, opts, &mut bars).unwrap();
+            assert_eq!((&bars[..begun], bars[begun]), (&bars_of(&envelope, beats, meter)[..], WAS_FRAME), "{opts:?}");
+            // neither are these bounds read
+            let other = TempoOpts::between(f64::NAN, -1.0).with_meter(meter);
+            assert_eq!(downbeats(&envelope, beats, other, &mut vec![0; laid]), Ok(begun));
+            let mut buffers = Buffers::for_tracks(n, rate, usual).unwrap();
+            let by_usual = buffers.analyse_envelope(&envelope, rate, usual).unwrap();
+            let heard = (by_usual.tempo, by_usual.stability, by_usual.onsets.to_vec(), by_usual.beats.to_vec());
+            let same = |track: Analysis| {
+                assert_eq!((track.tempo, track.stability, track.onsets.to_vec(), track.beats.to_vec()), heard);
+                assert_eq!((track.beats, track.downbeats), (beats, &bars[..begun]), "{opts:?}");
+            };
+            same(buffers.analyse_envelope(&envelope, rate, opts).unwrap());
+            same(buffers.analyse_magnitudes(&magnitudes, n, 1, rate, opts).unwrap());
+            // a repaired grid has the meter of the last analysis
+            let mut rows = magnitudes.clone();
+            buffers.patch_magnitudes(&mut rows, n, 1, 0, &magnitudes[..1]).unwrap();
+            same(buffers.analyse_patched().unwrap());
+            same(buffers.analysis().unwrap());
+            assert_eq!(buffers.lags(), lag_range(rate, usual).ok());
+            counts.push(begun);
+        }
+        // a meter that another stood for would be seen
+        assert!(counts[..8].windows(2).all(|c| c[0] > c[1]), "{counts:?}");
+    }
+}
+
+// three beats apart, on the accent
+#[test]
+fn a_waltz() {
+    let (envelope, rate, opts) = (waltz(4_000), 48_000, TempoOpts::new().with_meter(3));
+    let mut buffers = Buffers::for_tracks(4_000, rate, opts).unwrap();
+    let track = buffers.analyse_envelope(&envelope, rate, opts).unwrap();
+    assert_eq!((track.candidates()[0].lag, track.beats.len()), (80, 50));
+    let accents: Vec<u32> = (0..4_000).filter(|&t| envelope[t as usize] == 1.5).collect();
+    assert_eq!((track.downbeats, track.downbeats[0]), (&accents[..], 85));
+    assert!(track.downbeats.windows(2).all(|d| d[1] - d[0] == 3 * 80));
+    // in bars of four they are off it
+    let track = buffers.analyse_envelope(&envelope, rate, TempoOpts::new()).unwrap();
+    assert!(track.downbeats.iter().any(|d| !accents.contains(d)));
 }
 
 #[test]

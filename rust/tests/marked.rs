@@ -51,7 +51,7 @@ fn m11_and_m12_grids() {
     let beats = grid(&envelope, 2);
     assert_eq!(beats, [1, 3, 5]);
     let mut frames = [0; 3];
-    assert_eq!(downbeats(&envelope, &beats, &mut frames), Ok(1));
+    assert_eq!(downbeats(&envelope, &beats, TempoOpts::new(), &mut frames), Ok(1));
     assert_eq!(frames[0], 1);
     assert!(grid(&[4.0; 4], 2).is_empty());
 }

@@ -11,6 +11,14 @@ const TOO_LARGE: f64 = limits::MOST_VALUE * 2.0;
 const TOO_MANY: usize = limits::MOST_ROWS + 1;
 const TOO_MANY_FEATURES: usize = limits::MOST_FEATURE_ROWS + 1;
 
+// meters outside their bounds, among them one that is 4 in fewer bits, and what is said of them
+const NO_METERS: [(usize, &str); 4] = [
+    (0, "meter 0, 1 to 16"),
+    (17, "meter 17, 1 to 16"),
+    ((1 << 32) + 4, "meter 4,294,967,300, 1 to 16"),
+    (usize::MAX, "meter 18,446,744,073,709,551,615, 1 to 16"),
+];
+
 // what is said of a value that is too large, or isn't finite
 fn value(named: &str) -> String {
     format!("{named}: a value is finite and at most 2^150 in size")
@@ -142,6 +150,16 @@ fn tempos() {
     );
     let words = value("envelope[0] is 2.85449538541192e45");
     unchanged!(WrongValue, words, stability_of(&[TOO_LARGE], 48_000, OPTS, 9, &mut a, &mut b, &mut c));
+
+    // a meter that is none, though these answer the same for all: before room and values
+    for (meter, words) in NO_METERS {
+        let opts = open.with_meter(meter);
+        refuses!(OutOfBounds, words, lag_range(48_000, opts));
+        unchanged!(OutOfBounds, words, estimate(&envelope, 2, 48_000, opts, &mut a, &mut b, &mut c));
+        unchanged!(OutOfBounds, words, estimate(&[f64::NAN], 2, 48_000, opts, &mut a[1..], &mut b, &mut c));
+        unchanged!(OutOfBounds, words, stability_of(&envelope, 48_000, opts, 9, &mut a, &mut b, &mut c));
+        unchanged!(OutOfBounds, words, stability_of(&envelope, 48_000, opts, lag, &mut a, &mut b, &mut c));
+    }
 }
 
 #[test]
@@ -166,11 +184,22 @@ fn beats_and_bars() {
     unchanged!(TooLittleRoom, short("back"), beat_grid(&envelope, 2, &mut score, &mut back[1..], &mut beats));
     unchanged!(TooLittleRoom, short("beats"), beat_grid(&envelope, 2, &mut score, &mut back, &mut beats[1..]));
     unchanged!(WrongValue, value("envelope[0] is NaN"), beat_grid(&[f64::NAN], 2, &mut score, &mut back, &mut beats));
-    unchanged!(OutOfBounds, words, downbeats(&many, &[1], &mut beats));
+    unchanged!(OutOfBounds, words, downbeats(&many, &[1], OPTS, &mut beats));
     let entry = "beats[1] is 4,294,967,295, at most 1,048,575";
-    unchanged!(OutOfBounds, entry, downbeats(&envelope, &[1, u32::MAX], &mut beats));
-    unchanged!(TooLittleRoom, "frames: 6 slots lent, 7 needed", downbeats(&envelope, &[1; 7], &mut beats));
-    unchanged!(WrongValue, value("envelope[0] is 2.85449538541192e45"), downbeats(&[TOO_LARGE], &[1], &mut beats));
+    unchanged!(OutOfBounds, entry, downbeats(&envelope, &[1, u32::MAX], OPTS, &mut beats));
+    unchanged!(TooLittleRoom, "frames: 6 slots lent, 7 needed", downbeats(&envelope, &[1; 7], OPTS, &mut beats));
+    unchanged!(
+        WrongValue,
+        value("envelope[0] is 2.85449538541192e45"),
+        downbeats(&[TOO_LARGE], &[1], OPTS, &mut beats)
+    );
+    // of the options the meter alone is judged; before room and values
+    let open = OPTS.with_min_bpm(f64::NAN).with_max_bpm(f64::INFINITY);
+    assert_eq!(downbeats(&envelope, &[1, 3, 5], open, &mut [0; 3]), Ok(1));
+    for (meter, words) in NO_METERS {
+        unchanged!(OutOfBounds, words, downbeats(&envelope, &[1, 3, 5], OPTS.with_meter(meter), &mut beats));
+        unchanged!(OutOfBounds, words, downbeats(&[f64::NAN], &[1; 7], open.with_meter(meter), &mut beats));
+    }
     // bar_beat_at refuses nothing
     assert_eq!(bar_beat_at(f64::NAN, &[0.0], &[0.0]), None);
     assert_eq!(bar_beat_at(f64::INFINITY, &[0.0], &[]), Some(BarBeat { bar: 1, beat: 1 }));
@@ -293,6 +322,8 @@ fn whole_tracks() {
         ("rows 1,048,577, 0 to 1,048,576", room(TOO_MANY, 48_000, OPTS)),
         ("rate 0, 1 to 192,000", room(1, 0, OPTS)),
         ("rate 192,001, 1 to 192,000", room(1, 192_001, OPTS.with_max_bpm(f64::INFINITY))),
+        ("meter 0, 1 to 16", room(1, 48_000, OPTS.with_meter(0))),
+        ("meter 17, 1 to 16", room(1, 48_000, OPTS.with_meter(17))),
     ] {
         assert_eq!(refused, Err(OutOfBounds.into()));
         assert_eq!(refused.unwrap_err().to_string(), format!("room_of refused with 1: {words}"));
@@ -313,6 +344,8 @@ fn whole_tracks() {
     for (number, words, envelope, rate, opts) in [
         (1, "envelope: 1,048,577 slots lent, at most 1,048,576", &long[..], 48_000, OPTS),
         (1, "rate 0, 1 to 192,000", &long[..11], 0, OPTS),
+        (1, "meter 0, 1 to 16", &long[..9], 48_000, OPTS.with_meter(0)),
+        (1, "meter 17, 1 to 16", &long[..11], 48_000, OPTS.with_meter(17)),
         (3, &format!("threshold: 10 slots lent, 11 needed; {made}"), &long[..11], 48_000, OPTS),
         (3, &format!("clarity: 338 slots lent, 2,213 needed; {made}"), &long[..9], 48_000, slow),
         (3, &format!("clarity: 338 slots lent, 11,213 needed; {made}"), &long[..9], 48_000, open),
@@ -325,6 +358,8 @@ fn whole_tracks() {
         (1, "rows 1,048,577, 0 to 1,048,576", &[][..], TOO_MANY, 1, 48_000, OPTS),
         (1, "bins 0, 1 to 4,096", &[], 1, 0, 48_000, OPTS),
         (1, "rate 0, 1 to 192,000", &[], 1, 1, 0, OPTS),
+        (1, "meter 0, 1 to 16", &[1.0; 4], 2, 2, 48_000, OPTS.with_meter(0)),
+        (1, "meter 17, 1 to 16", &[1.0; 3], 2, 2, 48_000, OPTS.with_meter(17)),
         (2, "magnitudes: 3 values lent, 4 needed: 2 rows of 2", &[1.0; 3], 2, 2, 48_000, OPTS),
         (3, &format!("flux: 10 slots lent, 11 needed; {made}"), &[f32::NAN; 11], 11, 1, 48_000, OPTS),
         (3, &format!("clarity: 338 slots lent, 2,213 needed; {made}"), &[1.0; 4], 2, 2, 48_000, slow),
@@ -368,7 +403,7 @@ fn a_refusal_explains_itself() {
     assert_eq!(format!("{:?}", lag_range(0, OPTS)), "Err(Refused(lag_range refused with 1: rate 0, 1 to 192,000))");
 }
 
-// the README shows four
+// the README shows five
 #[test]
 fn as_the_readme_says() {
     let mut nan = [0.0; 18];
@@ -376,6 +411,7 @@ fn as_the_readme_says() {
     for refused in [
         adaptive_threshold(&[0.0; 4_096], &mut [0.0; 4_095], &mut [0.0; 21]).unwrap_err(),
         Buffers::for_tracks(1, 1, OPTS).unwrap().analyse_envelope(&[0.0], 0, OPTS).unwrap_err(),
+        downbeats(&[0.0], &[0], OPTS.with_meter(17), &mut [0]).unwrap_err(),
         spectral_flux(&[0.0; 7], 4, 2, &mut [0.0; 4]).unwrap_err(),
         pick_onsets(&nan, &[0.0; 18], 48_000, &mut [0; 18]).unwrap_err(),
     ] {

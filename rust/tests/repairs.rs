@@ -57,6 +57,8 @@ fn patched_tracks() {
         (2_500, 1, 48_000, fast, 73),
         (2_500, 1, 48_000, new, 0),
         (4_000, 4, 48_000, new, 94),
+        (2_500, 1, 48_000, new.with_meter(3), 94),
+        (2_500, 2, 48_000, slow.with_meter(7), 94),
     ] {
         let mut magnitudes = rows_of(rows, bins, beat, &mut r);
         // room to spare, and another track's curves in it

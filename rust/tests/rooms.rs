@@ -54,7 +54,7 @@ fn one_slot_short() {
             ("beat_grid", &[rooms::beats(n); 3], &|r| {
                 beat_grid(&flux, 60, &mut reals(r[0]), &mut frames(r[1]), &mut frames(r[2])).map(drop)
             }),
-            ("downbeats", &[rooms::entries(n)], &|r| downbeats(&flux, &list, &mut frames(r[0])).map(drop)),
+            ("downbeats", &[rooms::entries(n)], &|r| downbeats(&flux, &list, new, &mut frames(r[0])).map(drop)),
             ("similarity", &[rooms::similarity(n)], &|r| similarity(&ones, n, &mut reals(r[0]))),
             ("novelty", &[rooms::novelty(n)], &|r| novelty(&vec![1.0; 17 * n], n, &mut reals(r[0]))),
             ("boundaries", &[rooms::boundaries(n); 2], &|r| {

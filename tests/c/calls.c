@@ -94,8 +94,8 @@ static void constants(struct run *run)
     CHECK(ph_frame_times(last, 1, PROHUNSEV_MOST_RATE, slot, 0) == PROHUNSEV_TOO_LITTLE_ROOM);
     CHECK(ph_frame_times(last, 1, 48000, slot, 1) == 0);
     CHECK(slot[0] == ((double)PROHUNSEV_MOST_FRAME * PROHUNSEV_HOP + PROHUNSEV_FRAME / 2.0) / 48000.0 * 1000.0);
-    CHECK(ph_room_of(PROHUNSEV_MOST_ROWS, 48000, PROHUNSEV_MIN_BPM, PROHUNSEV_MAX_BPM, &low, &high, &slots) == 0);
-    CHECK(ph_room_of(PROHUNSEV_MOST_ROWS + 1, 48000, PROHUNSEV_MIN_BPM, PROHUNSEV_MAX_BPM, &low, &high, &slots) == 1);
+    CHECK(ph_room_of(PROHUNSEV_MOST_ROWS, 48000, PROHUNSEV_MIN_BPM, PROHUNSEV_MAX_BPM, PROHUNSEV_DEFAULT_METER, &low, &high, &slots) == 0);
+    CHECK(ph_room_of(PROHUNSEV_MOST_ROWS + 1, 48000, PROHUNSEV_MIN_BPM, PROHUNSEV_MAX_BPM, PROHUNSEV_DEFAULT_METER, &low, &high, &slots) == 1);
     CHECK(ph_spectral_flux(loud, 0, 0, PROHUNSEV_MOST_BINS, slot, 1) == 0);
     CHECK(ph_spectral_flux(loud, 0, 0, PROHUNSEV_MOST_BINS + 1, slot, 1) == 1);
     CHECK(ph_spectral_flux(loud, 1, 2, 1, slot, 1) == PROHUNSEV_WRONG_LENGTH);
@@ -105,6 +105,9 @@ static void constants(struct run *run)
     CHECK(ph_median_of(larger, 1, work, 1, slot) == PROHUNSEV_WRONG_VALUE);
     CHECK(ph_beat_grid(large, 1, PROHUNSEV_MOST_PERIOD + 1, slot, 1, back, 1, listed, 1, &count) == 1);
     CHECK(ph_beat_grid(large, 1, PROHUNSEV_MOST_PERIOD, slot, 1, back, 1, listed, 1, &count) == 0);
+    CHECK(PROHUNSEV_DEFAULT_METER == 4);
+    CHECK(ph_downbeats(large, 1, last, 1, PROHUNSEV_MOST_METER, listed, 1, &count) == 0);
+    CHECK(ph_downbeats(large, 1, last, 1, PROHUNSEV_MOST_METER + 1, listed, 1, &count) == PROHUNSEV_OUT_OF_BOUNDS);
     CHECK(ph_boundary_times(last_row, 1, PROHUNSEV_MOST_FEATURE_LENGTH, 48000, slot, 1) == 0);
     CHECK(ph_boundary_times(past_row, 1, PROHUNSEV_MOST_FEATURE_LENGTH, 48000, slot, 1) == 1);
     CHECK(ph_boundary_times(last_row, 1, (uint64_t)PROHUNSEV_MOST_FEATURE_LENGTH + 1, 48000, slot, 1) == 1);
@@ -199,14 +202,14 @@ static void lags(struct run *run)
 {
     size_t least = POISON_SIZE, most = POISON_SIZE;
 
-    CHECK(ph_lag_range(0, 30.0, 300.0, &least, &most) == 1);
-    CHECK(ph_lag_range(0, NAN, INFINITY, &least, &most) == 1);
+    CHECK(ph_lag_range(0, 30.0, 300.0, 4, &least, &most) == 1);
+    CHECK(ph_lag_range(0, NAN, INFINITY, 4, &least, &most) == 1);
     CHECK(least == POISON_SIZE && most == POISON_SIZE);
-    CHECK(ph_lag_range(48000, 30.0, 300.0, &least, &most) == 0);
+    CHECK(ph_lag_range(48000, 30.0, 300.0, 4, &least, &most) == 0);
     CHECK(least == 38 && most == 375); /* M5 */
-    CHECK(ph_lag_range(48000, 200.0, 100.0, &least, &most) == 0);
+    CHECK(ph_lag_range(48000, 200.0, 100.0, 4, &least, &most) == 0);
     CHECK(least == 56 && most == 113); /* M6 */
-    CHECK(ph_lag_range(1, 30.0, 300.0, &least, &most) == 0);
+    CHECK(ph_lag_range(1, 30.0, 300.0, 4, &least, &most) == 0);
     CHECK(least == 1 && most == 2); /* M8 */
 
     /* bounds that are not finite, and their lags by the original */
@@ -220,9 +223,9 @@ static void lags(struct run *run)
     for (size_t k = 0; k < sizeof open / sizeof open[0]; k++) {
         size_t rows, lags, work;
         least = most = POISON_SIZE;
-        CHECK(ph_lag_range(48000, open[k].min_bpm, open[k].max_bpm, &least, &most) == 0);
+        CHECK(ph_lag_range(48000, open[k].min_bpm, open[k].max_bpm, 4, &least, &most) == 0);
         CHECK(least == open[k].least && most == open[k].most);
-        CHECK(ph_room_of(9, 48000, open[k].min_bpm, open[k].max_bpm, &rows, &lags, &work) == 0);
+        CHECK(ph_room_of(9, 48000, open[k].min_bpm, open[k].max_bpm, 4, &rows, &lags, &work) == 0);
         CHECK(rows == 9 && lags == most - least + 1 && work == (lags < 9 ? 9 : lags));
     }
 }
@@ -239,25 +242,27 @@ static void tempo(struct run *run)
 
     for (size_t i = 0; i < N; i++)
         envelope[i] = i % 50 == 0 ? 1.0 : 0.0;
-    CHECK(ph_lag_range(RATE, 30.0, 300.0, &least, &most) == 0 && most - least + 1 == L);
+    CHECK(ph_lag_range(RATE, 30.0, 300.0, 4, &least, &most) == 0 && most - least + 1 == L);
     poison(clarity_curve, L + 2), poison(weight_curve, L + 2), poison(work, L + 2);
 
-    CHECK(ph_estimate(envelope, N, 12, RATE, 30.0, 300.0, clarity_curve, L, weight_curve, L - 1, work, L, &found, &bpm, &clarity, lags,
+    CHECK(ph_estimate(envelope, N, 12, RATE, 30.0, 300.0, 4, clarity_curve, L, weight_curve, L - 1, work, L, &found, &bpm, &clarity, lags,
                       saliences, &count) == 3);
     /* no upper limit: lags 1 to 200, for which this is too little room */
-    CHECK(ph_estimate(envelope, N, 12, RATE, 30.0, INFINITY, clarity_curve, L, weight_curve, L, work, L, &found, &bpm, &clarity, lags, saliences, &count) == 3);
-    CHECK(ph_estimate(envelope, N, 12, 0, 30.0, INFINITY, clarity_curve, L, weight_curve, L, work, L, &found, &bpm, &clarity, lags, saliences, &count) == 1);
+    CHECK(ph_estimate(envelope, N, 12, RATE, 30.0, INFINITY, 4, clarity_curve, L, weight_curve, L, work, L, &found, &bpm, &clarity, lags,
+                      saliences, &count) == 3);
+    CHECK(ph_estimate(envelope, N, 12, 0, 30.0, INFINITY, 4, clarity_curve, L, weight_curve, L, work, L, &found, &bpm, &clarity, lags,
+                      saliences, &count) == 1);
     CHECK(found == POISON_FRAME && bpm == POISON && clarity == POISON && count == POISON_SIZE);
     CHECK(lags[0] == POISON_SIZE && lags[2] == POISON_SIZE && saliences[0] == POISON && saliences[2] == POISON);
     CHECK(kept(clarity_curve, 0, L + 2) && kept(weight_curve, 0, L + 2) && kept(work, 0, L + 2));
 
     /* one onset is no tempo: an answer, and the curves stay */
-    CHECK(ph_estimate(envelope, N, 1, RATE, 30.0, 300.0, clarity_curve, L + 2, weight_curve, L + 2, work, L + 2, &found, &bpm, &clarity,
+    CHECK(ph_estimate(envelope, N, 1, RATE, 30.0, 300.0, 4, clarity_curve, L + 2, weight_curve, L + 2, work, L + 2, &found, &bpm, &clarity,
                       lags, saliences, &count) == 0);
     CHECK(found == 0 && bpm == 0.0 && clarity == 0.0 && count == 0 && lags[0] == 0 && lags[2] == 0 && saliences[0] == 0.0 && saliences[2] == 0.0);
     CHECK(kept(clarity_curve, 0, L + 2) && kept(weight_curve, 0, L + 2));
 
-    CHECK(ph_estimate(envelope, N, 12, RATE, 30.0, 300.0, clarity_curve, L + 2, weight_curve, L + 2, work, L + 2, &found, &bpm, &clarity,
+    CHECK(ph_estimate(envelope, N, 12, RATE, 30.0, 300.0, 4, clarity_curve, L + 2, weight_curve, L + 2, work, L + 2, &found, &bpm, &clarity,
                       lags, saliences, &count) == 0);
     CHECK(found == 1 && bpm == 120.0 && lags[0] == 50 && saliences[0] == clarity && 1 <= count && count <= 3);
     CHECK(clarity_curve[50 - least] == clarity && 0.9 < clarity && clarity <= 1.0);
@@ -265,14 +270,14 @@ static void tempo(struct run *run)
 
     poison(clarity_curve, L + 2), poison(weight_curve, L + 2);
     found = POISON_FRAME;
-    CHECK(ph_stability_of(envelope, N, RATE, 30.0, 300.0, 45001, clarity_curve, L, weight_curve, L, work, L, &found, &fraction, &agreeing, &windows) == 1);
-    CHECK(ph_stability_of(envelope, N, RATE, 30.0, 300.0, 50, clarity_curve, L, weight_curve, L, work, L - 1, &found, &fraction, &agreeing, &windows) == 3);
+    CHECK(ph_stability_of(envelope, N, RATE, 30.0, 300.0, 4, 45001, clarity_curve, L, weight_curve, L, work, L, &found, &fraction, &agreeing, &windows) == 1);
+    CHECK(ph_stability_of(envelope, N, RATE, 30.0, 300.0, 4, 50, clarity_curve, L, weight_curve, L, work, L - 1, &found, &fraction, &agreeing, &windows) == 3);
     CHECK(found == POISON_FRAME && fraction == POISON && agreeing == POISON_SIZE && windows == POISON_SIZE);
     CHECK(kept(clarity_curve, 0, L + 2) && kept(weight_curve, 0, L + 2) && kept(work, 0, L + 2));
-    CHECK(ph_stability_of(envelope, N, RATE, 30.0, 300.0, 0, clarity_curve, L + 2, weight_curve, L + 2, work, L + 2, &found, &fraction,
+    CHECK(ph_stability_of(envelope, N, RATE, 30.0, 300.0, 4, 0, clarity_curve, L + 2, weight_curve, L + 2, work, L + 2, &found, &fraction,
                           &agreeing, &windows) == 0);
     CHECK(found == 0 && fraction == 0.0 && agreeing == 0 && windows == 0);
-    CHECK(ph_stability_of(envelope, N, RATE, 30.0, 300.0, 50, clarity_curve, L + 2, weight_curve, L + 2, work, L + 2, &found, &fraction,
+    CHECK(ph_stability_of(envelope, N, RATE, 30.0, 300.0, 4, 50, clarity_curve, L + 2, weight_curve, L + 2, work, L + 2, &found, &fraction,
                           &agreeing, &windows) == 0);
     CHECK(found == 1 && windows == 2 && agreeing == 2 && fraction == 1.0);
     CHECK(kept(clarity_curve, L, L + 2) && kept(weight_curve, L, L + 2) && kept(work, L, L + 2));
@@ -299,11 +304,77 @@ static void beats(struct run *run)
     CHECK(kept(score, 6, 8) && kept_frames(back, 6, 8) && kept_frames(grid, 3, 8));
 
     count = POISON_SIZE;
-    CHECK(ph_downbeats(envelope, 6, late, 1, frames, 5, &count) == 1);
-    CHECK(ph_downbeats(envelope, 6, grid, 3, frames, 2, &count) == 3);
+    CHECK(ph_downbeats(envelope, 6, late, 1, 4, frames, 5, &count) == 1);
+    CHECK(ph_downbeats(envelope, 6, grid, 3, 4, frames, 2, &count) == 3);
     CHECK(count == POISON_SIZE && kept_frames(frames, 0, 5));
-    CHECK(ph_downbeats(envelope, 6, grid, 3, frames, 5, &count) == 0);
+    CHECK(ph_downbeats(envelope, 6, grid, 3, 4, frames, 5, &count) == 0);
     CHECK(count == 1 && frames[0] == 1 && kept_frames(frames, 1, 5)); /* M11 */
+}
+
+/* a meter that is 4 where only its lower half is read */
+#define FOUR_IN_FEWER_BITS (((size_t)-1 >> 1) + 5)
+
+/* beats of a bar: the downbeats of 1 to 16 by their rule, written out; any other is refused by every call that takes the options, and a
+ * refusal changes nothing */
+static void meters(struct run *run)
+{
+    enum { BEATS = 40, RATE = 25600, L = 181 };
+    static const size_t refused[] = {0, 17, 260, FOUR_IN_FEWER_BITS, (size_t)-1};
+    const uint32_t late[1] = {1048576};
+    const double bad[1] = {NAN};
+    double envelope[BEATS], clarity_curve[L], weight_curve[L], work[L], bpm = POISON, clarity = POISON, fraction = POISON;
+    double saliences[3] = {POISON, POISON, POISON};
+    uint32_t list[BEATS], frames[BEATS + 2], found = POISON_FRAME;
+    size_t lags[3] = {POISON_SIZE, POISON_SIZE, POISON_SIZE}, count = POISON_SIZE, agreeing = POISON_SIZE, windows = POISON_SIZE;
+    size_t least = POISON_SIZE, most = POISON_SIZE, rows = POISON_SIZE;
+    uint32_t seed = 3;
+
+    for (size_t i = 0; i < BEATS; i++) {
+        envelope[i] = (double)(next(&seed) % 5) - 1.0;
+        list[i] = next(&seed) % (BEATS + 3); /* some past the envelope */
+    }
+    for (size_t meter = 1; meter <= PROHUNSEV_MOST_METER; meter++) {
+        size_t best = 0, expected = 0;
+        double greatest = -INFINITY;
+        for (size_t phase = 0; phase < meter; phase++) {
+            double sum = 0.0;
+            for (size_t i = phase; i < BEATS; i += meter)
+                sum += list[i] < BEATS ? envelope[list[i]] : 0.0;
+            if (sum > greatest)
+                greatest = sum, best = phase;
+        }
+        poison_frames(frames, BEATS + 2);
+        CHECK(ph_downbeats(envelope, BEATS, list, BEATS, meter, frames, BEATS + 2, &count) == 0);
+        for (size_t i = best; i < BEATS; i += meter)
+            CHECK(frames[expected++] == list[i]);
+        CHECK(count == expected && kept_frames(frames, expected, BEATS + 2));
+        /* nothing else is chosen by it */
+        CHECK(ph_lag_range(48000, 30.0, 300.0, meter, &least, &most) == 0 && least == 38 && most == 375);
+        CHECK(ph_room_of(9, 48000, 30.0, 300.0, meter, &rows, &least, &most) == 0 && rows == 9 && least == 338 && most == 338);
+        CHECK(ph_stability_of(envelope, BEATS, RATE, 30.0, 300.0, meter, 45000, clarity_curve, L, weight_curve, L, work, L, &found, &fraction,
+                              &agreeing, &windows) == 0);
+    }
+
+    count = least = most = rows = agreeing = windows = POISON_SIZE;
+    found = POISON_FRAME, fraction = POISON;
+    poison(clarity_curve, L), poison(weight_curve, L), poison(work, L), poison_frames(frames, BEATS + 2);
+    for (size_t k = 0; k < sizeof refused / sizeof refused[0]; k++) {
+        const size_t meter = refused[k];
+        CHECK(ph_downbeats(envelope, BEATS, list, BEATS, meter, frames, BEATS + 2, &count) == 1);
+        CHECK(ph_downbeats(bad, 1, late, 1, meter, frames, 0, &count) == 1); /* before 3 and 4 */
+        CHECK(ph_lag_range(48000, 30.0, 300.0, meter, &least, &most) == 1);
+        CHECK(ph_room_of(9, 48000, 30.0, 300.0, meter, &rows, &least, &most) == 1);
+        CHECK(ph_estimate(envelope, BEATS, 9, RATE, 30.0, 300.0, meter, clarity_curve, L, weight_curve, L, work, L, &found, &bpm, &clarity, lags,
+                          saliences, &count) == 1);
+        CHECK(ph_estimate(bad, 1, 9, RATE, 30.0, 300.0, meter, clarity_curve, 0, weight_curve, 0, work, 0, &found, &bpm, &clarity, lags,
+                          saliences, &count) == 1);
+        CHECK(ph_stability_of(envelope, BEATS, RATE, 30.0, 300.0, meter, 50, clarity_curve, L, weight_curve, L, work, L, &found, &fraction,
+                              &agreeing, &windows) == 1);
+    }
+    CHECK(count == POISON_SIZE && least == POISON_SIZE && most == POISON_SIZE && rows == POISON_SIZE && agreeing == POISON_SIZE);
+    CHECK(windows == POISON_SIZE && found == POISON_FRAME && bpm == POISON && clarity == POISON && fraction == POISON);
+    CHECK(lags[0] == POISON_SIZE && lags[2] == POISON_SIZE && saliences[0] == POISON && saliences[2] == POISON);
+    CHECK(kept(clarity_curve, 0, L) && kept(weight_curve, 0, L) && kept(work, 0, L) && kept_frames(frames, 0, BEATS + 2));
 }
 
 static void bars(struct run *run)
@@ -461,18 +532,18 @@ static void poison_track(struct track *t)
     t->found = t->steady = POISON_FRAME;
 }
 
-static uint32_t analyse_envelope(const double *envelope, uint32_t rate, struct track *t, size_t work_len)
+static uint32_t analyse_envelope(const double *envelope, uint32_t rate, size_t meter, struct track *t, size_t work_len)
 {
-    return ph_analyse_envelope(envelope, TRACK, rate, 30.0, 300.0, t->threshold, TRACK + SPARE, t->onsets, TRACK + SPARE, t->clarity_curve,
+    return ph_analyse_envelope(envelope, TRACK, rate, 30.0, 300.0, meter, t->threshold, TRACK + SPARE, t->onsets, TRACK + SPARE, t->clarity_curve,
                                TRACK_LAGS + SPARE, t->weight_curve, TRACK_LAGS + SPARE, t->window_clarity, TRACK_LAGS + SPARE, t->window_weight,
                                TRACK_LAGS + SPARE, t->score, TRACK + SPARE, t->back, TRACK + SPARE, t->beats, TRACK + SPARE, t->downbeats,
                                TRACK + SPARE, t->work, work_len, &t->onset_count, &t->found, &t->bpm, &t->clarity, t->lags, t->saliences,
                                &t->count, &t->steady, &t->fraction, &t->agreeing, &t->windows, &t->beat_count, &t->downbeat_count);
 }
 
-static uint32_t analyse_magnitudes(const float *magnitudes, size_t bins, uint32_t rate, struct track *t)
+static uint32_t analyse_magnitudes(const float *magnitudes, size_t bins, uint32_t rate, size_t meter, struct track *t)
 {
-    return ph_analyse_magnitudes(magnitudes, TRACK, TRACK, bins, rate, 30.0, 300.0, t->flux, TRACK + SPARE, t->threshold, TRACK + SPARE,
+    return ph_analyse_magnitudes(magnitudes, TRACK, TRACK, bins, rate, 30.0, 300.0, meter, t->flux, TRACK + SPARE, t->threshold, TRACK + SPARE,
                                  t->onsets, TRACK + SPARE, t->clarity_curve, TRACK_LAGS + SPARE, t->weight_curve, TRACK_LAGS + SPARE,
                                  t->window_clarity, TRACK_LAGS + SPARE, t->window_weight, TRACK_LAGS + SPARE, t->score, TRACK + SPARE, t->back,
                                  TRACK + SPARE, t->beats, TRACK + SPARE, t->downbeats, TRACK + SPARE, t->work, TRACK_LAGS + SPARE,
@@ -480,8 +551,8 @@ static uint32_t analyse_magnitudes(const float *magnitudes, size_t bins, uint32_
                                  &t->fraction, &t->agreeing, &t->windows, &t->beat_count, &t->downbeat_count);
 }
 
-/* one call for the whole track, and its parts called in turn */
-static void whole_tracks(struct run *run)
+/* one call for the whole track, and its parts called in turn, with so many beats to the bar; each third click is accented, from the second on */
+static void whole_track(struct run *run, size_t meter)
 {
     enum { RATE = 25600 };
     struct track *whole = malloc(sizeof *whole), *parts = malloc(sizeof *parts);
@@ -490,33 +561,38 @@ static void whole_tracks(struct run *run)
     size_t rows = POISON_SIZE, lag_slots = POISON_SIZE, sorting = POISON_SIZE;
 
     CHECK(whole != NULL && parts != NULL);
-    CHECK(ph_room_of(1048577, RATE, 30.0, 300.0, &rows, &lag_slots, &sorting) == 1);
+    CHECK(ph_room_of(1048577, RATE, 30.0, 300.0, meter, &rows, &lag_slots, &sorting) == 1);
     CHECK(rows == POISON_SIZE && lag_slots == POISON_SIZE && sorting == POISON_SIZE);
-    CHECK(ph_room_of(TRACK, RATE, 30.0, 300.0, &rows, &lag_slots, &sorting) == 0);
+    CHECK(ph_room_of(TRACK, RATE, 30.0, 300.0, meter, &rows, &lag_slots, &sorting) == 0);
     CHECK(rows == TRACK && lag_slots == TRACK_LAGS && sorting == TRACK_LAGS);
 
     for (size_t i = 0; i < TRACK; i++)
-        magnitudes[i] = i % 50 == 0 ? 1.0f : 0.0f;
+        magnitudes[i] = i % 50 != 0 ? 0.0f : i / 50 % 3 == 2 ? 2.0f : 1.0f;
     poison_track(whole), poison_track(parts);
-    CHECK(analyse_magnitudes(magnitudes, 2, RATE, whole) == 2);
-    CHECK(analyse_magnitudes(magnitudes, 1, 0, whole) == 1);
+    CHECK(analyse_magnitudes(magnitudes, 2, RATE, meter, whole) == 2);
+    CHECK(analyse_magnitudes(magnitudes, 1, 0, meter, whole) == 1);
+    CHECK(analyse_magnitudes(magnitudes, 2, RATE, 0, whole) == 1); /* before 2 */
+    CHECK(analyse_magnitudes(magnitudes, 1, RATE, 17, whole) == 1 && analyse_magnitudes(magnitudes, 1, RATE, FOUR_IN_FEWER_BITS, whole) == 1);
     CHECK(same(whole, parts, sizeof *whole));
 
     CHECK(ph_spectral_flux(magnitudes, TRACK, TRACK, 1, parts->flux, TRACK + SPARE) == 0);
     memcpy(envelope, parts->flux, sizeof envelope);
     CHECK(ph_adaptive_threshold(envelope, TRACK, parts->threshold, TRACK + SPARE, parts->work, TRACK_LAGS) == 0);
     CHECK(ph_pick_onsets(envelope, TRACK, parts->threshold, TRACK, RATE, parts->onsets, TRACK + SPARE, &parts->onset_count) == 0);
-    CHECK(ph_estimate(envelope, TRACK, parts->onset_count, RATE, 30.0, 300.0, parts->clarity_curve, TRACK_LAGS + SPARE, parts->weight_curve,
+    CHECK(ph_estimate(envelope, TRACK, parts->onset_count, RATE, 30.0, 300.0, meter, parts->clarity_curve, TRACK_LAGS + SPARE, parts->weight_curve,
                       TRACK_LAGS + SPARE, parts->work, TRACK_LAGS, &parts->found, &parts->bpm, &parts->clarity, parts->lags, parts->saliences,
                       &parts->count) == 0);
-    CHECK(ph_stability_of(envelope, TRACK, RATE, 30.0, 300.0, parts->lags[0], parts->window_clarity, TRACK_LAGS + SPARE, parts->window_weight,
+    CHECK(ph_stability_of(envelope, TRACK, RATE, 30.0, 300.0, meter, parts->lags[0], parts->window_clarity, TRACK_LAGS + SPARE, parts->window_weight,
                           TRACK_LAGS + SPARE, parts->work, TRACK_LAGS, &parts->steady, &parts->fraction, &parts->agreeing, &parts->windows) == 0);
     CHECK(ph_beat_grid(envelope, TRACK, parts->lags[0], parts->score, TRACK + SPARE, parts->back, TRACK + SPARE, parts->beats, TRACK + SPARE,
                        &parts->beat_count) == 0);
-    CHECK(ph_downbeats(envelope, TRACK, parts->beats, parts->beat_count, parts->downbeats, TRACK + SPARE, &parts->downbeat_count) == 0);
+    CHECK(ph_downbeats(envelope, TRACK, parts->beats, parts->beat_count, meter, parts->downbeats, TRACK + SPARE, &parts->downbeat_count) == 0);
     CHECK(parts->onset_count == 11 && parts->found == 1 && parts->bpm == 120.0 && parts->beat_count > 2 && parts->downbeat_count > 0);
+    /* a waltz: three beats apart, on the accent */
+    for (size_t i = 0; meter == 3 && i < parts->downbeat_count; i++)
+        CHECK(parts->downbeats[i] == 100 + 150 * i && parts->downbeat_count == 4);
 
-    CHECK(analyse_magnitudes(magnitudes, 1, RATE, whole) == 0);
+    CHECK(analyse_magnitudes(magnitudes, 1, RATE, meter, whole) == 0);
     CHECK(kept(whole->window_clarity, TRACK_LAGS, TRACK_LAGS + SPARE) && kept(whole->window_weight, TRACK_LAGS, TRACK_LAGS + SPARE));
     CHECK(kept(whole->work, TRACK_LAGS, TRACK_LAGS + SPARE));
     /* what is worked in holds anything */
@@ -526,16 +602,27 @@ static void whole_tracks(struct run *run)
     CHECK(same(whole, parts, sizeof *whole));
 
     poison_track(whole);
-    CHECK(analyse_envelope(envelope, RATE, whole, TRACK_LAGS - 1) == 3);
+    CHECK(analyse_envelope(envelope, RATE, 0, whole, TRACK_LAGS - 1) == 1); /* before 3 */
+    CHECK(analyse_envelope(envelope, RATE, 17, whole, TRACK_LAGS) == 1);
+    CHECK(analyse_envelope(envelope, RATE, FOUR_IN_FEWER_BITS, whole, TRACK_LAGS) == 1);
+    CHECK(analyse_envelope(envelope, RATE, meter, whole, TRACK_LAGS - 1) == 3);
     CHECK(whole->found == POISON_FRAME && whole->beat_count == POISON_SIZE && kept(whole->threshold, 0, TRACK + SPARE) &&
           kept(whole->work, 0, TRACK_LAGS + SPARE));
-    CHECK(analyse_envelope(envelope, RATE, whole, TRACK_LAGS) == 0);
+    CHECK(analyse_envelope(envelope, RATE, meter, whole, TRACK_LAGS) == 0);
     memcpy(whole->flux, parts->flux, sizeof whole->flux);
     memcpy(whole->window_clarity, parts->window_clarity, sizeof whole->window_clarity);
     memcpy(whole->window_weight, parts->window_weight, sizeof whole->window_weight);
     memcpy(whole->work, parts->work, sizeof whole->work);
     CHECK(same(whole, parts, sizeof *whole));
     free(whole), free(parts);
+}
+
+static void whole_tracks(struct run *run)
+{
+    static const size_t meters[] = {4, 3, 1, 16};
+
+    for (size_t k = 0; k < sizeof meters / sizeof meters[0]; k++)
+        whole_track(run, meters[k]);
 }
 
 static void *all(void *given)
@@ -550,6 +637,7 @@ static void *all(void *given)
         lags(run);
         tempo(run);
         beats(run);
+        meters(run);
         bars(run);
         sections(run);
         row_patches(run);

@@ -47,22 +47,22 @@ static uint32_t suppress_close_peaks(void)
     return ph_suppress_close_peaks(S(0, lent.p, N), S(1, lent.a, N), 3, S(2, lent.q, N), lent.sizes);
 }
 static uint32_t frame_times(void) { return ph_frame_times(S(0, lent.p, N), RATE, S(1, lent.c, N)); }
-static uint32_t lag_range(void) { return ph_lag_range(RATE, 30.0, 300.0, lent.sizes, lent.sizes + 1); }
+static uint32_t lag_range(void) { return ph_lag_range(RATE, 30.0, 300.0, 4, lent.sizes, lent.sizes + 1); }
 static uint32_t estimate(void)
 {
-    return ph_estimate(S(0, lent.a, N), 5, RATE, 30.0, 300.0, S(1, lent.c, 19), S(2, lent.d, 19), S(3, lent.work, 19), lent.small, lent.reals,
+    return ph_estimate(S(0, lent.a, N), 5, RATE, 30.0, 300.0, 4, S(1, lent.c, 19), S(2, lent.d, 19), S(3, lent.work, 19), lent.small, lent.reals,
                        lent.reals + 1, lent.lags, lent.saliences, lent.sizes);
 }
 static uint32_t stability_of(void)
 {
-    return ph_stability_of(S(0, lent.a, N), RATE, 30.0, 300.0, 8, S(1, lent.c, 19), S(2, lent.d, 19), S(3, lent.work, 19), lent.small,
+    return ph_stability_of(S(0, lent.a, N), RATE, 30.0, 300.0, 4, 8, S(1, lent.c, 19), S(2, lent.d, 19), S(3, lent.work, 19), lent.small,
                            lent.reals, lent.sizes, lent.sizes + 1);
 }
 static uint32_t beat_grid(void)
 {
     return ph_beat_grid(S(0, lent.a, N), 8, S(1, lent.c, N), S(2, lent.q, N), S(3, lent.r, N), lent.sizes);
 }
-static uint32_t downbeats(void) { return ph_downbeats(S(0, lent.a, N), S(1, lent.p, N), S(2, lent.q, N), lent.sizes); }
+static uint32_t downbeats(void) { return ph_downbeats(S(0, lent.a, N), S(1, lent.p, N), 4, S(2, lent.q, N), lent.sizes); }
 static uint32_t bar_beat_at(void) { return ph_bar_beat_at(0.5, S(0, lent.a, N), S(1, lent.b, N), lent.small, lent.sizes, lent.sizes + 1); }
 static uint32_t similarity(void) { return ph_similarity(S(0, lent.a, 16 * FEATURES), chosen & 1 ? 0 : FEATURES, S(1, lent.c, 17 * FEATURES)); }
 static uint32_t novelty(void) { return ph_novelty(S(0, lent.a, 17 * FEATURES), chosen & 1 ? 0 : FEATURES, S(1, lent.c, FEATURES)); }
@@ -82,17 +82,17 @@ static uint32_t patch_features(void)
     return ph_patch_features(S(0, lent.a, 16 * FEATURES), chosen & 1 ? 0 : FEATURES, chosen & 1 ? 0 : 1, S(1, lent.b, 16),
                              S(2, lent.c, 17 * FEATURES), S(3, lent.d, FEATURES), lent.sizes, lent.sizes + 1, lent.sizes + 2, lent.sizes + 3);
 }
-static uint32_t room_of(void) { return ph_room_of(N, RATE, 30.0, 300.0, lent.sizes, lent.sizes + 1, lent.sizes + 2); }
+static uint32_t room_of(void) { return ph_room_of(N, RATE, 30.0, 300.0, 4, lent.sizes, lent.sizes + 1, lent.sizes + 2); }
 static uint32_t analyse_envelope(void)
 {
-    return ph_analyse_envelope(S(0, lent.a, N), RATE, 30.0, 300.0, S(1, lent.b, N), S(2, lent.p, N), S(3, lent.c, 19), S(4, lent.d, 19),
+    return ph_analyse_envelope(S(0, lent.a, N), RATE, 30.0, 300.0, 4, S(1, lent.b, N), S(2, lent.p, N), S(3, lent.c, 19), S(4, lent.d, 19),
                                S(5, lent.e, 19), S(6, lent.f, 19), S(7, lent.g, N), S(8, lent.q, N), S(9, lent.r, N), S(10, lent.s, N),
                                S(11, lent.work, 21), lent.sizes, lent.small, lent.reals, lent.reals + 1, lent.lags, lent.saliences,
                                lent.sizes + 1, lent.small + 1, lent.reals + 2, lent.sizes + 2, lent.sizes + 3, lent.sizes + 4, lent.sizes + 5);
 }
 static uint32_t analyse_magnitudes(void)
 {
-    return ph_analyse_magnitudes(S(0, lent.magnitudes, N * BINS), chosen & 1 ? 0 : N, BINS, RATE, 30.0, 300.0, S(1, lent.a, N),
+    return ph_analyse_magnitudes(S(0, lent.magnitudes, N * BINS), chosen & 1 ? 0 : N, BINS, RATE, 30.0, 300.0, 4, S(1, lent.a, N),
                                  S(2, lent.b, N), S(3, lent.p, N), S(4, lent.c, 19), S(5, lent.d, 19), S(6, lent.e, 19), S(7, lent.f, 19),
                                  S(8, lent.g, N), S(9, lent.q, N), S(10, lent.r, N), S(11, lent.s, N), S(12, lent.work, 21), lent.sizes,
                                  lent.small, lent.reals, lent.reals + 1, lent.lags, lent.saliences, lent.sizes + 1, lent.small + 1,
