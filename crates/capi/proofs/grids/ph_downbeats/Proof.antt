@@ -20,7 +20,10 @@ same-length : tie.Need-same-length
 same-length c = search needs
 
 returns : tie.Need-returns
-returns c = ?
+returns c =
+    let d = c .before .before .before .before in
+    let w = d .before .before in
+    rw (w .with-meter .ensures, w .before .new .ensures) at (listed-told (d .downbeats .ensures) (c .counted .ensures))
 
 pub ph-downbeats-spec : {M : Type 1} → statement M
 ph-downbeats-spec = tie.close (tie.spec new-requires with-meter-requires downbeats-requires counted-requires same-length returns)
