@@ -17,7 +17,8 @@ pub enum BarBeat {
     At { bar: usize, beat: usize },
 }
 
-// Lists the downbeats of a beat list: every meter-th beat, from the one that makes their flux sum greatest; of the options the meter alone is read.
+// Lists the downbeats of a beat list: every meter-th beat, from the one that makes their flux sum greatest, the earliest of several such; of the options
+// the meter alone is read.
 // Room: one slot for each beat; slots past the count stay. Refuses 1 (N, a beat above 1,048,575, a meter outside 1 to 16), 3 and 4, and then lists
 // nothing. The beats need not ascend; where flux is negative an empty phase may be the greatest, and then no beat is a downbeat.
 pub fn downbeats(envelope: &[f64], beats: &[u32], opts: TempoOpts, frames: &mut [u32]) -> Listing

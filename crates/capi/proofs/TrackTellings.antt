@@ -49,7 +49,7 @@ track-told {number} {env} {rate} {o} p h =
           };
     }
 
--- of the calls for C, whose options are those of two numbers
+-- of the calls for C, whose options are those of three numbers
 pub envelope-told : {env : List Float} {rate : ℕ} {o o′ : TempoOpts} {was : Results} {spare : Spare} {own : Analysis} {after : Results} {left : Spare}
     {lent₀ : TrackLent} {answer : ℕ} {lent : TrackLent}
     → o ≡ o′ → EnvelopePromise env rate o was spare own after left → Handed (own .number) (trackParts own) lent₀ answer lent

@@ -1,6 +1,6 @@
 -- Open tempo bounds: the lags of any two floats lie in the range that every room formula counts on, no two floats are refused, and for finite bounds
 -- and a meter of 1 to 16 `lag_range` answers what document 01's own rule answers, which knows no meter. Assumes nothing.
-use mathlib.Core.Path.{_≡_, refl, ap, _∙_}
+use mathlib.Core.Path.{_≡_, refl, sym, ap, _∙_}
 use mathlib.Core.Bool.{Bool, true, false, not, _&&_}
 use Prim.Native.Nat.{ℕ, _+_, _≤_, _<_, max}
 use native.Mathlib.Omega.{arith}
@@ -10,6 +10,7 @@ use lib.Ieee.Scale.{finite}
 use Rattle.numbers.specs.Rounded.{_⊕_, _⊗_, _⊘_, real, pick, one, hop}
 use Rattle.numbers.specs.Limits.{mostPeriod, rateFine}
 use Rattle.numbers.specs.Refusals.{outOfBounds}
+use Rattle.numbers.proofs.Tests.{and-true}
 use Rattle.sizes.proofs.Order.{true→T, lt-back, not-lt}
 use Rattle.sizes.proofs.Monotone.{finite-not-nan}
 use Rattle.floats.specs.Wholes.{roundOf}
@@ -48,6 +49,11 @@ room-within rate o e = let w = lags-within rate o e in (omega (arith, w .1), ome
 pub none-refused : (rate : ℕ) (o : TempoOpts) → rateFine rate ≡ true → optionsFine o ≡ true → lagRange rate o .number ≡ 0
 unfolding lagRange boundsFine
 none-refused rate o e f = rw (e, f)
+
+-- With a meter of 4 number 1 covers the rate alone, as it did before there were meters.
+pub four-refused-by-rate : (rate : ℕ) (o : TempoOpts) → boundsFine rate (withMeter 4 o) ≡ rateFine rate
+unfolding boundsFine optionsFine
+four-refused-by-rate rate o = sym (and-true (rateFine rate))
 
 -- The lags are those of the bounds, whatever the meter.
 pub lags-of-bounds : (rate : ℕ) (o : TempoOpts) (meter : ℕ)
@@ -140,13 +146,13 @@ module _ (o : TempoOpts) (low : finite (o .«min_bpm») ≡ true) (high : finite
 
   fine-same : (rate : ℕ) → optionsFine o ≡ true → boundsFine rate o ≡ fineBefore rate o
   unfolding boundsFine
-  fine-same rate meter = rw (low, high, meter) refl
+  fine-same rate fine = rw (low, high, fine) refl
 
 pub finite-as-before : (rate : ℕ) (o : TempoOpts) → finite (o .«min_bpm») ≡ true → finite (o .«max_bpm») ≡ true
     → optionsFine o ≡ true → lagRange rate o ≡ rangeBefore rate o
 unfolding lagRange
-finite-as-before rate o low high meter =
-    ap (λ (b : Bool). answer b (minLag rate o) (maxLag rate o)) (fine-same o low high rate meter)
+finite-as-before rate o low high fine =
+    ap (λ (b : Bool). answer b (minLag rate o) (maxLag rate o)) (fine-same o low high rate fine)
     ∙ ap (λ (m : ℕ). answer (fineBefore rate o) m (maxLag rate o)) (min-lag-same o low high rate)
     ∙ ap (λ (m : ℕ). answer (fineBefore rate o) (minLagBefore rate o) m) (max-lag-same o low high rate)
   where

@@ -1,7 +1,9 @@
 -- What an auditor reads first, one question a file: the marked numbers; that each promise determines its outcome; that patching equals
--- starting over, for the beats (Repaired) and for the sections (RepairedSections), with the parts of their first two theorems (FullRuns, SectionRuns).
+-- starting over, for the beats (Repaired) and for the sections (RepairedSections), with the parts of their first two theorems (FullRuns, SectionRuns);
+-- what the meter changes.
 pub mod Marked
 pub mod Determined
+pub mod Meters
 pub mod FullRuns
 pub mod Repaired
 pub mod SectionRuns

@@ -35,12 +35,12 @@ module _
   pub downbeats-passed : (meter room : ℕ) → between 1 mostMeter meter ≡ true → length env ≤ room
       → downbeatRefusal env (gridOf env period) (withMeter meter defaultOptions) room ≡ 0
   unfolding downbeatRefusal bars.downbeatNumbersFine bars.downbeatRoomFine optionsFine
-  downbeats-passed meter room metered h =
+  downbeats-passed meter room barred h =
       lowest-0 (leb (length env) mostRows && (every frameFine (gridOf env period) && between 1 mostMeter meter)) true
       (leb (length (gridOf env period)) room)
       (every valueFine env)
       (and-both (leb (length env) mostRows) _ (le-leb _ _ few)
-      (and-both (every frameFine (gridOf env period)) (between 1 mostMeter meter) (beats-listable env period few) metered)) refl
+      (and-both (every frameFine (gridOf env period)) (between 1 mostMeter meter) (beats-listable env period few) barred)) refl
       (le-leb (length (gridOf env period)) room (omega (arith, beats-fit env period)))
       fine
 
@@ -55,12 +55,12 @@ pub laid-by : (env : List Float) (period meter : ℕ) (score score′ : List Flo
     → GridPromise env period score back beats r score′ back′ beats′
     → DownbeatsPromise env (take (r .count - 0) (drop 0 beats′)) (withMeter meter defaultOptions) downbeats s downbeats′
     → Grid env period meter score back beats downbeats (record { beats = r .count; downbeats = s .count }) score′ back′ beats′ downbeats′
-laid-by env period meter score score′ back back′ beats beats′ downbeats downbeats′ r s few fine short metered roomy links room d g h =
+laid-by env period meter score score′ back back′ beats beats′ downbeats downbeats′ r s few fine short barred roomy links room d g h =
     let z = grid-passed env period few fine short _ _ _ roomy links room in
     let n : r .count ≡ length (gridOf env period) = g .count-is ∙ passed-does _ _ 0 z in
     let l : beats′ ≡ listed (gridOf env period) beats = g .beats-are ∙ passed-does _ _ beats z in
     let e : take (r .count - 0) (drop 0 beats′) ≡ gridOf env period = listed-part (gridOf env period) beats beats′ (r .count) l n in
-    let y = downbeats-passed env period few fine short meter (length downbeats) metered d in
+    let y = downbeats-passed env period few fine short meter (length downbeats) barred d in
     let k = rw e at h in
     record {
       beat-count = n;
