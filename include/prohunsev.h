@@ -192,7 +192,8 @@ uint32_t ph_beat_grid(const double *envelope, size_t envelope_len, size_t period
                       uint32_t *back, size_t back_len, uint32_t *beats, size_t beats_len, size_t *count);
 
 /* Lists the first beat of each bar of `meter` beats: every meter-th beat, from the one of the first meter beats that makes their flux sum
- * greatest, the earliest of equal ones; *count of them. With 4 that is every fourth, with 3 a waltz's. The beats need not ascend.
+ * greatest, the earliest of equal ones; *count of them. With 4 that is every fourth, with 3 a waltz's. The beats need not ascend. Fewer beats
+ * than the meter leave phases empty: where all others' sums are negative an empty one wins, and none is listed.
  * Room: beats_len slots of frames.
  * Refuses 1 for the length of envelope, a beat above 1,048,575 or a meter outside 1 to 16, 3, and 4 for a value. */
 uint32_t ph_downbeats(const double *envelope, size_t envelope_len, const uint32_t *beats, size_t beats_len, size_t meter,

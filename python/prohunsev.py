@@ -904,7 +904,8 @@ def beat_grid(envelope: Lent, period: int, score: Lent, back: Lent, beats: Lent)
 
 def downbeats(envelope: Lent, beats: Lent, frames: Lent, meter: int = _DEFAULT_METER) -> int:
     """Lists the first beat of each bar of meter beats, from the loudest phase on, and answers how many: with 4 every fourth beat, with 3 a
-    waltz's. Of TempoOpts it needs the meter alone. Room: frames as long as beats."""
+    waltz's. Of TempoOpts it needs the meter alone. Of fewer beats than the meter, all negative, none is listed. Room: frames as long as
+    beats."""
     return _listed("downbeats", _reals("envelope", envelope), _frames("beats", beats), _meter(meter), _frames_out("frames", frames))
 
 

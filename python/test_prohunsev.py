@@ -335,7 +335,7 @@ class Answers(unittest.TestCase):
 
     def test_meters(self):
         n = 4_000
-        # levels that are no two phases' alike, the accents of a waltz, and all the same
+        # uneven levels, with ties for the greatest sum at 8, 9, 13 and 14, the accents of a waltz, and all the same
         for envelope in (array("d", (1 + 0.25 * (t * t % 7) if t % 80 == 5 else 0 for t in range(n))), waltz(n), turn()):
             rows = array("f", envelope)
 

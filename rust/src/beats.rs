@@ -63,7 +63,8 @@ pub fn beat_grid(
 /// Lists the downbeats of a beat list, the first beat of each bar: every `opts.meter`-th beat, from the one of the first bar's that makes
 /// their flux sum greatest, the earliest of equal ones. Answers how many there are. The bounds of the options are not read.
 ///
-/// Room: `beats.len()` slots of `frames`. A beat past the envelope counts as silent.
+/// Room: `beats.len()` slots of `frames`. A beat past the envelope counts as silent. Fewer beats than the meter leave phases empty: where all
+/// others' sums are negative an empty one wins, and none is listed.
 /// Refuses [`OutOfBounds`](crate::Refusal::OutOfBounds) (the envelope's length, a beat above 1,048,575, the meter),
 /// [`TooLittleRoom`](crate::Refusal::TooLittleRoom), and [`WrongValue`](crate::Refusal::WrongValue) (an envelope value).
 ///
@@ -74,8 +75,9 @@ pub fn beat_grid(
 /// assert_eq!(frames[..count], [1]);
 /// // a waltz: the accent is on the second beat, and on every third from there
 /// let (envelope, waltz) = ([1.0, 4.0, 1.0, 1.0, 4.0, 1.0, 1.0, 4.0], TempoOpts::new().with_meter(3));
-/// let count = downbeats(&envelope, &[0, 1, 2, 3, 4, 5, 6, 7], waltz, &mut [0; 8])?;
-/// assert_eq!(count, 3);
+/// let mut frames = [0; 8];
+/// let count = downbeats(&envelope, &[0, 1, 2, 3, 4, 5, 6, 7], waltz, &mut frames)?;
+/// assert_eq!(frames[..count], [1, 4, 7]);
 /// # Ok::<(), Refused>(())
 /// ```
 pub fn downbeats(envelope: &[f64], beats: &[u32], opts: TempoOpts, frames: &mut [u32]) -> Result<usize, Refused> {

@@ -220,7 +220,7 @@ fn the_options_meter() {
 #[test]
 fn meters() {
     let (n, rate, usual) = (4_000, 48_000, TempoOpts::new());
-    // levels that no two phases share, whatever the meter, and then every third
+    // uneven levels, with ties for the greatest sum at 8, 9, 13 and 14, and then every third
     let uneven: Vec<f64> = (0..n).map(|t| if t % 80 == 5 { 1.0 + 0.25 * ((t * t) % 7) as f64 } else { 0.0 }).collect();
     for envelope in [uneven, waltz(n), turn()] {
         let magnitudes: Vec<f32> = envelope.iter().map(|&x| x as f32).collect();

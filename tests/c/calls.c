@@ -361,7 +361,7 @@ static void meters(struct run *run)
     for (size_t k = 0; k < sizeof refused / sizeof refused[0]; k++) {
         const size_t meter = refused[k];
         CHECK(ph_downbeats(envelope, BEATS, list, BEATS, meter, frames, BEATS + 2, &count) == 1);
-        CHECK(ph_downbeats(bad, 1, late, 1, meter, frames, 0, &count) == 1); /* before 3 and 4 */
+        CHECK(ph_downbeats(bad, 1, list, 1, meter, frames, 0, &count) == 1); /* before 3 and 4 */
         CHECK(ph_lag_range(48000, 30.0, 300.0, meter, &least, &most) == 1);
         CHECK(ph_room_of(9, 48000, 30.0, 300.0, meter, &rows, &least, &most) == 1);
         CHECK(ph_estimate(envelope, BEATS, 9, RATE, 30.0, 300.0, meter, clarity_curve, L, weight_curve, L, work, L, &found, &bpm, &clarity, lags,
