@@ -320,7 +320,6 @@ static void meters(struct run *run)
 {
     enum { BEATS = 40, RATE = 25600, L = 181 };
     static const size_t refused[] = {0, 17, 260, FOUR_IN_FEWER_BITS, (size_t)-1};
-    const uint32_t late[1] = {1048576};
     const double bad[1] = {NAN};
     double envelope[BEATS], clarity_curve[L], weight_curve[L], work[L], bpm = POISON, clarity = POISON, fraction = POISON;
     double saliences[3] = {POISON, POISON, POISON};
