@@ -8,3 +8,5 @@ mod Heaps
 mod Absolutes
 mod Lent
 mod Told
+mod Levels
+mod Choosing

@@ -28,19 +28,19 @@ same-or-not i j = ⊎-elim (λ e. inl (eqb-true i j e)) (λ e. inr (eqb-false i 
 
 -- ---- one entry's part in a count
 
-one-lt : (x : Float) (k : ℕ) → key x < k → oneIf (ltb (key x) k) ≡ 1
+pub one-lt : (x : Float) (k : ℕ) → key x < k → oneIf (ltb (key x) k) ≡ 1
 one-lt x k h = rw (lt-ltb (key x) k h)
 
-one-ge : (x : Float) (k : ℕ) → k ≤ key x → oneIf (ltb (key x) k) ≡ 0
+pub one-ge : (x : Float) (k : ℕ) → k ≤ key x → oneIf (ltb (key x) k) ≡ 0
 one-ge x k h = rw (le-ltb (key x) k h)
 
-one-le : (b : Bool) → oneIf b ≤ 1
+pub one-le : (b : Bool) → oneIf b ≤ 1
 one-le true = le-refl 1
 one-le false = zero-le
 
 -- ---- counts of lists
 
-below-mono : (j k : ℕ) (xs : List Float) → j ≤ k → below j xs ≤ below k xs
+pub below-mono : (j k : ℕ) (xs : List Float) → j ≤ k → below j xs ≤ below k xs
 unfolding below
 below-mono j k [] h = le-refl 0
 below-mono j k (x ∷ xs) h =
@@ -175,8 +175,31 @@ split-same xs ys i l e a b = le-antisymm (key-le xs ys i l e a b) (key-le ys xs 
 abbrev pub AllFit : List Float → Type 0
 AllFit xs = (k : ℕ) → T (fits binary64 (getD xs k nan))
 
-sort-fits : (xs : List Float) (i : ℕ) → AllFit xs → i < length xs → T (fits binary64 (getD (sort xs) i nan))
+pub sort-fits : (xs : List Float) (i : ℕ) → AllFit xs → i < length xs → T (fits binary64 (getD (sort xs) i nan))
 sort-fits xs i f l = each-at {P = λ x. T (fits binary64 x)} i nan (sort-each (each-by xs nan (λ k h. f k))) (omega (arith, same-sort xs .len))
+
+-- of the sorted list's entry at i: at most i entries lie below it, and more than i below it or level with it
+module _ (xs : List Float) (i : ℕ) (l : i < length xs) where
+  sorted-split : Split (sort xs) i
+  sorted-split = split-ordered (sort xs) i (sort-ordered xs) (omega (arith, same-sort xs .len))
+
+  pub sort-low : below (keyAt (sort xs) i) xs ≤ i
+  sort-low = omega (arith, low-count (sort xs) i sorted-split, same-sort xs .counts (keyAt (sort xs) i))
+
+  pub sort-high : i < below (suc (keyAt (sort xs) i)) xs
+  sort-high = omega (arith, high-count (sort xs) i (omega (arith, same-sort xs .len)) sorted-split, same-sort xs .counts (suc (keyAt (sort xs) i)))
+
+  key-of-rank : (k : ℕ) → below k xs ≤ i → i < below (suc k) xs → k ≡ keyAt (sort xs) i
+  key-of-rank k a b =
+      let s = keyAt (sort xs) i in
+      le-antisymm
+      (⊎-elim (λ (h : s < k). absurd (omega (arith, sort-high, below-mono (suc s) k xs h))) (λ (h : k ≤ s). h) (lt-or-le s k))
+      (⊎-elim (λ (h : k < s). absurd (omega (arith, sort-low, below-mono (suc k) s xs h))) (λ (h : s ≤ k). h) (lt-or-le k s))
+
+-- a value with at most i entries below it, and more than i that are below it or level with it, is the sorted list's entry at i
+pub rank-is-sort : (xs : List Float) (i : ℕ) (v : Float) → AllFit xs → T (fits binary64 v) → i < length xs → below (key v) xs ≤ i → i < below (suc (key v)) xs
+    → v ≡ getD (sort xs) i nan
+rank-is-sort xs i v f g l a b = key-inj v (getD (sort xs) i nan) g (sort-fits xs i f l) (key-of-rank xs i l (key v) a b)
 
 -- a list with the same entries, split at i, has at i the sorted list's entry
 pub split-is-sort : (xs ys : List Float) (i : ℕ) → AllFit xs → AllFit ys → Same ys xs → i < length xs → Split ys i → getD ys i nan ≡ getD (sort xs) i nan

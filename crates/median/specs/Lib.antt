@@ -2,3 +2,4 @@ pub mod Median
 pub mod Ranks
 pub mod Heaps
 pub mod Answers
+pub mod Choice

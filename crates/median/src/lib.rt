@@ -1,7 +1,10 @@
 // The median of a list by IEEE's total order, and the median of the distances from a median.
 //
-// Document 01, Leaves. The Rust: onsets.rs `median_of`, `mad_of`. One written sort, a heapsort over bit order, in place in a slice
-// that the caller lends: at worst n log n steps. A median needs only the upper half of it.
+// Document 01, Leaves. The Rust: onsets.rs `median_of`, `mad_of`. A median is the entry of the middle rank, chosen without a sort (choice.rt), in
+// place in a slice that the caller lends. One written sort, a heapsort over bit order, serves those who need the whole order, and ends a choice
+// that does not get on: at worst n log n steps.
+mod choice;
+
 ghost use Prim.Native.Nat.{_+_, _*_, _<_, _≤_};
 ghost use mathlib.Core.Path.{_≡_};
 ghost use mathlib.Core.List.{map};
@@ -90,14 +93,13 @@ pub fn sort_by_bits(a: &mut [f64])
     arrange(a, 1);
 }
 
-// The entry at length div 2 of a once sorted; only what lies above it is.
+// The entry at length div 2 of a once sorted. What a then holds is not said.
 fn middle(a: &mut [f64]) -> f64
     requires { ⌜ 0 < length (now a) ⌝ }
     ensures { λ r. ⌜ r ≡ medianOf (now (a .entry)) ⌝ }
 {
     let h = a.len() / 2;
-    arrange(a, h);
-    a[h]
+    choice::select(a, h)
 }
 
 fn copy(src: &[f64], dst: &mut [f64])
