@@ -25,6 +25,11 @@ const SPREAD: usize = 3;
 // the largest finite value
 const TOP: f64 = 1.7976931348623157e308;
 
+// the keys of the infinities
+const LEAST_KEY: u64 = 0x000f_ffff_ffff_ffff;
+
+const MOST_KEY: u64 = 0xfff0_0000_0000_0000;
+
 // How many entries lie below one value, and how many up to another.
 struct Counts {
     low: usize,
@@ -68,7 +73,8 @@ pub fn select(a: &mut [f64], h: usize) -> f64
             apart = SPREAD;
         } else {
             if apart == 0 {
-                return settled(a, m, rank, low);
+                let guess = by_halves(a, m, rank);
+                return settled(a, m, rank, guess);
             }
             apart = 0;
         }
@@ -133,6 +139,33 @@ fn with_value(least: [f64; 13], x: f64) -> [f64; 13] {
         i += 1;
     }
     next
+}
+
+// A guess at the entry of a rank of the first m by halving the range of the keys: 64 counts, whatever the entries are.
+fn by_halves(a: &[f64], m: usize, rank: usize) -> f64
+    requires { ⌜ m ≤ length (now a) ⌝ }
+{
+    let mut bottom = LEAST_KEY;
+    let mut top = MOST_KEY;
+    while bottom < top {
+        let middle = bottom + (top - bottom) / 2;
+        let value = value_of(middle);
+        let counts = counted(a, m, value, value);
+        if rank < counts.high {
+            top = middle;
+        } else {
+            bottom = middle + 1;
+        }
+    }
+    value_of(bottom)
+}
+
+// The value that has a key.
+fn value_of(key: u64) -> f64 {
+    if key < 0x8000_0000_0000_0000 {
+        return floats::bits::float_of(0xffff_ffff_ffff_ffff - key);
+    }
+    floats::bits::float_of(key - 0x8000_0000_0000_0000)
 }
 
 fn lower(x: f64, y: f64) -> f64 {

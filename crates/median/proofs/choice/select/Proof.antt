@@ -99,18 +99,21 @@ loop-again c =
       λ j. c .before .slice-known3 .given j,
     )
 
+by-halves-requires : tie.Need-by-halves-requires Inv-loop μ-loop
+by-halves-requires c κs = turn (c .before .before .before .before .before .before) .loop .inv .0
+
 settled-requires-2 : tie.Need-settled-requires-2 Inv-loop μ-loop
-settled-requires-2 c κs = let v = turn (c .before .before .before .before .before .before) .loop .inv in (v .0, v .2)
+settled-requires-2 c κs = let v = turn (c .before .before .before .before .before .before .before .before) .loop .inv in (v .0, v .2)
 
 same-length-2 : tie.Need-same-length-2 Inv-loop μ-loop
 same-length-2 c =
     let at-settled = c .before .before in
-    at-settled .settled2 .kept .0 ∙ turn (at-settled .before .before .before .before .before .before .before) .loop .inv .1
+    at-settled .settled2 .kept .0 ∙ turn (at-settled .before .before .before .before .before .before .before .before .before) .loop .inv .1
 
 returns-2 : tie.Need-returns-2 Inv-loop μ-loop
 returns-2 c =
     let at-settled = c .before .before in
-    at-settled .settled2 .ensures ∙ turn (at-settled .before .before .before .before .before .before .before) .loop .inv .4
+    at-settled .settled2 .ensures ∙ turn (at-settled .before .before .before .before .before .before .before .before .before) .loop .inv .4
 
 loop-less-2 : tie.Need-loop-less-2 Inv-loop μ-loop
 loop-less-2 c = omega (arith, c .if4 .left)
@@ -152,6 +155,7 @@ select-spec =
     sub-rank
     loop-less
     loop-again
+    by-halves-requires
     settled-requires-2
     same-length-2
     returns-2
