@@ -4,6 +4,7 @@
 //!   bench quick    tracks up to three minutes and feature rows up to an hour, and no growth
 mod clock;
 mod growth;
+mod medians;
 mod music;
 mod stages;
 
@@ -90,6 +91,8 @@ fn main() {
     println!("\n| patch | of | ours ms | our full run ms | part | original's full run ms |");
     println!("|---|---|---|---|---|---|");
     patches.iter().for_each(tell_patch);
+    println!();
+    medians::tell(quick, 25);
     if !quick {
         println!();
         growth::tell(7);

@@ -5,8 +5,8 @@ pub const RATE: u32 = 48_000;
 /// Rows in twenty seconds.
 pub const TWENTY_SECONDS: usize = 20 * RATE as usize / 256;
 
-// splitmix64
-struct Numbers(u64);
+/// splitmix64
+pub struct Numbers(pub u64);
 
 impl Numbers {
     fn next(&mut self) -> u64 {
@@ -16,8 +16,8 @@ impl Numbers {
         z = (z ^ (z >> 27)).wrapping_mul(0x94d0_49bb_1331_11eb);
         z ^ (z >> 31)
     }
-    // from 0 up to 1
-    fn part(&mut self) -> f64 {
+    /// from 0 up to 1
+    pub fn part(&mut self) -> f64 {
         (self.next() >> 11) as f64 / (1u64 << 53) as f64
     }
 }

@@ -11,11 +11,11 @@ use native.Mathlib.Omega.{arith}
 use lib.IntN.{ℤ, pos}
 use lib.ListN.{length, getD, take, drop, set, length-set}
 use lib.Seq.{take-suc, drop-drop, drop-set-lt, take-set-le, take-suc-set, getD-drop, length-take-le}
-use lib.Dec.{T, ltb, eqb}
-use lib.Ieee.{Float, nan, inf, fin, binary64, fits, lt, le, eq, neg, ofBits, up, down}
+use lib.Dec.{T, ltb}
+use lib.Ieee.{Float, nan, inf, fin, binary64, fits, lt, le, eq, neg, ofBits}
 use borrow.Author.Tests.{ltb-true, ltb-false}
 use Rattle.numbers.specs.Lists.{oneIf}
-use Rattle.numbers.specs.Rounded.{pick, nought}
+use Rattle.numbers.specs.Rounded.{nought}
 use Rattle.numbers.proofs.Tests.{which, lt-or-le, true-not-false, and-left, and-right, pick-true, pick-false}
 use Rattle.floats.specs.TotalOrder.{key}
 use Rattle.median.specs.Median.{sort}
@@ -142,38 +142,47 @@ module _ (low high : Float) (fl : T (fits binary64 low)) (fh : T (fits binary64 
 -- ---- the side that has the entry of a rank
 
 module _ (low high : Float) (side : ℕ) (xs : List Float) (rank before size : ℕ) (f : AllFit xs) (p : Parted xs low high rank side before size) where
-  ordered : sideFrom side low high ≤ sideTo side low high
+  abbrev from : ℕ
+  from = sideFrom side low high
+
+  abbrev to : ℕ
+  to = sideTo side low high
+
+  abbrev ys : List Float
+  ys = passing (onSide side low high) xs
+
+  counts : (k : ℕ) → from ≤ k → k ≤ to → below k ys + before ≡ below k xs
+  counts k a b = omega (arith, passing-counts low high (p .low-fits) (p .high-fits) side k a b xs f, p .starts)
+
+  all : below to ys ≡ length ys
+  all = passing-all low high (p .low-fits) (p .high-fits) side xs f
+
+  ordered : from ≤ to
   ordered = ⊎-elim
-      (λ (h : sideTo side low high < sideFrom side low high).
-      absurd (omega (arith, p .starts, p .ends, p .first, p .last, below-mono (sideTo side low high) (sideFrom side low high) xs (le-of-lt h))))
+      (λ (h : to < from). absurd (omega (arith, p .starts, p .ends, p .first, p .last, below-mono to from xs (le-of-lt h))))
       (λ h. h)
-      (lt-or-le (sideTo side low high) (sideFrom side low high))
+      (lt-or-le to from)
 
   pub passing-size : length (passing (onSide side low high) xs) ≡ size
-  passing-size = omega (arith, passing-counts low high (p .low-fits) (p .high-fits) side (sideTo side low high) ordered (le-refl _) xs f, passing-all low high (p .low-fits) (p .high-fits) side xs f, p .starts, p .ends)
+  passing-size = omega (arith, counts to ordered (le-refl _), all, p .ends)
 
   -- its entry of the rest of the rank is the whole list's
   pub passing-is-sort : getD (sort (passing (onSide side low high) xs)) (rank - before) nan ≡ getD (sort xs) rank nan
   passing-is-sort =
-      let ys = passing (onSide side low high) xs in
       let r = rank - before in
       let l : r < length ys = omega (arith, passing-size, p .first, p .last) in
       let k = keyAt (sort ys) r in
       let a : below k ys ≤ r = sort-low ys r l in
       let b : r < below (suc k) ys = sort-high ys r l in
-      let hi : k < sideTo side low high = ⊎-elim
-      (λ (h : k < sideTo side low high). h)
-      (λ (h : sideTo side low high ≤ k). absurd (omega (arith, passing-all low high (p .low-fits) (p .high-fits) side xs f, below-mono (sideTo side low high) k ys h)))
-      (lt-or-le k (sideTo side low high)) in
-      let lo : sideFrom side low high ≤ k = ⊎-elim
-      (λ (h : k < sideFrom side low high).
-      absurd (omega (arith, passing-counts low high (p .low-fits) (p .high-fits) side (sideFrom side low high) (le-refl _) ordered xs f, below-mono (suc k) (sideFrom side low high) ys h)))
-      (λ h. h)
-      (lt-or-le k (sideFrom side low high)) in
+      let hi : k < to = ⊎-elim (λ (h : k < to). h) (λ (h : to ≤ k). absurd (omega (arith, all, below-mono to k ys h))) (lt-or-le k to) in
+      let lo : from ≤ k = ⊎-elim
+      (λ (h : k < from). absurd (omega (arith, counts from (le-refl _) ordered, p .starts, below-mono (suc k) from ys h)))
+      (λ (h : from ≤ k). h)
+      (lt-or-le k from) in
       rank-is-sort xs rank (getD (sort ys) r nan) f (sort-fits ys r (passing-fits low high (p .low-fits) (p .high-fits) side xs f) l)
-      (omega (arith, p .ends, p .last, below-length (sideTo side low high) xs))
-      (omega (arith, p .starts, p .first, passing-counts low high (p .low-fits) (p .high-fits) side k lo (le-of-lt hi) xs f))
-      (omega (arith, p .starts, p .first, passing-counts low high (p .low-fits) (p .high-fits) side (suc k) (omega arith) hi xs f))
+      (omega (arith, p .ends, p .last, below-length to xs))
+      (omega (arith, p .first, counts k lo (le-of-lt hi)))
+      (omega (arith, p .first, counts (suc k) (omega arith) hi))
 
 -- the entries of a side, kept in front, have the entry of the rest of the rank
 pub kept-is-sort : (low high : Float) (side m : ℕ) (xs : List Float) (rank before size r : ℕ) (ys : List Float) → AllFit xs → m ≤ length xs →
@@ -182,8 +191,7 @@ pub kept-is-sort : (low high : Float) (side m : ℕ) (xs : List Float) (rank bef
 kept-is-sort low high side m xs rank before size r ys f l p k =
     let g : AllFit (take m xs) = fit-take m xs f in
     let n : length (take r ys) ≡ r = length-take-le r ys (omega (arith, k .room, k .fewer)) in
-    let q : length (take r ys) ≡ length (passing (onSide side low high) (take m xs)) = ap length (k .front) in
-    (
+    let q : length (take r ys) ≡ length (passing (onSide side low high) (take m xs)) = ap length (k .front) in (
       omega (arith, n, q, passing-size low high side (take m xs) rank before size g p),
       ap (λ (zs : List Float). getD (sort zs) (rank - before) nan) (k .front) ∙ passing-is-sort low high side (take m xs) rank before size g p,
     )
@@ -214,16 +222,17 @@ module _ {xs : List Float} {rank before size : ℕ} (f : AllFit xs) where
   zero-is-sort : (s : Bool) (d : ℤ) → Parted xs (fin s 0 d) (fin s 0 d) rank 1 before size → zeroAt rank xs ≡ getD (sort xs) rank nan
   unfolding sideFrom sideTo firstKey pastKey
   zero-is-sort s d p = ⊎-elim
-      (λ e. pick-true (ltb rank (below plusZero xs)) (neg nought) nought e ∙ minus-nought ∙ (rank-is-sort xs rank (fin true 0 (pos 0)) f (zero-fits true) (inside-list p)
-      (rw minus-is (omega (arith, p .starts, p .first)))
-      (rw minus-is (ltb-true rank (below plusZero xs) e))))
-      (λ e. pick-false (ltb rank (below plusZero xs)) (neg nought) nought e ∙ plus-nought ∙ (rank-is-sort xs rank (fin false 0 (pos 0)) f (zero-fits false) (inside-list p)
-      (rw plus-is (ltb-false rank (below plusZero xs) e))
-      (rw plus-is (omega (arith, p .ends, p .last)))))
+      (λ e. pick-true (ltb rank (below plusZero xs)) (neg nought) nought e ∙ minus-nought
+      ∙ rank-is-sort xs rank (fin true 0 (pos 0)) f (zero-fits true) (inside-list p)
+      (rw minus-is (omega (arith, p .starts, p .first))) (rw minus-is (ltb-true rank (below plusZero xs) e)))
+      (λ e. pick-false (ltb rank (below plusZero xs)) (neg nought) nought e ∙ plus-nought
+      ∙ rank-is-sort xs rank (fin false 0 (pos 0)) f (zero-fits false) (inside-list p)
+      (rw plus-is (ltb-false rank (below plusZero xs) e)) (rw plus-is (omega (arith, p .ends, p .last))))
       (which (ltb rank (below plusZero xs)))
 
   pub guess-is-zero : (v : Float) → eq v nought ≡ true → Parted xs v v rank 1 before size → zeroAt rank xs ≡ getD (sort xs) rank nan
-  guess-is-zero v e p = only-zeros (λ (z : Float). Parted xs z z rank 1 before size → zeroAt rank xs ≡ getD (sort xs) rank nan) zero-is-sort v (rw plus-nought at e) p
+  guess-is-zero v e p =
+      only-zeros (λ (z : Float). Parted xs z z rank 1 before size → zeroAt rank xs ≡ getD (sort xs) rank nan) zero-is-sort v (rw plus-nought at e) p
 
 -- ---- keeping the entries that pass at the front: of the first i entries of xs, ys has those as its first n
 

@@ -2,19 +2,18 @@
 -- a zero both come to the key of p itself. Assumes nothing.
 use Prim.Native.Nat.{ℕ, zero, suc, _+_, _-_, _*_, _≤_, _<_, zero-le}
 use mathlib.Core.Path.{_≡_, refl, sym, ap, _∙_, subst}
-use mathlib.Core.Logic.{_⊎_, inl, inr, ⊎-elim, _≢_}
+use mathlib.Core.Logic.{_⊎_, inl, inr, ⊎-elim}
 use mathlib.Core.Bool.{Bool, true, false, _&&_, _||_, Bool·beq}
 use native.Mathlib.Nat.{zero-mul, le-refl, le-of-eq, le-antisymm, mul-pos, eq-zero-or-pos}
 use native.Mathlib.Omega.{arith}
 use lib.IntN.{ℤ, pos}
-use lib.Dec.{T, ltb, eqb}
-use lib.Ieee.{Float, nan, inf, fin, binary64, up, down, lt, le, eq, fits, toBits, ofBits}
+use lib.Dec.{T, eqb}
+use lib.Ieee.{Float, nan, inf, fin, binary64, up, down, lt, le, eq, fits, toBits}
 use lib.Ieee.Fits.{up-pos, down-pos}
-use borrow.Author.Tests.{ltb-true, ltb-false, eqb-true, lt-ltb, le-ltb, eq-eqb}
-use Rattle.numbers.specs.Rounded.{nought}
-use Rattle.numbers.proofs.Tests.{which, lt-or-le, true-not-false, and-left, and-right, or-left, or-right}
+use borrow.Author.Tests.{ltb-true, ltb-false, eqb-true, lt-ltb, eq-eqb}
+use Rattle.numbers.proofs.Tests.{which, true-not-false, and-left, and-right, or-left, or-right}
 use Rattle.floats.specs.TotalOrder.{key, turned}
-use Rattle.floats.proofs.TotalOrder.{key-inj, key-lt, turned-at, mag, mag-mono, mag-small, mag-inf, units, units-mono, bits-fin, fits-sign}
+use Rattle.floats.proofs.TotalOrder.{key-inj, key-lt, turned-at, mag, mag-mono, mag-small, mag-inf, units, units-mono, bits-fin}
 use Rattle.median.specs.Choice.{plusZero, past, firstKey, pastKey}
 use Rattle.median.proofs.Ranks.{same-or-not}
 use Rattle.median.proofs.Absolutes.{zero-plain}
@@ -54,6 +53,10 @@ key-past (inf true) f = omega (arith, key-bottom)
 key-past (inf false) f = omega (arith, key-top)
 key-past (fin true m e) f = omega (arith, key-minus m e)
 key-past (fin false m e) f = omega (arith, key-plus m e f, mag-inf false m e f)
+
+pub zero-fits : (s : Bool) → T (fits binary64 (fin s 0 (pos 0)))
+unfolding fits
+zero-fits s = tt
 
 -- a zero's key is one of two
 key-zero : (s : Bool) → (key (fin s 0 (pos 0)) ≡ plusZero) ⊎ (key (fin s 0 (pos 0)) + 1 ≡ plusZero)
@@ -136,7 +139,7 @@ lt-first x (inf t) f g e = key-lt x (inf t) f g (subst T (sym e) tt)
 lt-first x (fin t zero d) f g e =
     let p : d ≡ pos 0 = zero-plain t d g in
     let h = below-minus x t (subst (λ (z : ℤ). lt x (fin t 0 z) ≡ true) p e) in
-    omega (arith, key-lt x (fin true 0 (pos 0)) f (subst (λ (z : ℤ). T (fits binary64 (fin true 0 z))) p (fits-sign t true 0 d g)) (subst T (sym h) tt), minus-is)
+    omega (arith, key-lt x (fin true 0 (pos 0)) f (zero-fits true) (subst T (sym h) tt), minus-is)
 lt-first x (fin t (suc n) d) f g e = key-lt x (fin t (suc n) d) f g (subst T (sym e) tt)
 
 first-nan : (k : ℕ) → firstKey nan ≤ k
@@ -184,7 +187,6 @@ not-lt-first (fin true m k) (fin false n d) f g e =
     let h = ltb-false 0 (m * up k * down d + n * up d * down k) e in
     zeros m k n d f (no-units m k d (omega arith)) (no-units n d k (omega arith))
 
-
 -- ---- up to
 
 nought-past : (s : Bool) (m : ℕ) (k : ℤ) → T (fits binary64 (fin s m k)) → m ≡ 0 → key (fin s m k) < plusZero + 1
@@ -206,6 +208,9 @@ level-past false true n m k d f g e h =
     let z : suc n ≡ 0 = no-units (suc n) d k (sym e ∙ eqb-true (m * up k * down d) 0 h) in
     absurd (omega arith)
 
+level-size : (s t : Bool) (a b : ℕ) → (eqb a b && (Bool·beq s t || eqb a 0)) ≡ true → a ≡ b
+level-size s t a b e = eqb-true a b (and-left (eqb a b) (Bool·beq s t || eqb a 0) e)
+
 eq-past : (x p : Float) → T (fits binary64 x) → T (fits binary64 p) → eq x p ≡ true → key x < pastKey p
 unfolding eq pastKey
 eq-past nan p f g e = true-not-false false e refl
@@ -217,11 +222,8 @@ eq-past (inf false) (inf false) f g e = omega arith
 eq-past (inf s) (fin t n d) f g e = true-not-false false e refl
 eq-past (fin s m k) nan f g e = true-not-false false e refl
 eq-past (fin s m k) (inf t) f g e = true-not-false false e refl
-eq-past (fin s m k) (fin t zero d) f g e =
-    let h = eqb-true (m * up k * down d) (0 * up d * down k) (and-left (eqb (m * up k * down d) (0 * up d * down k)) (Bool·beq s t || eqb (m * up k * down d) 0) e) in
-    nought-past s m k f (no-units m k d (h ∙ nothing d k))
-eq-past (fin s m k) (fin t (suc n) d) f g e = level-past s t n m k d f g
-    (eqb-true (m * up k * down d) (suc n * up d * down k) (and-left (eqb (m * up k * down d) (suc n * up d * down k)) (Bool·beq s t || eqb (m * up k * down d) 0) e))
+eq-past (fin s m k) (fin t zero d) f g e = nought-past s m k f (no-units m k d (level-size s t _ _ e ∙ nothing d k))
+eq-past (fin s m k) (fin t (suc n) d) f g e = level-past s t n m k d f g (level-size s t _ _ e)
     (and-right (eqb (m * up k * down d) (suc n * up d * down k)) (Bool·beq s t || eqb (m * up k * down d) 0) e)
 
 pub le-past : (x p : Float) → T (fits binary64 x) → T (fits binary64 p) → le x p ≡ true → key x < pastKey p
@@ -254,10 +256,6 @@ eq-zeros s t e d =
 differ : (x p q : Float) → T (fits binary64 x) → T (fits binary64 p) → eq p q ≡ true → eq x q ≡ false → key x ≡ key p → ⊥
 differ x p q f g t e k = true-not-false (eq p q) t (subst (λ (z : Float). eq z q ≡ false) (key-inj x p f g k) e)
 
-pub zero-fits : (s : Bool) → T (fits binary64 (fin s 0 (pos 0)))
-unfolding fits
-zero-fits s = tt
-
 past-of : (x p : Float) → T (fits binary64 x) → T (fits binary64 p) → firstKey p ≤ key x → eq x p ≡ false → pastKey p ≤ key x
 unfolding firstKey pastKey
 past-of x nan f g h e = zero-le
@@ -278,12 +276,10 @@ pub not-le-past : (x p : Float) → T (fits binary64 x) → T (fits binary64 p) 
 unfolding le
 not-le-past x p f g e = past-of x p f g (not-lt-first x p f g (or-left (lt x p) (eq x p) e)) (or-right (lt x p) (eq x p) e)
 
-
 -- what equals 0 is a zero
 pub only-zeros : (P : Float → Type 0) → ((s : Bool) (d : ℤ) → P (fin s 0 d)) → (v : Float) → eq v (fin false 0 (pos 0)) ≡ true → P v
 unfolding eq
 only-zeros P h nan e = true-not-false false e refl
 only-zeros P h (inf s) e = true-not-false false e refl
 only-zeros P h (fin s m k) e =
-    let a = eqb-true (m * up k * 1) (0 * 1 * down k) (and-left (eqb (m * up k * 1) (0 * 1 * down k)) (Bool·beq s false || eqb (m * up k * 1) 0) e) in
-    subst (λ (z : ℕ). P (fin s z k)) (sym (no-units m k (pos 0) (a ∙ nothing (pos 0) k))) (h s k)
+    subst (λ (z : ℕ). P (fin s z k)) (sym (no-units m k (pos 0) (level-size s false (m * up k * 1) (0 * 1 * down k) e ∙ nothing (pos 0) k))) (h s k)

@@ -1,7 +1,7 @@
 -- The entry of a rank. Entries are told apart by counting: of a list that is split at i, at most i entries lie below the one at i, and more
 -- than i lie below it or level with it. Two lists with the same entries have the same counts, so where both are split at i their entries there
 -- have one key, and a key has one value. The sorted list has the same entries and is split everywhere. Assumes nothing.
-use Prim.Native.Nat.{ℕ, zero, suc, _+_, _/_, _≤_, _<_, zero-le}
+use Prim.Native.Nat.{ℕ, zero, suc, _+_, _≤_, _<_, zero-le}
 use mathlib.Core.Path.{_≡_, refl, sym, ap, _∙_}
 use mathlib.Core.Logic.{_⊎_, inl, inr, ⊎-elim, _≢_}
 use mathlib.Core.Bool.{Bool, true, false}
@@ -19,7 +19,7 @@ use Rattle.sizes.specs.Sizes.{Each, none, more}
 use Rattle.sizes.proofs.Lists.{each-at, each-by, each-map}
 use Rattle.floats.specs.TotalOrder.{key}
 use Rattle.floats.proofs.TotalOrder.{key-inj}
-use Rattle.median.specs.Median.{insert, sort, medianOf}
+use Rattle.median.specs.Median.{insert, sort}
 use Rattle.median.specs.Ranks.{keyAt, below, Same, Split, Ordered}
 
 -- two numbers are the same or not
@@ -207,12 +207,6 @@ split-is-sort xs ys i fx fy e l s =
     let ls : i < length (sort xs) = omega (arith, same-sort xs .len) in
     key-inj (getD ys i nan) (getD (sort xs) i nan) (fy i) (sort-fits xs i fx l)
     (split-same ys (sort xs) i ls (same-trans e (same-sym (same-sort xs))) s (split-ordered (sort xs) i (sort-ordered xs) ls))
-
--- a list with the same entries, split at the middle, has the median there
-pub split-is-median : (xs ys : List Float) → AllFit xs → AllFit ys → Same ys xs → 0 < length xs → Split ys (length xs / 2)
-    → getD ys (length xs / 2) nan ≡ medianOf xs
-unfolding medianOf
-split-is-median xs ys fx fy e l s = split-is-sort xs ys (length xs / 2) fx fy e (omega arith) s
 
 -- a list with the same entries, in order, is the sorted list
 pub ordered-is-sort : (xs ys : List Float) → AllFit xs → AllFit ys → Same ys xs → Ordered ys → ys ≡ sort xs

@@ -1,9 +1,10 @@
 // The entry of a rank, without a sort: what a median needs.
 //
-// A list is narrowed first: two values near the wanted one are guessed from 24 entries spread over the list, the entries below and up to each
-// are counted, and those on the wanted side stay. Of at most 24 entries the value is guessed from all of them. A guess promises nothing: counts
-// alone decide. Where two guesses one after the other would keep more than seven eighths, the heap ends it, so that no list takes more steps than
-// a sort and two passes.
+// A value is guessed, and counts decide: where at most as many entries as the rank lie below it, and more lie up to it, it is the entry. So a
+// guess promises nothing, and what finds one may be as quick as it likes. Of at most 24 entries the guess puts half in order. A longer list is
+// narrowed first, to the entries between two values guessed from 24 of them. Where that keeps more than seven eighths one value is tried, which
+// finds one that most entries have, and then the range of the keys is halved: 64 passes, whatever the entries are. The heap is for a guess that
+// the counts refuse, as where NaNs stand.
 use crate::arrange;
 ghost use Prim.Native.Nat.{_+_, _*_, _<_, _≤_};
 ghost use mathlib.Core.Path.{_≡_};
@@ -13,16 +14,16 @@ ghost use Rattle.median.specs.Median.{sort};
 ghost use Rattle.median.specs.Ranks.{below};
 ghost use Rattle.median.specs.Choice.{firstKey, pastKey, onSide, zeroAt, Parted, Kept};
 
-// so many entries are looked at for a guess
+// so many entries are looked at for a guess: a window of the threshold has 21
 const FEW: usize = 24;
 
-// so many slots hold the lower half of them, and one more
+// so many slots hold the lower half of them and the one in the middle
 const HALF: usize = 13;
 
-// how far from the wanted rank the two values are guessed, in entries of the 24
+// how far on either side of the wanted rank the two values are guessed, in entries of the 24: farther keeps more, nearer misses more often
 const SPREAD: usize = 3;
 
-// the largest finite value
+// the largest finite value, in slots that hold none yet
 const TOP: f64 = 1.7976931348623157e308;
 
 // the keys of the infinities
@@ -109,7 +110,7 @@ fn spread_of(a: &[f64], m: usize) -> [f64; 24]
     spread
 }
 
-// A guess at the entry of rank h of the first m, which are at most 24: the smallest are put in order without a branch. From the far end on
+// A guess at the entry of rank h of the first m, which are at most 24: the smallest are put in order, without a branch, and from the far end on
 // where that is nearer, so that half of them are enough.
 fn near_rank(a: &[f64], m: usize, h: usize) -> f64
     requires { ⌜ m ≤ length (now a) ⌝ }
@@ -129,7 +130,8 @@ fn near_rank(a: &[f64], m: usize, h: usize) -> f64
     sign * least[numbers::least(at, HALF - 1)]
 }
 
-// Thirteen values in order with one more put among them, and the greatest left out.
+// Thirteen values in order with one more put among them, and the greatest left out. Each slot takes the middle of three, so that they are
+// computed side by side.
 fn with_value(least: [f64; 13], x: f64) -> [f64; 13] {
     let mut next = least;
     next[0] = lower(x, least[0]);
@@ -139,6 +141,14 @@ fn with_value(least: [f64; 13], x: f64) -> [f64; 13] {
         i += 1;
     }
     next
+}
+
+fn lower(x: f64, y: f64) -> f64 {
+    if x < y { x } else { y }
+}
+
+fn higher(x: f64, y: f64) -> f64 {
+    if x < y { y } else { x }
 }
 
 // A guess at the entry of a rank of the first m by halving the range of the keys: 64 counts, whatever the entries are.
@@ -168,14 +178,6 @@ fn value_of(key: u64) -> f64 {
     floats::bits::float_of(key - 0x8000_0000_0000_0000)
 }
 
-fn lower(x: f64, y: f64) -> f64 {
-    if x < y { x } else { y }
-}
-
-fn higher(x: f64, y: f64) -> f64 {
-    if x < y { y } else { x }
-}
-
 // The side of a fence that has the entry of a rank among the first m.
 fn part_of(a: &[f64], m: usize, rank: usize, low: f64, high: f64) -> Part
     requires { ⌜ (m ≤ length (now a)) × (rank < m) ⌝ }
@@ -185,12 +187,24 @@ fn part_of(a: &[f64], m: usize, rank: usize, low: f64, high: f64) -> Part
     let c = counts.low;
     let d = counts.high;
     if rank < c {
-        return Part { side: 0, before: 0, size: c };
+        return Part {
+            side: 0,
+            before: 0,
+            size: c,
+        };
     }
     if rank < d {
-        return Part { side: 1, before: c, size: d - c };
+        return Part {
+            side: 1,
+            before: c,
+            size: d - c,
+        };
     }
-    Part { side: 2, before: d, size: m - d }
+    Part {
+        side: 2,
+        before: d,
+        size: m - d,
+    }
 }
 
 // How many of the first m entries lie below one value, and how many up to another.
@@ -232,7 +246,7 @@ fn keep(a: &mut [f64], m: usize, low: f64, high: f64, side: u32) -> usize
     n
 }
 
-// Whether x lies on a side of a fence.
+// Whether x lies on a side of a fence: NaNs on the upper one, both zeros on the same.
 fn on_side(x: f64, low: f64, high: f64, side: u32) -> bool
     ensures { λ r. ⌜ r ≡ onSide side low high x ⌝ }
 {

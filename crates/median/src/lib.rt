@@ -1,8 +1,8 @@
 // The median of a list by IEEE's total order, and the median of the distances from a median.
 //
-// Document 01, Leaves. The Rust: onsets.rs `median_of`, `mad_of`. A median is the entry of the middle rank, chosen without a sort (choice.rt), in
-// place in a slice that the caller lends. One written sort, a heapsort over bit order, serves those who need the whole order, and ends a choice
-// that does not get on: at worst n log n steps.
+// Document 01, Leaves. The Rust: onsets.rs `median_of`, `mad_of`. A median is the entry of the middle rank, chosen without a sort (choice.rt),
+// in place in a slice that the caller lends. One written sort, a heapsort over bit order, is for those who need the whole order: at worst
+// n log n steps.
 mod choice;
 
 ghost use Prim.Native.Nat.{_+_, _*_, _<_, _≤_};

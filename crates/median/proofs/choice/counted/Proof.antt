@@ -68,8 +68,7 @@ returns : tie.Need-returns Inv-loop μ-loop
 returns c =
     let v = c .before .loop .inv in
     let start = c .before .before in
-    let e : c .before .loop .i ≡ start .args .m = omega arith in
-    (
+    let e : c .before .loop .i ≡ start .args .m = omega arith in (
       v .3 ∙ ap (λ i. below (firstKey (start .args .low)) (take i (start .args .a .now))) e,
       v .4 ∙ ap (λ i. below (pastKey (start .args .high)) (take i (start .args .a .now))) e,
     )

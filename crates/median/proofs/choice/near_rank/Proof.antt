@@ -1,12 +1,8 @@
+-- `median::choice::near_rank` is safe and ends. A guess promises nothing. Assumes nothing.
 use Prim.Native.Nat.{_-_, _≤_}
 use native.Mathlib.Omega.{arith}
 use Rattle.median.proofs.choice.near_rank.Statement.{statement}
 use Rattle.median.proofs.choice.near_rank.Tie as tie
-use Rattle.median.proofs.choice.near_rank.Reads as reads
-use Rattle.median.proofs.choice.near_rank.Lts as lts
-use Rattle.median.proofs.choice.with_value.Reads as with-value-reads
-use Rattle.numbers.proofs.least.Reads as least-reads
-use Rattle.numbers.proofs.less.Reads as less-reads
 
 abbrev Inv-loop : tie.InvT-loop
 Inv-loop a m h sign at least₀ i₀ least i = (i ≤ m)
@@ -14,59 +10,45 @@ Inv-loop a m h sign at least₀ i₀ least i = (i ≤ m)
 abbrev μ-loop : tie.MeasureT-loop
 μ-loop a m h sign at least₀ i₀ least i = m - i
 
--- src/choice.rt:115:28
 less-requires : tie.Need-less-requires Inv-loop μ-loop
 less-requires c κs = tt
 
--- src/choice.rt:115:9
 less-requires-2 : tie.Need-less-requires-2 Inv-loop μ-loop
 less-requires-2 c κs = tt
 
--- src/choice.rt:119:5
 loop-holds : tie.Need-loop-holds Inv-loop μ-loop
 loop-holds c = omega arith
 
--- src/choice.rt:120:42
 mul-with-value : tie.Need-mul-with-value Inv-loop μ-loop
 mul-with-value c = omega arith
 
--- src/choice.rt:120:42
 shared-slice-read-with-value : tie.Need-shared-slice-read-with-value Inv-loop μ-loop
 shared-slice-read-with-value c = omega arith
 
--- src/choice.rt:120:17
 with-value-requires : tie.Need-with-value-requires Inv-loop μ-loop
 with-value-requires c κs = tt
 
--- src/choice.rt:121:9
 add-i : tie.Need-add-i Inv-loop μ-loop
 add-i c = omega arith
 
--- src/choice.rt:119:5
 loop-less : tie.Need-loop-less Inv-loop μ-loop
 loop-less c = omega arith
 
--- src/choice.rt:119:5
 loop-again : tie.Need-loop-again Inv-loop μ-loop
 loop-again c = omega arith
 
--- src/choice.rt:123:37
 sub-least : tie.Need-sub-least Inv-loop μ-loop
 sub-least c = omega arith
 
--- src/choice.rt:123:18
 least-requires : tie.Need-least-requires Inv-loop μ-loop
 least-requires c κs = tt
 
--- src/choice.rt:123:12
 mul-result : tie.Need-mul-result Inv-loop μ-loop
 mul-result c = omega arith
 
--- src/choice.rt:123:12
 array-read-result : tie.Need-array-read-result Inv-loop μ-loop
 array-read-result c = omega arith
 
--- src/choice.rt:108:1
 returns : tie.Need-returns Inv-loop μ-loop
 returns c = tt
 

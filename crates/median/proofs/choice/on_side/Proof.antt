@@ -1,8 +1,8 @@
 -- `median::choice::on_side` meets its contract: each return is a side of its own. Assumes nothing.
 use Prim.Native.Nat.{ℕ, zero, suc}
-use mathlib.Core.Path.{_≡_, refl, sym, subst}
-use mathlib.Core.Bool.{Bool, true, false, not, _&&_}
-use lib.Ieee.{Float, lt, le}
+use mathlib.Core.Path.{_≡_, refl}
+use mathlib.Core.Bool.{not}
+use lib.Ieee.{Float, le}
 use Rattle.median.specs.Choice.{onSide}
 use Rattle.median.proofs.choice.on_side.Statement.{statement}
 use Rattle.median.proofs.choice.on_side.Tie as tie

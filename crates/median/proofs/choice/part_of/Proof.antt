@@ -25,7 +25,14 @@ returns : tie.Need-returns
 unfolding sideFrom sideTo
 returns c =
     let n = c .before .counted .ensures in
-    record { low-fits = low-fits (c .before .before .before); high-fits = high-fits (c .before .before .before); starts = below-zero _; ends = omega (arith, n); first = zero-le; last = omega arith }
+    record {
+      low-fits = low-fits (c .before .before .before);
+      high-fits = high-fits (c .before .before .before);
+      starts = below-zero _;
+      ends = omega (arith, n);
+      first = zero-le;
+      last = omega arith;
+    }
 
 sub-t10 : tie.Need-sub-t10
 sub-t10 c = search needs
@@ -34,7 +41,14 @@ returns-2 : tie.Need-returns-2
 unfolding sideFrom sideTo
 returns-2 c =
     let n = c .before .before .counted .ensures in
-    record { low-fits = low-fits (c .before .before .before .before); high-fits = high-fits (c .before .before .before .before); starts = sym (n .0); ends = omega (arith, n); first = omega arith; last = omega arith }
+    record {
+      low-fits = low-fits (c .before .before .before .before);
+      high-fits = high-fits (c .before .before .before .before);
+      starts = sym (n .0);
+      ends = omega (arith, n);
+      first = omega arith;
+      last = omega arith;
+    }
 
 sub-t11 : tie.Need-sub-t11
 sub-t11 c = search needs
@@ -50,7 +64,14 @@ returns-3 c =
     let l : length xs ≡ m = length-take-le m (start .args .a .now) (start .pre .0) in
     let all = below-past xs (fit-take m (start .args .a .now) (λ k. at-count .before .shared-slice-known .given k)) in
     let most = below-length (pastKey (start .args .high)) xs in
-    record { low-fits = low-fits (start); high-fits = high-fits (start); starts = sym (n .1); ends = omega (arith, n, all, most, l); first = omega arith; last = omega (arith, start .pre) }
+    record {
+      low-fits = low-fits start;
+      high-fits = high-fits start;
+      starts = sym (n .1);
+      ends = omega (arith, n, all, most, l);
+      first = omega arith;
+      last = omega (arith, start .pre);
+    }
 
 pub part-of-spec : {M : Type 1} → statement M
 part-of-spec =

@@ -41,8 +41,7 @@ narrowed c =
 
 loop-holds : tie.Need-loop-holds Inv-loop μ-loop
 loop-holds c =
-    let xs = c .before .args .a .now in
-    (
+    let xs = c .before .args .a .now in (
       le-refl _,
       refl,
       c .before .pre,
@@ -89,8 +88,7 @@ loop-again c =
     let v = turn at-part .loop .inv in
     let k = at-keep .keep .ensures in
     let p = at-part .part-of .ensures in
-    let w = narrowed at-keep in
-    (
+    let w = narrowed at-keep in (
       omega (arith, v .0, k .room, k .fewer),
       k .room ∙ v .1,
       omega (arith, w .0, p .first, p .last),

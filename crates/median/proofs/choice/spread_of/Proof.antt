@@ -1,11 +1,10 @@
+-- `median::choice::spread_of` is safe and ends: the places that are read lie inside the list. Assumes nothing.
 use Prim.Native.Nat.{ℕ, _-_, _+_, _*_, _/_, _%_, _^_, _≤_, _<_}
 use native.Mathlib.Nat.{mul-le-mul-right, mod-lt}
 use lib.ListN.{length}
 use native.Mathlib.Omega.{arith}
 use Rattle.median.proofs.choice.spread_of.Statement.{statement}
 use Rattle.median.proofs.choice.spread_of.Tie as tie
-use Rattle.median.proofs.choice.spread_of.Reads as reads
-use Rattle.median.proofs.choice.spread_of.Lts as lts
 
 -- the places that are read lie inside
 inner : (i m : ℕ) → i < 24 → 24 < m → i * (m / 24) + i * 37 % (m / 24) < m
@@ -21,61 +20,49 @@ abbrev μ-loop : tie.MeasureT-loop
 μ-loop a m spread₀ step i₀ spread i = 24 - i
 
 -- so the place fits, and what it takes in the slice
-place : (c : tie.In-loop Inv-loop μ-loop) → (c .before .loop .i * (c .before .before .args .m / 24) + c .before .loop .i * 37 % (c .before .before .args .m / 24) < c .before .before .args .m)
+place : (c : tie.In-loop Inv-loop μ-loop) →
+    (c .before .loop .i * (c .before .before .args .m / 24) + c .before .loop .i * 37 % (c .before .before .args .m / 24) < c .before .before .args .m)
     × (c .before .before .args .m ≤ length (c .before .before .args .a .now)) × (length (c .before .before .args .a .now) * 8 < 2 ^ 63)
 place c =
     let start = c .before .before in
     (inner (c .before .loop .i) (start .args .m) (c .loop-test .taken) (start .pre .0), start .pre .1, omega (arith, start .good .0 .1))
 
--- src/choice.rt:98:5
 loop-holds : tie.Need-loop-holds Inv-loop μ-loop
 loop-holds c = omega arith
 
--- src/choice.rt:99:18
 mul-at : tie.Need-mul-at Inv-loop μ-loop
 mul-at c = omega (arith, place c)
 
--- src/choice.rt:99:29
 mul-at-2 : tie.Need-mul-at-2 Inv-loop μ-loop
 mul-at-2 c = omega arith
 
--- src/choice.rt:99:29
 rem-at : tie.Need-rem-at Inv-loop μ-loop
 rem-at c = omega (arith, c .before .before .pre .0)
 
--- src/choice.rt:99:18
 add-at : tie.Need-add-at Inv-loop μ-loop
 add-at c = omega (arith, place c)
 
--- src/choice.rt:100:21
 mul-spread : tie.Need-mul-spread Inv-loop μ-loop
 mul-spread c = omega (arith, place c)
 
--- src/choice.rt:100:21
 shared-slice-read-spread : tie.Need-shared-slice-read-spread Inv-loop μ-loop
 shared-slice-read-spread c = omega (arith, place (c .before))
 
--- src/choice.rt:100:9
 mul-spread-2 : tie.Need-mul-spread-2 Inv-loop μ-loop
 mul-spread-2 c = omega arith
 
--- src/choice.rt:100:9
 array-write-spread : tie.Need-array-write-spread Inv-loop μ-loop
 array-write-spread c = omega arith
 
--- src/choice.rt:101:9
 add-i : tie.Need-add-i Inv-loop μ-loop
 add-i c = omega arith
 
--- src/choice.rt:98:5
 loop-less : tie.Need-loop-less Inv-loop μ-loop
 loop-less c = omega arith
 
--- src/choice.rt:98:5
 loop-again : tie.Need-loop-again Inv-loop μ-loop
 loop-again c = omega arith
 
--- src/choice.rt:92:1
 returns : tie.Need-returns Inv-loop μ-loop
 returns c = tt
 

@@ -1,11 +1,8 @@
+-- `median::choice::with_value` is safe and ends: each slot that is read or written is one of the thirteen. Assumes nothing.
 use Prim.Native.Nat.{_-_, _≤_, _<_}
 use native.Mathlib.Omega.{arith}
 use Rattle.median.proofs.choice.with_value.Statement.{statement}
 use Rattle.median.proofs.choice.with_value.Tie as tie
-use Rattle.median.proofs.choice.with_value.Reads as reads
-use Rattle.median.proofs.choice.with_value.Lts as lts
-use Rattle.median.proofs.choice.higher.Reads as higher-reads
-use Rattle.median.proofs.choice.lower.Reads as lower-reads
 
 abbrev Inv-loop : tie.InvT-loop
 Inv-loop x least next₀ i₀ next i = (0 < i) × (i ≤ 13)
@@ -13,71 +10,54 @@ Inv-loop x least next₀ i₀ next i = (0 < i) × (i ≤ 13)
 abbrev μ-loop : tie.MeasureT-loop
 μ-loop x least next₀ i₀ next i = 13 - i
 
--- src/choice.rt:129:24
 array-read-lower : tie.Need-array-read-lower Inv-loop μ-loop
 array-read-lower c = omega arith
 
--- src/choice.rt:129:15
 lower-requires : tie.Need-lower-requires Inv-loop μ-loop
 lower-requires c κs = tt
 
--- src/choice.rt:129:5
 array-write-next : tie.Need-array-write-next Inv-loop μ-loop
 array-write-next c = omega arith
 
--- src/choice.rt:131:5
 loop-holds : tie.Need-loop-holds Inv-loop μ-loop
 loop-holds c = omega arith
 
--- src/choice.rt:132:38
 sub-higher : tie.Need-sub-higher Inv-loop μ-loop
 sub-higher c = omega arith
 
--- src/choice.rt:132:32
 mul-higher : tie.Need-mul-higher Inv-loop μ-loop
 mul-higher c = omega arith
 
--- src/choice.rt:132:32
 array-read-higher : tie.Need-array-read-higher Inv-loop μ-loop
 array-read-higher c = omega arith
 
--- src/choice.rt:132:25
 higher-requires : tie.Need-higher-requires Inv-loop μ-loop
 higher-requires c κs = tt
 
--- src/choice.rt:132:50
 mul-lower : tie.Need-mul-lower Inv-loop μ-loop
 mul-lower c = omega arith
 
--- src/choice.rt:132:50
 array-read-lower-2 : tie.Need-array-read-lower-2 Inv-loop μ-loop
 array-read-lower-2 c = omega arith
 
--- src/choice.rt:132:19
 lower-requires-2 : tie.Need-lower-requires-2 Inv-loop μ-loop
 lower-requires-2 c κs = tt
 
--- src/choice.rt:132:9
 mul-next : tie.Need-mul-next Inv-loop μ-loop
 mul-next c = omega arith
 
--- src/choice.rt:132:9
 array-write-next-2 : tie.Need-array-write-next-2 Inv-loop μ-loop
 array-write-next-2 c = omega arith
 
--- src/choice.rt:133:9
 add-i : tie.Need-add-i Inv-loop μ-loop
 add-i c = omega arith
 
--- src/choice.rt:131:5
 loop-less : tie.Need-loop-less Inv-loop μ-loop
 loop-less c = omega arith
 
--- src/choice.rt:131:5
 loop-again : tie.Need-loop-again Inv-loop μ-loop
 loop-again c = omega arith
 
--- src/choice.rt:127:1
 returns : tie.Need-returns Inv-loop μ-loop
 returns c = tt
 

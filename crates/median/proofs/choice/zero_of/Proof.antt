@@ -1,14 +1,12 @@
 -- `median::choice::zero_of` meets its contract. The invariant: the count is that of the entries passed. Assumes nothing.
-use Prim.Native.Nat.{_+_, _-_, _≤_, _<_}
+use Prim.Native.Nat.{_-_, _≤_, _<_}
 use mathlib.Core.Path.{_≡_, _∙_, sym, ap}
 use mathlib.Core.Logic.{⊎-elim}
 use native.Mathlib.Omega.{arith}
-use lib.ListN.{length, getD, take}
-use lib.Dec.{ltb}
-use lib.Ieee.{nan}
+use lib.ListN.{length, take}
 use borrow.Author.Tests.{lt-ltb, le-ltb}
 use Rattle.numbers.proofs.Tests.{pick-true, pick-false}
-use Rattle.median.specs.Ranks.{below, keyAt}
+use Rattle.median.specs.Ranks.{below}
 use Rattle.median.specs.Choice.{plusZero}
 use Rattle.median.proofs.Choosing.{below-none, below-counts, below-skips}
 use Rattle.median.proofs.choice.zero_of.Statement.{statement}
