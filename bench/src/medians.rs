@@ -53,7 +53,7 @@ fn against_each(entries: usize, r: &mut Numbers) -> Vec<f64> {
 
 /// The lists of a shape: several where they are short, so that no branch is learnt by heart.
 fn lists(shape: &str, entries: usize) -> Vec<Vec<f64>> {
-    let (count, mut r) = ((100_000 / entries).clamp(2, 400), Numbers(7));
+    let (count, mut r) = ((100_000 / entries).clamp(2, 4_000), Numbers(7));
     let flux = if shape == "flux" { flux(count * entries) } else { Vec::new() };
     let mut list = |k: usize| -> Vec<f64> {
         match shape {
