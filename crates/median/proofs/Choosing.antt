@@ -13,7 +13,7 @@ use lib.ListN.{length, getD, take, drop, set, length-set}
 use lib.Seq.{take-suc, drop-drop, drop-set-lt, take-set-le, take-suc-set, getD-drop, length-take-le}
 use lib.Dec.{T, ltb}
 use lib.Ieee.{Float, nan, inf, fin, binary64, fits, lt, le, eq, neg, ofBits}
-use borrow.Author.Tests.{ltb-true, ltb-false}
+use borrow.Author.Tests.{ltb-true, ltb-false, not-true, not-false}
 use Rattle.numbers.specs.Lists.{oneIf}
 use Rattle.numbers.specs.Rounded.{nought}
 use Rattle.numbers.proofs.Tests.{which, lt-or-le, true-not-false, and-left, and-right, pick-true, pick-false}
@@ -76,23 +76,15 @@ below-skips k xs i l h = omega (arith, below-step k xs i l, one-ge (getD xs i na
 
 -- ---- a side of a fence is a range of keys
 
-not-false : (b : Bool) → not b ≡ true → b ≡ false
-not-false false e = refl
-not-false true e = true-not-false false e refl
-
-not-true : (b : Bool) → not b ≡ false → b ≡ true
-not-true true e = refl
-not-true false e = true-not-false true refl e
-
 module _ (low high : Float) (fl : T (fits binary64 low)) (fh : T (fits binary64 high)) (x : Float) (fx : T (fits binary64 x)) where
   side-in : (side : ℕ) → onSide side low high x ≡ true → (sideFrom side low high ≤ key x) × (key x < sideTo side low high)
   unfolding onSide sideFrom sideTo
   side-in zero e = (zero-le, lt-first x low fx fl e)
   side-in (suc zero) e = (
-    not-lt-first x low fx fl (not-false (lt x low) (and-left (not (lt x low)) (le x high) e)),
+    not-lt-first x low fx fl (not-true (lt x low) (and-left (not (lt x low)) (le x high) e)),
     le-past x high fx fh (and-right (not (lt x low)) (le x high) e),
   )
-  side-in (suc (suc side)) e = (not-le-past x high fx fh (not-false (le x high) e), key-past x fx)
+  side-in (suc (suc side)) e = (not-le-past x high fx fh (not-true (le x high) e), key-past x fx)
 
   side-out : (side : ℕ) → onSide side low high x ≡ false → (key x < sideFrom side low high) ⊎ (sideTo side low high ≤ key x)
   unfolding onSide sideFrom sideTo
@@ -101,7 +93,7 @@ module _ (low high : Float) (fl : T (fits binary64 low)) (fh : T (fits binary64 
       (λ h. inl (lt-first x low fx fl h))
       (λ h. inr (not-le-past x high fx fh (subst (λ (b : Bool). (not b && le x high) ≡ false) h e)))
       (which (lt x low))
-  side-out (suc (suc side)) e = inl (le-past x high fx fh (not-true (le x high) e))
+  side-out (suc (suc side)) e = inl (le-past x high fx fh (not-false (le x high) e))
 
 -- ---- the entries of a side
 
@@ -163,7 +155,7 @@ module _ (low high : Float) (side : ℕ) (xs : List Float) (rank before size : �
       (λ h. h)
       (lt-or-le to from)
 
-  pub passing-size : length (passing (onSide side low high) xs) ≡ size
+  passing-size : length (passing (onSide side low high) xs) ≡ size
   passing-size = omega (arith, counts to ordered (le-refl _), all, p .ends)
 
   -- its entry of the rest of the rank is the whole list's

@@ -92,7 +92,7 @@ first-past (fin s (suc m) e) = omega arith
 
 -- ---- a product that is nothing
 
-pub no-units : (m : ℕ) (e d : ℤ) → m * up e * down d ≡ 0 → m ≡ 0
+no-units : (m : ℕ) (e d : ℤ) → m * up e * down d ≡ 0 → m ≡ 0
 no-units m e d h = ⊎-elim
     (λ (z : m ≡ 0). z)
     (λ (p : 0 < m). absurd (sized (m * up e * down d) (mul-pos (mul-pos p (up-pos e)) (down-pos d)) h))

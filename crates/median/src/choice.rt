@@ -6,7 +6,7 @@
 // finds one that most entries have, and then the range of the keys is halved: 64 passes, whatever the entries are. The heap is for a guess that
 // the counts refuse, as where NaNs stand.
 use crate::arrange;
-ghost use Prim.Native.Nat.{_+_, _*_, _<_, _≤_};
+ghost use Prim.Native.Nat.{_<_, _≤_};
 ghost use mathlib.Core.Path.{_≡_};
 ghost use lib.ListN.{length, getD, take};
 ghost use lib.Ieee.{nan};
@@ -21,7 +21,7 @@ const FEW: usize = 24;
 const HALF: usize = 13;
 
 // how far on either side of the wanted rank the two values are guessed, in entries of the 24: farther keeps more, nearer misses more often
-const SPREAD: usize = 3;
+const APART: usize = 3;
 
 // the largest finite value, in slots that hold none yet
 const TOP: f64 = 1.7976931348623157e308;
@@ -57,7 +57,7 @@ pub fn select(a: &mut [f64], h: usize) -> f64
 {
     let mut m = a.len();
     let mut rank = h;
-    let mut apart = SPREAD;
+    let mut apart = APART;
     while FEW < m {
         let fence = fence_of(a, m, rank, apart);
         let low = fence.low;
@@ -71,7 +71,7 @@ pub fn select(a: &mut [f64], h: usize) -> f64
         if part.size <= m - m / 8 {
             m = keep(a, m, low, high, part.side);
             rank -= part.before;
-            apart = SPREAD;
+            apart = APART;
         } else {
             if apart == 0 {
                 let guess = by_halves(a, m, rank);
@@ -86,24 +86,25 @@ pub fn select(a: &mut [f64], h: usize) -> f64
 
 // Two values of the first m entries, guessed to stand apart from a rank by so many of the 24.
 fn fence_of(a: &[f64], m: usize, rank: usize, apart: usize) -> Fence
-    requires { ⌜ (24 < m) × (m ≤ length (now a)) × (apart ≤ 3) ⌝ }
+    requires { ⌜ (24 < m) × (m ≤ length (now a)) × (rank < m) × (apart ≤ 3) ⌝ }
 {
     let spread = spread_of(a, m);
-    let near = numbers::least(rank / (m / FEW), FEW - 1);
+    let near = numbers::least(rank * 12 / (m / 2), FEW - 1);
     let low = near_rank(&spread, FEW, numbers::less(near, apart));
     let high = near_rank(&spread, FEW, numbers::least(near + apart, FEW - 1));
     Fence { low, high }
 }
 
-// Of the first m entries 24, at uneven distances, since a list may repeat itself.
+// Of the first m entries 24 from end to end, at distances that vary where there is room for it, since a list may repeat itself.
 fn spread_of(a: &[f64], m: usize) -> [f64; 24]
     requires { ⌜ (24 < m) × (m ≤ length (now a)) ⌝ }
 {
     let mut spread = [TOP; FEW];
     let step = m / FEW;
+    let rest = m % FEW;
     let mut i = 0;
     while i < FEW {
-        let at = i * step + i * 37 % step;
+        let at = i * step + i * rest / FEW + i * 37 % step;
         spread[i] = a[at];
         i += 1;
     }

@@ -75,6 +75,6 @@ module _ (rate : ℕ) (o : TempoOpts) (meter : ℕ) where
     -- and what is written, but for the downbeats
     pub same-written : (was : Results)
         → writtenIn env rate (withMeter meter o) was
-            ≡ withDownbeats (listed (downbeatsIn env rate (withMeter meter o)) (was .downbeats)) (writtenIn env rate o was)
+        ≡ withDownbeats (listed (downbeatsIn env rate (withMeter meter o)) (was .downbeats)) (writtenIn env rate o was)
     unfolding writtenIn
     same-written was = let l = lags-of-bounds rate o meter in rw (same-period, same-beats, l .0, l .1)

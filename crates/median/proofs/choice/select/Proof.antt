@@ -51,7 +51,7 @@ loop-holds c =
     )
 
 fence-of-requires : tie.Need-fence-of-requires Inv-loop μ-loop
-fence-of-requires c κs = (c .before .loop-test .taken, c .before .before .loop .inv .0, c .before .before .loop .inv .3)
+fence-of-requires c κs = let v = c .before .before .loop .inv in (c .before .loop-test .taken, v .0, v .2, v .3)
 
 part-of-requires : tie.Need-part-of-requires Inv-loop μ-loop
 part-of-requires c κs = let v = c .before .before .before .before .loop .inv in (v .0, v .2)
