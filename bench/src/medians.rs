@@ -5,9 +5,13 @@ use crate::stages::counted;
 use oracle::onsets;
 use prohunsev as port;
 
-// what original / ours must reach on flux-like values, from the request for medians without the full sort
+// what original / ours must reach on flux-like values, from the request for medians without the full sort; of the sizes between nothing is asked
 fn asked(entries: usize) -> f64 {
-    if entries > 21 { 4.0 } else { 1.5 }
+    match entries {
+        21 => 1.5,
+        3_600 | 50_000 => 4.0,
+        _ => 0.0,
+    }
 }
 
 /// The flux of synthetic music.
@@ -19,8 +23,8 @@ fn flux(rows: usize) -> Vec<f64> {
 
 // The places that a round of the choice looks at, of so many entries (crates/median/src/choice.rt, `spread_of`).
 fn places(entries: usize) -> impl Iterator<Item = usize> {
-    let step = entries / 24;
-    (0..24).map(move |i| i * step + i * 37 % step)
+    let (step, rest) = (entries / 24, entries % 24);
+    (0..24).map(move |i| i * step + i * rest / 24 + i * 37 % step)
 }
 
 /// Made against the choice: the places that the first round looks at hold the smallest entries, so that no guess narrows.
@@ -116,7 +120,7 @@ pub fn tell(quick: bool, rounds: usize) {
         "| median of | entries | original us | ours us | original / ours | asked | | half a heapsort us | heapsort / ours |"
     );
     println!("|---|---|---|---|---|---|---|---|---|");
-    for &entries in &[21, 3_600, 50_000][..if quick { 2 } else { 3 }] {
+    for &entries in &[21, 47, 95, 180, 3_600, 50_000][..if quick { 5 } else { 6 }] {
         for shape in shapes {
             if entries < 25 && shape.starts_with("against") {
                 continue;
@@ -136,10 +140,10 @@ pub fn tell(quick: bool, rounds: usize) {
                 ],
             )
             .map(|seconds| 1e6 * seconds / lists.len() as f64);
-            let verdict = match (shape, rust / ours >= asked(entries)) {
-                ("flux", true) => format!("{} | reached", asked(entries)),
-                ("flux", false) => format!("{} | not reached", asked(entries)),
-                _ => " | ".into(),
+            let verdict = match asked(entries) {
+                least if shape != "flux" || least == 0.0 => " | ".into(),
+                least if rust / ours >= least => format!("{least} | reached"),
+                least => format!("{least} | not reached"),
             };
             println!(
                 "| {shape} | {} | {rust:.3} | {ours:.3} | {:.2} | {verdict} | {heap:.3} | {:.2} |",
