@@ -7,6 +7,7 @@ mod growth;
 mod medians;
 mod music;
 mod stages;
+mod thresholds;
 
 use stages::{Line, counted};
 
@@ -14,7 +15,7 @@ use stages::{Line, counted};
 fn aim(stage: &str, feature_rows: usize) -> Option<f64> {
     Some(match stage {
         "flux" => 1.25,
-        "threshold" => 8.0,
+        "threshold" => 9.0,
         "lag curves" => 5.0,
         "stability" => 4.0,
         "beats" => 25.0,
@@ -93,6 +94,8 @@ fn main() {
     patches.iter().for_each(tell_patch);
     println!();
     medians::tell(quick, 25);
+    println!();
+    thresholds::tell(quick);
     if !quick {
         println!();
         growth::tell(7);

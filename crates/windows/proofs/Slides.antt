@@ -1,7 +1,7 @@
 -- A sorted list with one entry out and another in. What `insert` puts at a place is the entry that stood there, or the new one, or the entry before: so it
 -- is the middle one of the three, and taking an entry out undoes putting it in. The sort doesn't see which way round a list begins. Assumes nothing.
 use Prim.Native.Nat.{ℕ, zero, suc, _+_, _≤_, _<_, zero-le}
-use mathlib.Core.Path.{_≡_, refl, sym, ap, _∙_, subst}
+use mathlib.Core.Path.{_≡_, refl, sym, ap, _∙_}
 use mathlib.Core.Logic.{_⊎_, inl, inr, ⊎-elim}
 use mathlib.Core.Bool.{true, false}
 use mathlib.Core.List.{List, [], _∷_, _++_}
