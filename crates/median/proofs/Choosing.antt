@@ -63,7 +63,7 @@ pub below-none : (k : ℕ) (xs : List Float) → below k (take 0 xs) ≡ 0
 unfolding below
 below-none k xs = refl
 
-pub below-step : (k : ℕ) (xs : List Float) (i : ℕ) → i < length xs → below k (take (i + 1) xs) ≡ below k (take i xs) + oneIf (ltb (keyAt xs i) k)
+below-step : (k : ℕ) (xs : List Float) (i : ℕ) → i < length xs → below k (take (i + 1) xs) ≡ below k (take i xs) + oneIf (ltb (keyAt xs i) k)
 unfolding below
 below-step k xs i l = rw (add-one, take-suc xs i nan, below-append k (take i xs) (getD xs i nan ∷ [])) (omega arith)
 

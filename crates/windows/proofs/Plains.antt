@@ -156,7 +156,7 @@ plain-rises x y f g h = ⊎-elim
 
 -- ---- a rising map keeps the entry of a rank
 
-pub plain-fits : (x : Float) → T (fits binary64 x) → T (fits binary64 (oneZero x))
+plain-fits : (x : Float) → T (fits binary64 x) → T (fits binary64 (oneZero x))
 unfolding oneZero
 plain-fits x f = by-pick (λ (z : Float). T (fits binary64 z)) (eq x nought) nought x (λ e. nought-plain .proper .fit) (λ e. f)
 

@@ -84,9 +84,9 @@ unfolding lt
 nan-not-below y = refl
 
 -- past the end of a list the new one is the lower
-pub past-smaller : (xs : List Float) (i : ℕ) (v : Float) → length xs ≤ i → lower (getD xs i nan) v ≡ v
+pub past-lower : (xs : List Float) (i : ℕ) (v : Float) → length xs ≤ i → lower (getD xs i nan) v ≡ v
 unfolding lower
-past-smaller xs i v l = rw (List·getD-eq-default xs nan l) (pick-false (lt nan v) nan v (nan-not-below v))
+past-lower xs i v l = rw (List·getD-eq-default xs nan l) (pick-false (lt nan v) nan v (nan-not-below v))
 
 module _ (xs : List Float) (o : Ordered xs) (p : Each Plain xs) (v : Float) (q : Plain v) where
   at : (i : ℕ) → i < length xs → Plain (getD xs i nan)
@@ -120,11 +120,11 @@ module _ (xs : List Float) (o : Ordered xs) (p : Each Plain xs) (v : Float) (q :
       (stayed i l)
 
   -- the lower of what stands at a place and the new one, where the new one doesn't stand behind
-  not-smaller : (i : ℕ) → (i < length xs → key v ≤ keyAt xs i) → lower (getD xs i nan) v ≡ v
+  not-lower : (i : ℕ) → (i < length xs → key v ≤ keyAt xs i) → lower (getD xs i nan) v ≡ v
   unfolding lower
-  not-smaller i h = ⊎-elim
+  not-lower i h = ⊎-elim
       (λ (l : i < length xs). pick-false (lt (getD xs i nan) v) (getD xs i nan) v (key-not-below (at i l) q (h l)))
-      (λ (l : length xs ≤ i). past-smaller xs i v l)
+      (λ (l : length xs ≤ i). past-lower xs i v l)
       (lt-or-le i (length xs))
 
   -- the higher of two entries side by side
@@ -151,10 +151,10 @@ module _ (xs : List Float) (o : Ordered xs) (p : Each Plain xs) (v : Float) (q :
       let y = getD xs (suc k) nan in
       ⊎-elim
       (λ w.
-      let e = not-smaller (suc k) (λ m. le-trans (w .0) (o .up k (suc k) (omega arith) m)) in
+      let e = not-lower (suc k) (λ m. le-trans (w .0) (o .up k (suc k) (omega arith) m)) in
       ap (higher x) e ∙ pick-false (lt x v) v x (key-not-below (at k l) q (w .0)) ∙ sym (w .1))
       (λ u. ⊎-elim
-      (λ w. ap (higher x) (not-smaller (suc k) (w .1)) ∙ pick-true (lt x v) v x (key-below (at k l) q (w .0)) ∙ sym (w .2))
+      (λ w. ap (higher x) (not-lower (suc k) (w .1)) ∙ pick-true (lt x v) v x (key-below (at k l) q (w .0)) ∙ sym (w .2))
       (λ w. ap (higher x) (pick-true (lt y v) y v (key-below (at (suc k) (w .0)) q (w .1))) ∙ above k (w .0) ∙ sym (w .2))
       u)
       (insert-later v xs o k l)
@@ -162,10 +162,6 @@ module _ (xs : List Float) (o : Ordered xs) (p : Each Plain xs) (v : Float) (q :
 pub length-without : (s : List Float) (o : Float) → length (without s o) ≡ 20
 unfolding without
 length-without s o = length-tab (withoutAt s o) 0 20
-
-pub length-among : (rest : List Float) (v : Float) → length (among rest v) ≡ 21
-unfolding among
-length-among rest v = length-tab (amongAt rest v) 0 21
 
 -- ---- the sorted window of the values xs behind o, and of xs before v
 

@@ -11,7 +11,7 @@ use lib.Ieee.{Float, nan}
 use Rattle.numbers.specs.Lists.{filled}
 use Rattle.numbers.proofs.Tabs.{filled-none, filled-more, filled-join, filled-all}
 use Rattle.windows.specs.Windows.{lower, higher, amongAt, among}
-use Rattle.windows.proofs.Slides.{past-smaller}
+use Rattle.windows.proofs.Slides.{past-lower}
 use Rattle.windows.proofs.among.Statement.{statement}
 use Rattle.windows.proofs.among.Tie as tie
 
@@ -22,7 +22,7 @@ inner rest v (suc k) h = let e : suc k - 1 ≡ k = omega arith in rw e refl
 
 last : (rest : List Float) (v : Float) → length rest ≡ 20 → higher (getD rest 19 nan) v ≡ amongAt rest v 20
 unfolding amongAt
-last rest v n = ap (higher (getD rest 19 nan)) (sym (past-smaller rest 20 v (omega arith)))
+last rest v n = ap (higher (getD rest 19 nan)) (sym (past-lower rest 20 v (omega arith)))
 
 abbrev Inv-loop : tie.InvT-loop
 Inv-loop rest v s₀ i₀ s i = (1 ≤ i) × (i ≤ 20) × (length s ≡ 21) × (s ≡ filled (amongAt rest v) s₀ 1 i)
