@@ -1,5 +1,5 @@
 -- The laws that other crates cite.
-pub mod Chains
+pub mod Links
 pub mod Walks
 pub mod Beatless
 pub mod Steps

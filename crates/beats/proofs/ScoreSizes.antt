@@ -36,7 +36,7 @@ use Rattle.beats.specs.Envelopes.{beatless, squareAbout, varianceOf, sca
 use Rattle.beats.specs.Scores.{scores}
 use Rattle.beats.specs.Grids.{scoresOf}
 use Rattle.beats.proofs.Beatless.{Lively, lively}
-use Rattle.beats.proofs.Chains.{score-at}
+use Rattle.beats.proofs.Links.{score-at}
 
 -- ---- the scaled flux
 
@@ -109,7 +109,7 @@ four-within : Within 9 (neg fourHundred)
 unfolding neg ofBits
 four-within = record { size = lit≤ tt }
 
-penalty-within : (period interval : ℕ) → 1 ≤ period → period ≤ mostPeriod → 1 ≤ interval → interval ≤ 2 * period → Within 29 (penalty period interval)
+pub penalty-within : (period interval : ℕ) → 1 ≤ period → period ≤ mostPeriod → 1 ≤ interval → interval ≤ 2 * period → Within 29 (penalty period interval)
 unfolding penalty
 penalty-within period interval p q i j =
     let ln : Within 10 _ = log-ratio-most interval period i (omega arith) p (omega arith) in
@@ -117,13 +117,18 @@ penalty-within period interval p q i j =
 
 -- ---- scores, in whole numbers of a size K that bounds a scaled flux and a penalty alike
 
-module _ (K : ℕ) (held : (i : ℕ) → i ≤ 2 ^ 32 → Held binary64 (i * K)) (period : ℕ) (flux : ℕ → Float) (n : ℕ) (some : 1 ≤ period) (rows : n ≤ mostRows)
-    (flux-most : (t : ℕ) → t < n → AtMost K (flux t)) (penalty-most : (i : ℕ) → 1 ≤ i → i ≤ 2 * period → AtMost K (penalty period i)) where
-  plus-one : (i : ℕ) (x y : Float) → i < 2 ^ 32 → AtMost (i * K) x → AtMost K y → AtMost (suc i * K) (x ⊕ y)
+module _ (K : ℕ) (held : (i : ℕ) → i ≤ 2 ^ 32 → Held binary64 (i * K)) where
+  pub plus-one : (i : ℕ) (x y : Float) → i < 2 ^ 32 → AtMost (i * K) x → AtMost K y → AtMost (suc i * K) (x ⊕ y)
   plus-one i x y h a b =
       let e : i * K + K ≡ suc i * K = sym (suc-mul i K) in
       subst (λ (m : ℕ). AtMost m (x ⊕ y)) e (add-most (subst (Held binary64) (sym e) (held (suc i) h)) a b)
 
+  -- the same the other way round
+  pub one-plus : (i : ℕ) (x y : Float) → i < 2 ^ 32 → AtMost K x → AtMost (i * K) y → AtMost (suc i * K) (x ⊕ y)
+  one-plus i x y h a b = subst (λ (z : Float). AtMost (suc i * K) z) (add-swap binary64 y x) (plus-one i y x h b a)
+
+module _ (K : ℕ) (held : (i : ℕ) → i ≤ 2 ^ 32 → Held binary64 (i * K)) (period : ℕ) (flux : ℕ → Float) (n : ℕ) (some : 1 ≤ period) (rows : n ≤ mostRows)
+    (flux-most : (t : ℕ) → t < n → AtMost K (flux t)) (penalty-most : (i : ℕ) → 1 ≤ i → i ≤ 2 * period → AtMost K (penalty period i)) where
   -- the best extension of frame t, where the scores before it are bounded
   extra-most : (t : ℕ) → t < n → ((u : ℕ) → u < t → AtMost ((2 * u + 2) * K) (getD (scores period flux n) u nan))
       → AtMost ((2 * t + 1) * K) (extension period (scores period flux n) t .value)
@@ -138,7 +143,7 @@ module _ (K : ℕ) (held : (i : ℕ) → i ≤ 2 ^ 32 → Held binary64 (i * K))
       by (links-to u e w above most first) =
           let d = follows-below period t u some w in
           subst (λ (b : Best). AtMost ((2 * t + 1) * K) (b .value)) (sym e)
-          (most-weaken (mul-le-mul-right K (omega arith)) (plus-one (2 * u + 2) (getD ss u nan) (penalty period (t - u)) (omega arith) (before u d)
+          (most-weaken (mul-le-mul-right K (omega arith)) (plus-one K held (2 * u + 2) (getD ss u nan) (penalty period (t - u)) (omega arith) (before u d)
           (penalty-most (t - u) (omega arith) (omega (arith, w .from)))))
 
   -- so frame t's score is at most 2 t + 2 times K
@@ -148,9 +153,8 @@ module _ (K : ℕ) (held : (i : ℕ) → i ≤ 2 ^ 32 → Held binary64 (i * K))
       let e : suc (2 * t + 1) ≡ 2 * t + 2 = omega arith in
       let x = extension period (scores period flux n) t .value in
       subst (AtMost ((2 * t + 2) * K)) (sym (score-at period flux n t some h))
-      (subst (λ (z : Float). AtMost ((2 * t + 2) * K) z) (add-swap binary64 x (flux t))
-      (subst (λ (i : ℕ). AtMost (i * K) (x ⊕ flux t)) e
-      (plus-one (2 * t + 1) x (flux t) (omega arith) (extra-most t h (λ u d. score-parts k u (omega arith) (omega arith))) (flux-most t h))))
+      (subst (λ (i : ℕ). AtMost (i * K) (flux t ⊕ x)) e
+      (one-plus K held (2 * t + 1) (flux t) x (omega arith) (flux-most t h) (extra-most t h (λ u d. score-parts k u (omega arith) (omega arith)))))
 
 -- ---- every score of an envelope that is not refused
 

@@ -19,7 +19,7 @@ use Rattle.beats.specs.Envelopes.{beatless, scaled}
 use Rattle.beats.specs.Scores.{scores, links}
 use Rattle.beats.specs.Grids.{linkAt, walked, beatsTo, grid, scoresOf, linksOf, gridOf}
 use Rattle.beats.specs.Inner.{Descends}
-use Rattle.beats.proofs.Chains.{links-descend}
+use Rattle.beats.proofs.Links.{links-descend}
 use Rattle.beats.proofs.Walks.{ends, alone, after, beats-few}
 use Rattle.beats.proofs.Beatless.{lively}
 

@@ -29,7 +29,7 @@ use Rattle.tempo.specs.Answers.{unwritten, curveOf}
 use Rattle.beats.specs.Envelopes.{beatless, scaled}
 use Rattle.beats.specs.Scores.{scores, links}
 use Rattle.beats.specs.Grids.{grid, scoresOf, linksOf, gridOf}
-use Rattle.beats.proofs.Chains.{length-scores, length-links}
+use Rattle.beats.proofs.Links.{length-scores, length-links}
 use Rattle.rooms.specs.Rooms.{Results, Spare, frameSlots, lagSlots, lagsOf, analysisNumbersFine, roomOf, envelopeNumber, magnitudesNumber}
 use Rattle.rooms.specs.declared.Room.{Room}
 use Rattle.rooms.proofs.Numbers.{room-inside, magnitudes-0}
@@ -61,7 +61,7 @@ use Rattle.promises.specs.Repaired.{
 }
 
 -- a refusal's answer holds its number, and any other answer 0
-answered-number : (n : ℕ) (env : List Float) (rate : ℕ) (o : TempoOpts) (a : Analysis) → a ≡ unlessRefused n (analysisOf env rate o) (withoutAnalysis n)
+pub answered-number : (n : ℕ) (env : List Float) (rate : ℕ) (o : TempoOpts) (a : Analysis) → a ≡ unlessRefused n (analysisOf env rate o) (withoutAnalysis n)
     → a .number ≡ n
 unfolding analysisOf
 answered-number zero env rate o a e = ap (λ (x : Analysis). x .number) e

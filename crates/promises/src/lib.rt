@@ -1,4 +1,4 @@
-// What the library promises, on one page for each question: the marked numbers, that every promise determines its outcome, and that
-// patching equals starting over.
+// What the library promises, on one page for each question: the marked numbers, that every promise determines its outcome, that
+// patching equals starting over, what the meter changes, and that no chain of beats is better than the grid.
 //
 // No code: specs/ says it, proofs/ proves it from the promises of the calls.

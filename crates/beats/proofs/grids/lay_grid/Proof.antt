@@ -15,7 +15,7 @@ use Rattle.lists.proofs.Greatest.{first-ext}
 use Rattle.beats.specs.Scores.{scores, links}
 use Rattle.beats.specs.Grids.{linkAt, beatsTo, grid}
 use Rattle.beats.specs.Inner.{Tracked, Descends}
-use Rattle.beats.proofs.Chains.{length-scores, length-links, links-descend}
+use Rattle.beats.proofs.Links.{length-scores, length-links, links-descend}
 use Rattle.beats.proofs.Walks.{beats-same}
 use borrow.Author.Needs.{needs}
 use Rattle.beats.proofs.grids.lay_grid.Statement.{statement}

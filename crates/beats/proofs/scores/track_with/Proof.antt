@@ -17,7 +17,7 @@ use Rattle.beat_links.specs.Extensions.{extension}
 use Rattle.beat_links.proofs.Extensions.{extension-same}
 use Rattle.beats.specs.Envelopes.{scaledBy}
 use Rattle.beats.specs.Scores.{scores, linkOf, links}
-use Rattle.beats.proofs.Chains.{length-scores, scores-begin, grown}
+use Rattle.beats.proofs.Links.{length-scores, scores-begin, grown}
 use borrow.Author.Needs.{needs}
 use Rattle.beats.proofs.scores.track_with.Statement.{statement}
 use Rattle.beats.proofs.scores.track_with.Tie as tie
