@@ -1,4 +1,4 @@
-// What is asked of a list: whether each entry is at most so much, its sum and its mean, and which value is the first greatest.
+// What is asked of a list: whether each entry is at most so much, whether it ascends, its sum and its mean, and which value is the first greatest.
 //
 // docs/RULES.md, L7 (sums) and L11 (first greatest). Inner calls all: the crates above share them, and no caller of the library needs them.
 ghost use mathlib.Core.Path.{_≡_};
@@ -6,7 +6,7 @@ ghost use Prim.Native.Nat.{_≤_, _<_};
 ghost use lib.ListN.{length};
 ghost use Rattle.numbers.specs.Rounded.{real, sumOf};
 ghost use Rattle.numbers.specs.Limits.{atMost};
-ghost use Rattle.numbers.specs.Lists.{every};
+ghost use Rattle.numbers.specs.Lists.{every, ascending};
 ghost use Rattle.lists.specs.Greatest.{valueAt, firstGreatest};
 ghost use Rattle.lists.specs.Means.{meanOf};
 
@@ -25,6 +25,23 @@ pub fn all_at_most(list: &[u32], most: u32) -> bool
         if list[i] > most {
             return false;
         }
+        i += 1;
+    }
+    true
+}
+
+// Inner: whether a list ascends strictly.
+pub fn ascends(list: &[u32]) -> bool
+    ensures { λ r. ⌜ r ≡ ascending 0 (now (list .entry)) ⌝ }
+{
+    let mut low: u64 = 0;
+    let mut i = 0;
+    while i < list.len() {
+        let entry = list[i] as u64;
+        if entry < low {
+            return false;
+        }
+        low = entry + 1;
         i += 1;
     }
     true

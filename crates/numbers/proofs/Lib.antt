@@ -4,6 +4,7 @@ pub mod Firsts
 pub mod Slabs
 pub mod Tabs
 pub mod Everys
+pub mod Ascents
 pub mod Overs
 pub mod Windows
 pub mod Sums

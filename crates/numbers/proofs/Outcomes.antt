@@ -1,4 +1,4 @@
--- What a call that writes a lent list promises: a refusal and an answer each meet it, and any two outcomes that it permits coincide.
+-- What a call that writes a lent list promises, and one that lists: a refusal and an answer each meet it, and any two outcomes that it permits coincide.
 -- Then room that is left open; and what is said of the slots from one on holds of those from a later one on.
 use mathlib.Core.List.{List}
 use mathlib.Core.Path.{_≡_, refl, sym, ap, _∙_, subst}
@@ -6,8 +6,9 @@ use Prim.Native.Nat.{ℕ, _+_, _-_, _≤_, zero-le}
 use native.Mathlib.Omega.{arith}
 use lib.ListN.{length, drop}
 use lib.Seq.{drop-drop, drop-at}
-use Rattle.numbers.specs.Lists.{curve, filled}
-use Rattle.numbers.specs.Outcomes.{Written, Open, OpenUnless}
+use Rattle.numbers.specs.Lists.{curve, filled, listed}
+use Rattle.numbers.specs.declared.Listing.{Listing}
+use Rattle.numbers.specs.Outcomes.{Written, ListWritten, Open, OpenUnless}
 use Rattle.numbers.proofs.Tests.{refused-keeps, passed-does}
 use Rattle.numbers.proofs.Tabs.{length-tab, length-filled, filled-whole}
 
@@ -21,6 +22,30 @@ module _ {A : Type 0} (number : ℕ) (done was : List A) where
   -- any two outcomes coincide
   pub written-unique : {a b : ℕ} {x y : List A} → Written number done was a x → Written number done was b y → (a ≡ b) × (x ≡ y)
   written-unique p q = (p .number-is ∙ sym (q .number-is), p .slots-are ∙ sym (q .slots-are))
+
+module _ (number : ℕ) (entries was : List ℕ) where
+  pub lists-refused : (answer : Listing) → answer .number ≡ number → (answer .number ≡ 0 → ⊥) → answer .count ≡ 0 → ListWritten number entries was answer was
+  lists-refused answer e h n =
+      let no : number ≡ 0 → ⊥ = λ z. h (e ∙ z) in
+      record {
+        number-is = e;
+        count-is = n ∙ sym (refused-keeps number (length entries) 0 no);
+        frames-are = sym (refused-keeps number (listed entries was) was no);
+      }
+
+  pub lists-done : (answer : Listing) (after : List ℕ) → number ≡ 0 → answer .number ≡ 0 → answer .count ≡ length entries → after ≡ listed entries was
+      → ListWritten number entries was answer after
+  lists-done answer after z e c l =
+      record {
+        number-is = e ∙ sym z;
+        count-is = c ∙ sym (passed-does number (length entries) 0 z);
+        frames-are = l ∙ sym (passed-does number (listed entries was) was z);
+      }
+
+  -- any two outcomes coincide
+  pub lists-unique : {a b : Listing} {x y : List ℕ} → ListWritten number entries was a x → ListWritten number entries was b y
+      → (a .number ≡ b .number) × (a .count ≡ b .count) × (x ≡ y)
+  lists-unique p q = (p .number-is ∙ sym (q .number-is), p .count-is ∙ sym (q .count-is), p .frames-are ∙ sym (q .frames-are))
 
 module _ {A : Type 0} where
   -- what agrees from slot n on agrees from a later slot on

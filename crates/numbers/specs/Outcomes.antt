@@ -14,8 +14,8 @@ pub record Written {A : Type 0} (number : ℕ) (done was : List A) (answer : ℕ
   pub number-is : answer ≡ number
   pub slots-are : after ≡ unlessRefused number done was
 
--- A call that lists frames or rows: it answers this number and how many entries it listed, 0 where it refuses; the lent list has the entries
--- first, and is as it was where the number refuses.
+-- A call that lists frames or rows, or writes the bytes of a file: it answers this number and how many entries it listed, 0 where it refuses; the
+-- lent list has the entries first, and is as it was where the number refuses.
 pub record ListWritten (number : ℕ) (entries was : List ℕ) (answer : Listing) (after : List ℕ) : Type 0 where
   pub number-is : answer .number ≡ number
   pub count-is : answer .count ≡ unlessRefused number (length entries) 0

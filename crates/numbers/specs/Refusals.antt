@@ -1,4 +1,5 @@
--- Document 01, the table of refusals: "The lowest number that applies is given. A refusal changes nothing lent."
+-- Document 01, the table of refusals: "The lowest number that applies is given. A refusal changes nothing lent." The numbers from 6 on are those
+-- of document 02's requests, which say their own order.
 use Prim.Native.Nat.{ℕ, zero, suc}
 use mathlib.Core.Bool.{Bool, true, false}
 use mathlib.Core.List.{List, [], _∷_}
@@ -24,6 +25,18 @@ wrongValue = 4
 -- "program only: the file header is malformed"
 abbrev pub malformed : ℕ
 malformed = 5
+
+-- document 02, No. 3: "6 for fewer than two beats or frames not strictly ascending"
+abbrev pub wrongGrid : ℕ
+wrongGrid = 6
+
+-- "7 for a gap above 16,777,215"
+abbrev pub gapTooLong : ℕ
+gapTooLong = 7
+
+-- "8 for a file of another shape or a tempo of 0"
+abbrev pub otherShape : ℕ
+otherShape = 8
 
 -- the number k unless the test holds, and then the rest
 abbrev pub unless : Bool → ℕ → ℕ → ℕ

@@ -6,6 +6,7 @@ ghost use mathlib.Core.Bool.{true, _&&_};
 ghost use Prim.Native.Nat.{_-_, min, max};
 ghost use lib.ListN.{length};
 ghost use Rattle.numbers.specs.Limits.{sized, magnitudeFine, valueFine, similarityFine, rateFine, slabFine, slabWhole};
+ghost use Rattle.numbers.specs.Refusals.{unless};
 ghost use Rattle.numbers.specs.Lists.{every};
 
 // samples a second
@@ -48,13 +49,19 @@ pub const WRONG_VALUE: u32 = 4;
 
 pub const MALFORMED: u32 = 5;
 
+pub const WRONG_GRID: u32 = 6;
+
+pub const GAP_TOO_LONG: u32 = 7;
+
+pub const OTHER_SHAPE: u32 = 8;
+
 // The shape of a slab of magnitudes: so many rows of so many bins, one row behind the other.
 pub struct Slab {
     pub rows: usize,
     pub bins: usize,
 }
 
-// What a call that lists frames or rows answers: its number, and how many entries it listed (0 where it refuses).
+// What a call that lists frames or rows, or writes the bytes of a file, answers: its number, and how many entries it listed (0 where it refuses).
 pub struct Listing {
     pub number: u32,
     pub count: usize,
@@ -79,6 +86,13 @@ pub fn less(a: usize, b: usize) -> usize
     ensures { λ r. ⌜ r ≡ a - b ⌝ }
 {
     if a < b { 0 } else { a - b }
+}
+
+// Inner: a row of a call's table: its number unless its test holds, and then what the rows behind it say.
+pub fn unless(holds: bool, number: u32, rest: u32) -> u32
+    ensures { λ r. ⌜ r ≡ unless holds number rest ⌝ }
+{
+    if holds { rest } else { number }
 }
 
 // Inner: whether a sample rate is 1 to 192,000.

@@ -13,6 +13,7 @@ use lib.Seq.{ext-getD}
 use Rattle.numbers.proofs.Everys.{every-at}
 use Rattle.numbers.proofs.Tabs.{length-tab, getD-curve, filled-whole}
 use Rattle.numbers.proofs.Slabs.{slab-fits}
+use Rattle.numbers.proofs.Ascents.{ascending-from}
 use Rattle.numbers.proofs.Tests.{and-left, and-right, and-both, lowest-zero, lowest-0}
 use Rattle.numbers.specs.Limits.{mostRows, mostFrame, rateFine, valueFine, frameFine}
 use Rattle.numbers.specs.Lists.{every, curve, filled, listed, ascending}
@@ -23,7 +24,7 @@ use Rattle.threshold.proofs.Thresholds.{threshold-curve-fine}
 use Rattle.threshold.specs.Threshold.{thresholdAt, windowRoom, thresholdRefusal}
 use Rattle.onsets.specs.Onsets.{gapOf, onsetsOf, onsetsRefusal, timesRefusal}
 use Rattle.onsets.specs.Peaks.{at, peaksOf, pointInto}
-use Rattle.onsets.proofs.Picks.{ascending-from, peaks-ascend, peaks-inside, peaks-length, suppressed-ascends, suppressed-every, suppressed-length}
+use Rattle.onsets.proofs.Picks.{peaks-ascend, peaks-inside, peaks-length, suppressed-ascends, suppressed-every, suppressed-length}
 
 -- a test that follows from another
 pub every-weaken : (p q : ℕ → Bool) → ((x : ℕ) → p x ≡ true → q x ≡ true) → (xs : List ℕ) → every p xs ≡ true → every q xs ≡ true

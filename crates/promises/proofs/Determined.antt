@@ -15,7 +15,7 @@ use Rattle.numbers.specs.Refusals.{unlessRefused}
 use Rattle.numbers.specs.Rounded.{real}
 use Rattle.numbers.specs.declared.Listing.{Listing}
 use Rattle.numbers.specs.Outcomes.{Written, ListWritten}
-use Rattle.numbers.proofs.Outcomes.{written-unique, open-unique}
+use Rattle.numbers.proofs.Outcomes.{written-unique, lists-unique, open-unique}
 use Rattle.frames.specs.Frames.{RowOf}
 use Rattle.frames.proofs.Laws.{one-part}
 use Rattle.median.specs.Answers.{Answered}
@@ -25,7 +25,6 @@ use Rattle.flux.specs.Flux.{fluxAt, FluxPromise}
 use Rattle.threshold.specs.Threshold.{sortingRoom, thresholdRefusal, ThresholdPromise}
 use Rattle.onsets.specs.Peaks.{SuppressionPromise}
 use Rattle.onsets.specs.Onsets.{OnsetsPromise, FrameTimesPromise}
-use Rattle.onsets.proofs.Outcomes.{lists-unique}
 use Rattle.threshold.proofs.Thresholds.{thresholds-unique}
 use Rattle.lags.specs.Lags.{minLag, maxLag, lagRange}
 use Rattle.options.specs.Options.{defaultOptions, optionsOf, withMinBpm, withMaxBpm, withMeter}

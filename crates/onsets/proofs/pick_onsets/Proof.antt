@@ -4,8 +4,8 @@ use mathlib.Core.Path.{refl, sym, _∙_}
 use native.Mathlib.Omega.{arith}
 use borrow.Author.Needs.{needs}
 use Rattle.onsets.specs.Onsets.{onsetsOf}
+use Rattle.numbers.proofs.Outcomes.{lists-refused, lists-done}
 use Rattle.onsets.proofs.Onsets.{onsets-told}
-use Rattle.onsets.proofs.Outcomes.{lists-refused, lists-done}
 use Rattle.onsets.proofs.pick_onsets.Statement.{statement}
 use Rattle.onsets.proofs.pick_onsets.Tie as tie
 
@@ -32,7 +32,8 @@ returns-2 c =
     let p = c .before .before in
     let g = p .before .before in
     let asked = g .before in
-    lists-done _ _ _ _ _ (sym (asked .before .onsets-refusal .ensures) ∙ asked .if1 .left) refl (rw (g .gap-of .ensures) at (p .pick-peaks .ensures))
+    let picked = rw (g .gap-of .ensures) at (p .pick-peaks .ensures) in
+    lists-done _ _ _ _ _ (sym (asked .before .onsets-refusal .ensures) ∙ asked .if1 .left) refl (picked .count-is) (picked .frames-are)
 
 pub pick-onsets-spec : {M : Type 1} → statement M
 pick-onsets-spec =

@@ -13,7 +13,7 @@ use lib.ListN.{length, drop, getD}
 use Rattle.numbers.proofs.Everys.{every-step, every-end}
 use Rattle.numbers.specs.Lists.{ascending}
 use Rattle.onsets.specs.Peaks.{pointInto}
-use Rattle.onsets.proofs.Picks.{ascending-step, ascending-end}
+use Rattle.numbers.proofs.Ascents.{ascending-step, ascending-end}
 use Rattle.onsets.proofs.peaks.peaks_fine.Statement.{statement}
 use Rattle.onsets.proofs.peaks.peaks_fine.Tie as tie
 

@@ -13,7 +13,7 @@ use Rattle.numbers.proofs.Everys.{every-at}
 use Rattle.numbers.specs.Lists.{oneIf, ascending}
 use Rattle.onsets.specs.Peaks.{suppressed}
 use Rattle.onsets.specs.Steps.{Going}
-use Rattle.onsets.proofs.Picks.{ascending-at, ascending-rest}
+use Rattle.numbers.proofs.Ascents.{ascending-at, ascending-rest}
 use Rattle.onsets.proofs.Steps.{going-start, going-next}
 use Rattle.onsets.proofs.peaks.suppress.Statement.{statement}
 use Rattle.onsets.proofs.peaks.suppress.Tie as tie

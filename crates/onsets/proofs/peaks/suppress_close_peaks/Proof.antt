@@ -2,7 +2,7 @@
 -- (`suppression-told`). Assumes nothing.
 use mathlib.Core.Path.{refl, sym, _∙_}
 use borrow.Author.Needs.{needs}
-use Rattle.onsets.proofs.Outcomes.{lists-refused, lists-done}
+use Rattle.numbers.proofs.Outcomes.{lists-refused, lists-done}
 use Rattle.onsets.proofs.Picks.{suppression-told}
 use Rattle.onsets.proofs.peaks.suppress_close_peaks.Statement.{statement}
 use Rattle.onsets.proofs.peaks.suppress_close_peaks.Tie as tie
@@ -25,7 +25,7 @@ returns-2 : tie.Need-returns-2
 returns-2 c =
     let e = c .before .before in
     let asked = e .before .before in
-    lists-done _ _ _ _ _ (sym (asked .before .refusal .ensures) ∙ asked .if1 .left) refl (e .suppress .ensures)
+    lists-done _ _ _ _ _ (sym (asked .before .refusal .ensures) ∙ asked .if1 .left) refl (e .suppress .ensures .count-is) (e .suppress .ensures .frames-are)
 
 pub suppress-close-peaks-spec : {M : Type 1} → statement M
 suppress-close-peaks-spec =
