@@ -1,19 +1,19 @@
 -- How a reader goes along a text: what each definition says of the text from a place on, where that place is in the text and where it is
 -- past its end. Assumes nothing.
 use mathlib.Core.Path.{_≡_, refl, sym, ap, _∙_}
-use mathlib.Core.Bool.{Bool, true, false, not}
-use mathlib.Core.List.{List, [], _∷_, _++_}
+use mathlib.Core.Bool.{Bool, true, false, _&&_, not}
+use mathlib.Core.List.{List, [], _∷_, _++_, append-nil}
 use Prim.Native.Nat.{ℕ, suc, _+_, _-_, _*_, _≤_, _<_, min}
 use native.Mathlib.Nat.{not-suc-le-zero}
 use native.Mathlib.Numerals.{add-one}
 use native.Mathlib.Omega.{arith}
 use lib.Dec.{eqb, leb}
 use lib.ListN.{length, getD, drop, drop-of-length-le}
-use lib.Seq.{drop-cons}
+use lib.Seq.{drop-cons, drop-length}
 use borrow.Author.Tests.{not-true, not-false, le-leb, lt-leb, lt-ltb, eqb-true, eq-eqb, ne-eqb}
-use Rattle.numbers.proofs.Tests.{and-left, and-right, true-not-false}
+use Rattle.numbers.proofs.Tests.{and-left, and-right, and-both, and-assoc, true-not-false}
 use Rattle.numbers.specs.Rounded.{pick}
-use Rattle.texts.specs.Texts.{starts}
+use Rattle.texts.specs.Texts.{starts, exactly}
 use Rattle.texts.specs.Decimals.{isDigit, leading, plain, numberFrom}
 
 -- ---- the bytes that a text starts with
@@ -54,6 +54,29 @@ pub starts-own : (bytes text : List ℕ) → starts bytes (bytes ++ text) ≡ tr
 unfolding starts
 starts-own [] text = refl
 starts-own (w ∷ ws) text = rw (eq-eqb w w refl) (starts-own ws text)
+
+-- pieces, one behind the other
+pub starts-append : (a b text : List ℕ) → starts (a ++ b) text ≡ (starts a text && starts b (drop (length a) text))
+unfolding starts
+starts-append [] b text = refl
+starts-append (w ∷ ws) b [] = refl
+starts-append (w ∷ ws) b (x ∷ xs) =
+    ap (λ (t : Bool). eqb x w && t) (starts-append ws b xs) ∙ sym (and-assoc (eqb x w) (starts ws xs) (starts b (drop (length ws) xs)))
+
+-- nothing else
+pub exactly-is : (bytes text : List ℕ) → exactly bytes text ≡ true → text ≡ bytes
+unfolding exactly
+exactly-is bytes text e =
+    let l = eqb-true (length text) (length bytes) (and-left _ (starts bytes text) e) in
+    starts-split bytes text (and-right (eqb (length text) (length bytes)) _ e)
+    ∙ ap (λ (n : ℕ). bytes ++ drop n text) (sym l)
+    ∙ ap (λ (r : List ℕ). bytes ++ r) (drop-length text)
+    ∙ append-nil bytes
+
+pub exactly-own : (bytes : List ℕ) → exactly bytes bytes ≡ true
+unfolding exactly
+exactly-own bytes =
+    and-both (eqb (length bytes) (length bytes)) _ (eq-eqb (length bytes) (length bytes) refl) (ap (starts bytes) (sym (append-nil bytes)) ∙ starts-own bytes [])
 
 -- ---- digits
 

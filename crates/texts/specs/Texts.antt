@@ -19,6 +19,11 @@ starts [] text = true
 starts (w ∷ ws) [] = false
 starts (w ∷ ws) (x ∷ xs) = eqb x w && starts ws xs
 
+-- a text is these bytes and nothing else
+unfoldable pub exactly : List ℕ → List ℕ → Bool
+unfolding starts
+exactly bytes text = eqb (length text) (length bytes) && starts bytes text
+
 -- A piece is written from `at` on, within the bytes: the answer is the place behind it, and every other byte is as it was.
 pub record Put (was : List ℕ) (at : ℕ) (piece : List ℕ) (end : ℕ) (after : List ℕ) : Type 0 where
   pub end-is : end ≡ at + length piece

@@ -1,0 +1,2 @@
+-- The laws that other crates cite: Tracks has the theorems of the request.
+pub mod Tracks

@@ -1,0 +1,4 @@
+-- The laws that other crates cite.
+pub mod Events
+pub mod Shapes
+mod Examples
