@@ -1,5 +1,5 @@
 -- Document 02, No. 3: a grid of beats as a tempo track and back: what is refused, and what is promised of the writer and the reader.
-use Prim.Native.Nat.{ℕ, _-_}
+use Prim.Native.Nat.{ℕ, _+_, _-_}
 use mathlib.Core.List.{List, [], _∷_}
 use lib.Dec.{leb}
 use lib.ListN.{length}
@@ -10,6 +10,11 @@ use Rattle.numbers.specs.declared.Listing.{Listing}
 use Rattle.midi_gaps.specs.Gaps.{gapsOf, boundsFine, isGrid, gapsFit}
 use Rattle.midi_events.specs.File.{fileOf}
 use Rattle.midi_events.specs.Shapes.{trackRoom, countIn, gapsIn, tempoSome, shaped}
+
+-- "so errors never add up": the sum of some gaps
+unfoldable pub total : List ℕ → ℕ
+total [] = 0
+total (gap ∷ gaps) = gap + total gaps
 
 -- ---- refusal
 

@@ -3,11 +3,12 @@
 // Document 02, No. 3.
 use numbers::Listing;
 ghost use mathlib.Core.Path.{_≡_};
-ghost use Prim.Native.Nat.{_+_, _-_, _*_, _≤_};
+ghost use mathlib.Core.Bool.{true};
+ghost use Prim.Native.Nat.{_+_, _-_, _*_, _≤_, _<_};
 ghost use lib.ListN.{length};
 ghost use Rattle.numbers.specs.Lists.{filled};
 ghost use Rattle.texts.specs.Texts.{Put};
-ghost use Rattle.midi_gaps.specs.Gaps.{gapsOf};
+ghost use Rattle.midi_gaps.specs.Gaps.{gapsOf, gapsFit};
 ghost use Rattle.midi_events.specs.File.{tempoEvents, fileOf};
 ghost use Rattle.midi_events.specs.Shapes.{trackRoom, gapIn};
 ghost use Rattle.midi.specs.Tracks.{writeRefusal, readRefusal, TempoTrackPromise, TempoGapsPromise};
@@ -67,14 +68,15 @@ fn read_refusal(file: &[u8], room: usize) -> u32
     0
 }
 
-// Writes the events of a grid behind the front, and answers the place behind them.
-fn put_events(beats: &[u32], rate: u32, count: usize, file: &mut [u8]) -> usize
-    requires { ⌜ writeRefusal (now beats) rate (length (now file)) ≡ 0 ⌝ }
-    requires { ⌜ count ≡ length (now beats) - 1 ⌝ }
-    ensures { λ r. ⌜ Put (now (file .entry)) 22 (tempoEvents 0 (gapsOf rate (now (beats .entry)))) r (now (file .exit)) ⌝ }
+// Writes the events of a grid from `from` on, and answers the place behind them.
+fn put_events(beats: &[u32], rate: u32, file: &mut [u8], from: usize) -> usize
+    requires { ⌜ (0 < rate) × (1 ≤ length (now beats)) ⌝ }
+    requires { ⌜ (gapsFit rate (now beats) ≡ true) × (from + (length (now beats) - 1) * 7 ≤ length (now file)) ⌝ }
+    ensures { λ r. ⌜ Put (now (file .entry)) from (tempoEvents 0 (gapsOf rate (now (beats .entry)))) r (now (file .exit)) ⌝ }
 {
-    let mut at: usize = 22;
-    let mut i: usize = 0;
+    let count = beats.len() - 1;
+    let mut at = from;
+    let mut i = 0;
     while i < count {
         let gap = midi_gaps::gap_at(beats, rate, i);
         at = midi_events::put_event(file, at, i, gap as u32);
@@ -83,15 +85,14 @@ fn put_events(beats: &[u32], rate: u32, count: usize, file: &mut [u8]) -> usize
     at
 }
 
-// Writes the whole file, and answers its length.
+// Writes the whole file of a grid, and answers how many bytes it has.
 fn put_track(beats: &[u32], rate: u32, file: &mut [u8]) -> usize
     requires { ⌜ writeRefusal (now beats) rate (length (now file)) ≡ 0 ⌝ }
     ensures { λ r. ⌜ Put (now (file .entry)) 0 (fileOf (gapsOf rate (now (beats .entry)))) r (now (file .exit)) ⌝ }
 {
-    let count = beats.len() - 1;
-    let head = midi_events::front(count);
-    texts::put_words(file, 0, &head);
-    let end = put_events(beats, rate, count, file);
+    let head = midi_events::front(beats.len() - 1);
+    let from = texts::put_words(file, 0, &head);
+    let end = put_events(beats, rate, file, from);
     midi_events::put_end(file, end)
 }
 

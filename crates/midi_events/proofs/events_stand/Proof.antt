@@ -42,7 +42,7 @@ returns-2 c =
     let file = now (l .before .before .args .file) in
     let i = l .loop .i in
     let s = c .before .event-stands .ensures
-        ∙ ap (λ (g : ℕ). starts (tempoEvent (deltaOf i) g) (drop (22 + i * 7) file)) (c .before .before .before .gap-in .ensures .0) in
+    ∙ ap (λ (g : ℕ). starts (tempoEvent (deltaOf i) g) (drop (22 + i * 7) file)) (c .before .before .before .gap-in .ensures .0) in
     sym (l .loop .inv .1 ∙ fine-other file i (omega arith) (fails _ _ s (c .if2 .taken)))
 
 add-i : tie.Need-add-i Inv-loop μ-loop
