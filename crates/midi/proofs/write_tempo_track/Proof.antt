@@ -1,30 +1,30 @@
+-- `midi::write_tempo_track` meets its contract: a number other than 0 returns at once, and number 0 is all that the inner call asks. Assumes nothing.
+use mathlib.Core.Path.{refl, sym, _∙_}
+use native.Mathlib.Nat.{zero-add}
 use borrow.Author.Needs.{needs}
+use Rattle.numbers.proofs.Outcomes.{lists-refused, lists-done}
+use Rattle.texts.proofs.Overs.{over-front}
 use Rattle.midi.proofs.write_tempo_track.Statement.{statement}
 use Rattle.midi.proofs.write_tempo_track.Tie as tie
-use Rattle.midi.proofs.write_tempo_track.Reads as reads
-use Rattle.midi.proofs.write_tempo_track.Lts as lts
-use Rattle.midi.proofs.put_track.Reads as put-track-reads
-use Rattle.midi.proofs.write_refusal.Reads as write-refusal-reads
 
--- src/lib.rt:23:9
 write-refusal-requires : tie.Need-write-refusal-requires
 write-refusal-requires c κs = search needs
 
--- src/lib.rt:25:9
 returns : tie.Need-returns
-returns c = ?
+returns c = lists-refused _ _ _ _ (c .before .write-refusal .ensures) (c .if1 .taken) refl
 
--- src/lib.rt:27:9
 put-track-requires : tie.Need-put-track-requires
 put-track-requires c κs = search needs
 
--- src/lib.rt:20:1
 same-length : tie.Need-same-length
 same-length c = search needs
 
--- src/lib.rt:20:1
 returns-2 : tie.Need-returns-2
-returns-2 c = ?
+returns-2 c =
+    let put = c .before .before in
+    let asked = put .before .before in
+    lists-done _ _ _ _ _ (sym (asked .before .write-refusal .ensures) ∙ asked .if1 .left) refl (put .put-track .ensures .end-is ∙ zero-add _)
+    (put .put-track .ensures .bytes-are ∙ over-front _ _)
 
 pub write-tempo-track-spec : {M : Type 1} → statement M
 write-tempo-track-spec =
