@@ -41,6 +41,7 @@ use Rattle.bars.specs.BarBeats.{BarBeatPromise}
 use Rattle.bars.specs.Downbeats.{DownbeatsPromise}
 use Rattle.bars.specs.declared.BarBeat.{BarBeat}
 use Rattle.bars.proofs.BarBeats.{says-one}
+use Rattle.midi.specs.Tracks.{TempoTrackPromise, TempoGapsPromise}
 use Rattle.similarities.specs.Similarity.{SimilarityPromise}
 use Rattle.novelties.specs.Novelty.{NoveltyPromise}
 use Rattle.sections.specs.Outcomes.{workedIn, Found, BoundaryTimesPromise}
@@ -135,6 +136,16 @@ pub suppress-close-peaks : (peaks : List ℕ) (curve : List Float) (gap : ℕ) (
     → SuppressionPromise peaks curve gap was a x → SuppressionPromise peaks curve gap was b y
     → (a .number ≡ b .number) × (a .count ≡ b .count) × (x ≡ y)
 suppress-close-peaks peaks curve gap was = listing _ _ was
+
+-- `write_tempo_track`, `read_tempo_track`
+pub write-tempo-track : (beats : List ℕ) (rate : ℕ) (was : List ℕ) {a b : Listing} {x y : List ℕ}
+    → TempoTrackPromise beats rate was a x → TempoTrackPromise beats rate was b y
+    → (a .number ≡ b .number) × (a .count ≡ b .count) × (x ≡ y)
+write-tempo-track beats rate was = listing _ _ was
+
+pub read-tempo-track : (file was : List ℕ) {a b : Listing} {x y : List ℕ} → TempoGapsPromise file was a x → TempoGapsPromise file was b y
+    → (a .number ≡ b .number) × (a .count ≡ b .count) × (x ≡ y)
+read-tempo-track file was = listing _ _ was
 
 -- `frames_of`: the reader holds the slab that it was given, and the bins
 pub frames-of : {slab r s : RefT (List Float)} {bins m n : ℕ} → (r ≡ slab) × (m ≡ bins) → (s ≡ slab) × (n ≡ bins) → (r ≡ s) × (m ≡ n)
