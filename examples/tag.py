@@ -2,10 +2,10 @@
 """From a song to its grid: onsets, tempo, beats, downbeats, stability and sections of a recording.
 
     python3 examples/tag.py SONG.wav
-    python3 examples/tag.py SONG.wav --json song.json --labels song.txt --picture song.svg
+    python3 examples/tag.py SONG.wav --json song.json --labels song.txt --midi song.mid --picture song.svg
 
-Says a few lines on standard output, and writes the files that are asked for: JSON, labels that Audacity imports, a picture. WAV of 8, 16,
-24 or 32 bits, or float, is read here; any other file by ffmpeg or sox, where one is on the path. Needs Python 3.8 or newer, NumPy, and
+Says a few lines on standard output, and writes the files that are asked for: JSON, labels that Audacity imports, a MIDI file of the tempo from beat
+to beat, a picture. WAV of 8, 16, 24 or 32 bits, or float, is read here; any other file by ffmpeg or sox, where one is on the path. Needs Python 3.8 or newer, NumPy, and
 the library, as python/prohunsev.py finds it. docs/USE.md says what the answers mean, and how far to trust them.
 
 What is proved begins at the magnitudes: flux, threshold, onsets, tempo, stability, beats, downbeats, times, similarity, novelty and
@@ -406,6 +406,13 @@ class Tag:
             labels += [(at, at, "onset") for at in frame_seconds(self.onsets, self.rate).tolist()]
         return "".join("%.6f\t%.6f\t%s\n" % label for label in sorted(labels, key=lambda label: (label[0], -label[1])))
 
+    def as_midi(self):
+        """The tempo from beat to beat as a MIDI file, which begins on the first beat."""
+        if len(self.beats) < 2:
+            raise Trouble("%s: no MIDI file can be written: a tempo track needs two beats at least, and there %s"
+                          % (self.name, "is one" if len(self.beats) else "are none"))
+        return ph.write_tempo_track(self.beats, self.rate)
+
     def as_text(self):
         def line(what, words):
             return "%-10s %s" % (what, words)
@@ -704,22 +711,26 @@ def check_place(path, song):
 
 
 def write(path, text):
-    """Writes a whole file or nothing: a new one takes the old one's place once it is complete."""
+    """Writes a whole file or nothing, words or bytes: a new one takes the old one's place once it is complete."""
+    data = text if isinstance(text, bytes) else text.encode("utf-8")
     if path == "-":
         if sys.stdout is None:
             raise Trouble("standard output is closed: nothing can be said there")
-        sys.stdout.write(text)
+        if data is text:
+            sys.stdout.buffer.write(data)
+        else:
+            sys.stdout.write(text)
         sys.stdout.flush()
         return
     if os.path.exists(path) and not os.path.isfile(path):  # a device or a pipe is written as it is
-        with open(path, "w", encoding="utf-8") as out:
-            out.write(text)
+        with open(path, "wb") as out:
+            out.write(data)
         return
     path = os.path.realpath(path)  # a link stays a link
     part = "%s.%d.part" % (path, os.getpid())
     try:
-        with open(part, "x", encoding="utf-8", newline="\n") as out:
-            out.write(text)
+        with open(part, "xb") as out:
+            out.write(data)
         os.replace(part, path)
     except BaseException:
         with contextlib.suppress(OSError):
@@ -734,6 +745,7 @@ def arguments(words):
     parser.add_argument("--json", metavar="FILE", help="write the answers as JSON")
     parser.add_argument("--labels", metavar="FILE", help="write sections and beats as labels that Audacity imports")
     parser.add_argument("--onsets", action="store_true", help="label the onsets too")
+    parser.add_argument("--midi", metavar="FILE", help="write the tempo from beat to beat as a MIDI file, which begins on the first beat")
     parser.add_argument("--picture", metavar="FILE.svg", help="draw flux, threshold, onsets, beats, downbeats, sections and tempo, as SVG")
     parser.add_argument("--part", metavar="START-END", type=part_of, help="draw this part alone, for example 1:00-1:30; half a minute is easy to read")
     parser.add_argument("--min-bpm", type=bound_of, default=30.0, metavar="BPM",
@@ -753,14 +765,14 @@ def arguments(words):
         if ending.lower() != ".svg":
             parser.error("--picture %s: the picture is SVG, so name it %s.svg; rsvg-convert or a browser makes other pictures of it"
                          % (given.picture, start))
-    places = [os.path.realpath(p) if p != "-" else p for p in (given.json, given.labels, given.picture) if p]
+    places = [os.path.realpath(p) if p != "-" else p for p in (given.json, given.labels, given.midi, given.picture) if p]
     if len(set(places)) != len(places):
         parser.error("two outputs have the same name")
     return given
 
 
 def run(given):
-    wanted = [(given.json, Tag.as_json), (given.labels, lambda song: song.as_labels(given.onsets)),
+    wanted = [(given.json, Tag.as_json), (given.labels, lambda song: song.as_labels(given.onsets)), (given.midi, Tag.as_midi),
               (given.picture, lambda song: str(Picture(song, given.part)))]
     wanted = [(path, made) for path, made in wanted if path]
     for path, _ in wanted:
@@ -774,9 +786,9 @@ def run(given):
         say(song.warning)
     if given.part and given.part[0] >= song.seconds:
         raise Trouble("%s ends at %s, before the part that is to be drawn" % (song.name, clock(song.seconds, 1)))
-    # files before words: where standard output is closed, what was asked for is there
-    for path, made in sorted(wanted, key=lambda one: one[0] == "-"):
-        write(path, made(song))
+    # all is made before any of it is written, and files come before words: where standard output is closed, what was asked for is there
+    for path, text in sorted([(path, made(song)) for path, made in wanted], key=lambda one: one[0] == "-"):
+        write(path, text)
     if not given.quiet and all(path != "-" for path, _ in wanted):
         write("-", song.as_text())
 

@@ -112,7 +112,8 @@ class Answer(Room):
     @classmethod
     def setUpClass(cls):
         super().setUpClass()
-        outs = [word for kind, name in (("json", "out.json"), ("labels", "out.labels"), ("picture", "out.svg")) for word in ("--" + kind, cls.path(name))]
+        kinds = (("json", "out.json"), ("labels", "out.labels"), ("midi", "out.mid"), ("picture", "out.svg"))
+        outs = [word for kind, name in kinds for word in ("--" + kind, cls.path(name))]
         done = subprocess.run([sys.executable, TAG, cls.song] + outs, cwd=tempfile.gettempdir(), stdout=subprocess.PIPE, check=True)
         cls.text = done.stdout.decode()
         cls.json, cls.labels, cls.picture = (cls.read("out." + kind) for kind in ("json", "labels", "svg"))
@@ -180,6 +181,19 @@ class Answer(Room):
         labels = out.splitlines()
         self.assertEqual(sum(line.endswith("\tonset") for line in labels), len(self.told["onsets"]["frames"]))
         self.assertEqual([line for line in labels if not line.endswith("\tonset")], self.labels.splitlines())
+
+    def test_midi(self):
+        with open(self.path("out.mid"), "rb") as made:
+            file = made.read()
+        frames, seconds = self.told["beats"]["frames"], self.told["beats"]["seconds"]
+        self.assertEqual(file, tag.ph.write_tempo_track(np.array(frames, np.uint32), piece.RATE))
+        gaps = tag.ph.read_tempo_track(file)
+        # half a second from beat to beat, give or take a frame, and in all what lies between the first and the last
+        self.assertEqual(len(gaps), len(frames) - 1)
+        self.assertTrue(all(abs(gap - 60_000_000 / piece.BPM) < 12_000 for gap in gaps), list(gaps))
+        self.assertAlmostEqual(sum(gaps) / 1_000_000, seconds[-1] - seconds[0], delta=1.1e-6)
+        done = subprocess.run([sys.executable, TAG, self.song, "--midi", "-"], cwd=tempfile.gettempdir(), stdout=subprocess.PIPE, check=True)
+        self.assertEqual(done.stdout, file)
 
     def test_words(self):
         self.assertEqual(self.text.splitlines()[0], "piece.wav: 1:04.0 at 44,100 samples a second, 11,022 rows")
@@ -494,6 +508,10 @@ class Odd(Room):
         with open(outs["labels"]) as made:
             self.assertEqual(len(made.read().splitlines()), sections)
         xml.etree.ElementTree.parse(outs["picture"])
+        # no grid, no tempo track: it is said, and nothing at all is written
+        err = self.refused(self.path(name), "--midi", self.path("no.mid"), "--json", self.path("no.json"))
+        self.assertEqual(err, "tag: %s: no MIDI file can be written: a tempo track needs two beats at least, and there are none\n" % name)
+        self.assertFalse(os.path.exists(self.path("no.mid")) or os.path.exists(self.path("no.json")))
         return out
 
     def test_short(self):
@@ -559,12 +577,13 @@ class Odd(Room):
 
     def test_places(self):
         os.link(self.song, self.path("song.svg"))
-        for kind in "--json", "--labels", "--picture":
+        for kind in "--json", "--labels", "--midi", "--picture":
             self.assertIn("is the song itself", self.refused(self.song, kind, self.path("song.svg")))
             self.assertIn("is a folder", self.refused(self.song, kind, self.folder))
             self.assertIn("there is no folder", self.refused(self.song, kind, self.path("no folder/x.svg")))
         os.unlink(self.path("song.svg"))
         self.run_tag(self.song, "--json", self.path("x"), "--labels", self.path("x"), status=2)
+        self.run_tag(self.song, "--midi", self.path("x"), "--labels", self.path("x"), status=2)
         self.run_tag(self.song, "--onsets", status=2)
         self.run_tag(self.song, "--part", "1-2", status=2)
         self.run_tag(self.song, "--picture", "-", "--part", "2-1", status=2)

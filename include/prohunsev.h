@@ -3,7 +3,8 @@
  * Each function is named ph_ and the name of the proved call behind it, and does what that call promises: crates/capi holds the
  * statements, docs/PROMISES.md says what they mean. What follows are the rules that all of them share.
  *
- * Numbers of refusal. Every function but ph_version returns one of these, the lowest that applies; each has a name below:
+ * Numbers of refusal. Every function but ph_version returns one of these; each has a name below. Of 1 to 4 the lowest that applies is given; the
+ * two functions of tempo tracks have an order of their own, which their comments say:
  *   0  answered ("no tempo" and "no stability" are answers)
  *   1  a number is out of bounds: a rate outside 1 to 192,000, more than 1,048,576 magnitude rows or slots of an input that is an envelope,
  *      a flux or the curve of ph_suppress_close_peaks, bins outside 1 to 4,096, more than 50,000 feature rows or slots of ph_boundaries'
@@ -15,6 +16,10 @@
  *   3  too little room: an output or a work slice is shorter than its formula
  *   4  a value isn't finite or is too large: above 2^126 in size for magnitudes, above 2^150 for envelopes, curves, medians and
  *      features, and outside -1 to 1 for a similarity
+ *   6  of a tempo track's beats there are fewer than two, or they don't ascend strictly
+ *   7  from one beat to the next are more than 16,777,215 microseconds, the longest tempo that three bytes hold
+ *   8  a file isn't of the one shape that ph_write_tempo_track writes, or has a tempo of 0
+ * 5 is of the reporting program alone: a malformed header.
  * A refusal changes nothing that was lent: no slot of a slice, and none of the numbers that an answer would go into.
  *
  * Slices. A slice is a pointer and a length in slots, one behind the other: `const double *flux, size_t flux_len`. An output
@@ -37,6 +42,7 @@
  *   one for each entry: suppressed peaks, times, downbeats; a median's work slice
  *   min(21, N)  the work slice of a threshold
  *   a whole track at once: what ph_room_of answers
+ *   26 + 7 (k - 1) bytes for the tempo track of k beats, and one slot for each gap that is read of one
  * Work slices hold anything after an answer, in the slots of their formula, unless the function's own comment says more;
  * ph_stability_of treats its lag curves the same way. Lists have their entries first, as many as the count says. All other slots stay
  * as they were.
@@ -77,6 +83,9 @@ extern "C" {
 #define PROHUNSEV_WRONG_LENGTH 2u
 #define PROHUNSEV_TOO_LITTLE_ROOM 3u
 #define PROHUNSEV_WRONG_VALUE 4u
+#define PROHUNSEV_WRONG_GRID 6u
+#define PROHUNSEV_GAP_TOO_LONG 7u
+#define PROHUNSEV_OTHER_SHAPE 8u
 
 /* what ph_beat_grid writes in `back` for a frame with no beat before it */
 #define PROHUNSEV_NO_LINK 4294967295u
@@ -106,6 +115,8 @@ extern "C" {
 /* the usual beats of a bar, meter, and the most (the least is 1): 3 is a waltz's */
 #define PROHUNSEV_DEFAULT_METER 4u
 #define PROHUNSEV_MOST_METER 16u
+/* the longest gap of a tempo track, in microseconds (the least is 1) */
+#define PROHUNSEV_MOST_TEMPO 16777215u
 
 /* The version of the library that is linked, as PROHUNSEV_VERSION is written: where the two differ, this header is not the library's.
  * Room: none.
@@ -285,6 +296,24 @@ uint32_t ph_analyse_magnitudes(const float *magnitudes, size_t magnitudes_len, s
                                uint32_t *downbeats, size_t downbeats_len, double *work, size_t work_len,
                                size_t *onset_count, uint32_t *found, double *bpm, double *clarity, size_t lags[3], double saliences[3], size_t *count,
                                uint32_t *steady, double *fraction, size_t *agreeing, size_t *windows, size_t *beat_count, size_t *downbeat_count);
+
+/* ---- files */
+
+/* Writes the beats as a Standard MIDI File of tempos, for a sequencer: format 0, one track, 96 ticks a beat, and for each gap between two beats one
+ * Set Tempo of so many microseconds, the first at once and the others 96 ticks apart; the track ends 96 after the last, on the last beat. A
+ * beat's time is (256 t + 512) / rate seconds, exact, rounded half up to whole microseconds, and a gap is the difference of two such times, so that
+ * roundings never add up. The file begins on the first beat: what comes before it in the recording isn't told. *count is how many bytes it has.
+ * Room: 26 + 7 (beats_len - 1) bytes of file; those behind them stay.
+ * Refuses, in this order, 1 for the rate or a beat above 1,048,575, 6 for fewer than two beats or beats that don't ascend strictly, 7 for a gap above
+ * 16,777,215 microseconds, and 3. Never 8: two frames are at least 1,333 microseconds apart. */
+uint32_t ph_write_tempo_track(const uint32_t *beats, size_t beats_len, uint32_t rate, uint8_t *file, size_t file_len, size_t *count);
+
+/* Reads the gaps of such a file, in microseconds, *count of them; 60,000,000 / gap are beats a minute. A file that is read is, byte for byte, what
+ * the function above writes for beats that are these gaps apart, where there are any.
+ * Room: (file_len - 26) / 7 slots of gaps, one a gap; those behind them stay.
+ * Refuses 8 for any other file, though a sequencer may read it: another header, format, division, length, delta or event, a status byte left out, a
+ * byte more or fewer, no gap at all, a tempo of 0; and then 3. */
+uint32_t ph_read_tempo_track(const uint8_t *file, size_t file_len, uint32_t *gaps, size_t gaps_len, size_t *count);
 
 #ifdef __cplusplus
 }

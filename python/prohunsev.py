@@ -5,7 +5,8 @@ of the right kind (an array.array, a memoryview, a NumPy array, ..), contiguous,
 
     float64 values   array('d'), numpy.float64     envelopes, curves, features, times, work
     float32 values   array('f'), numpy.float32     magnitudes
-    uint32 frames    array('I'), numpy.uint32      lists of frames and rows, back links
+    uint32 frames    array('I'), numpy.uint32      lists of frames and rows, back links, gaps
+    uint8 bytes      bytes, bytearray, numpy.uint8 files
 
 A slice has one dimension. Rows may have two, and then the shape must be what the call is told: (rows, bins) magnitudes, (rows, 16)
 features, (rows, 17) similarities; new rows of a patch, and a similarity that is written, may be any number of rows. A call that isn't told
@@ -15,7 +16,7 @@ A call answers, or raises Refused with the number of the refusal and what it was
 needed"), and then nothing that was lent has changed. A buffer of another kind, one that isn't contiguous, a masked array, or an output that
 can't be written raises TypeError; another shape, and an output that overlaps another slice, raises ValueError; a whole number that its C
 type cannot hold raises OverflowError; and none of these writes anything. A call that lists answers how many entries it listed: they stand
-first in the slice, and the slots behind them are unchanged.
+first in the slice, and the slots behind them are unchanged. write_tempo_track and read_tempo_track make what they answer.
 
 Calls hold no lock while they compute: threads run at the same time, each with outputs of its own, and may read the same inputs. A call
 that shares a slice with one of another thread that is still at work, where either writes it, raises ValueError. Only calls of this module
@@ -41,8 +42,8 @@ __all__ = [
     "Analysis", "BarBeat", "Buffers", "Candidate", "LagRange", "NO_LINK", "Patched", "PatchedFeatures", "Refused", "Room", "Sections",
     "Stability", "Tempo", "TempoEstimate", "TempoOpts", "adaptive_threshold", "bar_beat_at", "beat_grid", "boundaries", "boundary_times",
     "downbeats", "estimate", "frame_times", "lag_range", "mad_of", "median_of", "novelty", "patch_features", "patch_magnitudes",
-    "pick_onsets", "room_of", "similarity", "similarity_room", "spectral_flux", "stability_of", "suppress_close_peaks",
-    "threshold_room",
+    "pick_onsets", "read_tempo_track", "read_tempo_track_into", "room_of", "similarity", "similarity_room", "spectral_flux", "stability_of",
+    "suppress_close_peaks", "tempo_gaps_room", "tempo_track_room", "threshold_room", "write_tempo_track", "write_tempo_track_into",
 ]
 
 # what beat_grid writes in `back` for a frame with no beat before it
@@ -55,6 +56,7 @@ _MOST_BINS = 4_096
 _MOST_FRAME = 1_048_575
 _MOST_PERIOD = 45_000
 _MOST_METER = 16
+_MOST_TEMPO = 16_777_215
 _MOST_FEATURE_ROWS = 50_000
 _MOST_LISTED_ROW = 49_999
 _MOST_FEATURE_LENGTH = 2_147_483_648
@@ -70,8 +72,8 @@ Lent = Any
 
 
 class Refused(Exception):
-    """A call refused. `number` says why, 1 to 4, the lowest that applies; `call` is the call's name; `detail` names what was lent and what is
-    taken, and is empty where nothing more is known than the number."""
+    """A call refused. `number` says why; of 1 to 4 it is the lowest that applies, and the calls of tempo tracks have an order of their own, which
+    they say. `call` is the call's name; `detail` names what was lent and what is taken, and is empty where nothing more is known than the number."""
 
     WHY = {
         1: "a number is out of bounds: sample rate 1 to 192,000, at most 1,048,576 rows or slots of 1 to 4,096 bins, period at most"
@@ -81,6 +83,10 @@ class Refused(Exception):
         3: "an output or work slice has fewer slots than its formula, which the call's help says under Room, and docs/ROOM.md",
         4: "a value isn't finite or is too large: magnitudes up to 2**126, envelopes, curves, medians and features up to 2**150,"
            " similarities -1 to 1",
+        6: "a tempo track needs two beats at least, which ascend strictly",
+        7: "from one beat to the next are more than 16,777,215 microseconds, the longest tempo of a track",
+        8: "the file isn't of the shape that write_tempo_track writes: format 0, one track of Set Tempo events, division 96; or it has a"
+           " tempo of 0",
     }
 
     def __init__(self, call: str, number: int, detail: str = "") -> None:
@@ -264,10 +270,12 @@ _EXPORTED = {
         "onset_count: &mut usize, found: &mut u32, bpm: &mut f64, clarity: &mut f64, lags: &mut [usize; 3], saliences: &mut [f64; 3], "
         "count: &mut usize, steady: &mut u32, fraction: &mut f64, agreeing: &mut usize, windows: &mut usize, beat_count: &mut usize, "
         "downbeat_count: &mut usize"),
+    "ph_write_tempo_track": "beats: &[u32], rate: u32, file: &mut [u8], count: &mut usize",
+    "ph_read_tempo_track": "file: &[u8], gaps: &mut [u32], count: &mut usize",
 }
 # ---- up to here
 
-_TYPES = {"f32": ctypes.c_float, "f64": ctypes.c_double, "u32": ctypes.c_uint32, "u64": ctypes.c_uint64, "usize": ctypes.c_size_t}
+_TYPES = {"u8": ctypes.c_uint8, "f32": ctypes.c_float, "f64": ctypes.c_double, "u32": ctypes.c_uint32, "u64": ctypes.c_uint64, "usize": ctypes.c_size_t}
 
 
 def _argument(kind):
@@ -389,8 +397,8 @@ class _Slice:
         return f"the shape ({'rows' if rows is None else rows}, {'bins' if width is None else width}), rows first{turned}, or one dimension"
 
 
-_FLOAT64, _FLOAT32, _UINT32 = ("float64", ("d",), 8), ("float32", ("f",), 4), ("uint32", ("I", "L"), 4)
-_SLOTS = {"float64": ctypes.c_double, "float32": ctypes.c_float, "uint32": ctypes.c_uint32}
+_FLOAT64, _FLOAT32, _UINT32, _UINT8 = ("float64", ("d",), 8), ("float32", ("f",), 4), ("uint32", ("I", "L"), 4), ("uint8", ("B",), 1)
+_SLOTS = {"float64": ctypes.c_double, "float32": ctypes.c_float, "uint32": ctypes.c_uint32, "uint8": ctypes.c_uint8}
 
 
 def _reals(name, lent):
@@ -407,6 +415,22 @@ def _frames(name, lent):
 
 def _frames_out(name, lent):
     return _Slice(name, lent, _UINT32, True)
+
+
+def _bytes(name, lent):
+    return _Slice(name, lent, _UINT8, False)
+
+
+def _bytes_out(name, lent):
+    return _Slice(name, lent, _UINT8, True)
+
+
+def _count(lent, size):
+    """How many values of so many bytes a buffer has; 0 of what is none, which the call then tells."""
+    try:
+        return memoryview(lent).nbytes // size
+    except (TypeError, ValueError, BufferError):
+        return 0
 
 
 def _given(call, **words):
@@ -556,9 +580,9 @@ def _apart(call, lent, others=None):
                     raise ValueError(f"{call}: {slice_.name} overlaps {other.name}{' of a call in another thread' if others else ''}")
 
 
-def _call(call, *parts):
-    """Calls the exported function of this name: slices as pointer and length, other parts as they are."""
-    lent, words = [], []
+def _call(call, *parts, of=None):
+    """Calls the exported function of this name, or of the one that is told: slices as pointer and length, other parts as they are."""
+    lent, words, of = [], [], of or call
     try:
         for part in parts:
             if isinstance(part, _Slice):
@@ -569,13 +593,13 @@ def _call(call, *parts):
             else:
                 words.append(part)
         _apart(call, lent)
-        function = getattr(_library, "ph_" + call)
+        function = getattr(_library, "ph_" + of)
         with _gate:
             for others in list(_flying.values()):
                 _apart(call, lent, others)
             _flying[id(lent)] = lent
         number = function(*words)
-        detail = _why(call, number, parts, lent) if number else ""
+        detail = _why(of, number, parts, lent) if number else ""
     finally:
         with _gate:
             _flying.pop(id(lent), None)
@@ -735,6 +759,44 @@ def _value(name):
     return 4, lambda n: "" if abs(getattr(n, name)) <= _VALUE[0] else f"{name} is {getattr(n, name)}: {_VALUE[1]}"
 
 
+def _grid(name):
+    def look(n):
+        beats = n.of(name)
+        if len(beats) < 2:
+            return f"{name}: {_many(len(beats), 'beat')} lent, at least two needed"
+        at = next((at for at in range(1, len(beats)) if beats[at] <= beats[at - 1]), 0)
+        return f"{name}[{at}] is {beats[at]:,} and the one before it {beats[at - 1]:,}: beats ascend" if at else ""
+    return 6, look
+
+
+def _gaps(name):
+    def look(n):
+        # half up, as the call has it
+        times = [((256 * beat + 512) * 2_000_000 + n.rate) // (2 * n.rate) for beat in n.of(name)]
+        at = next((at for at in range(1, len(times)) if times[at] - times[at - 1] > _MOST_TEMPO), 0)
+        gap = times[at] - times[at - 1] if at else 0
+        return f"{name}[{at}] is {gap:,} microseconds after the one before it, at most {_MOST_TEMPO:,}" if at else ""
+    return 7, look
+
+
+def _tempo_track(name):
+    def look(n):
+        file = bytes(n.of(name))
+        count = tempo_gaps_room(len(file))
+        if not count or len(file) != 26 + 7 * count:
+            return f"{name}: {_many(len(file), 'byte')} lent, 26 and 7 for each gap needed, one at least"
+        # None is any byte: of a tempo, or of a length that four bytes don't hold
+        length = (len(file) - 22).to_bytes(4, "big") if len(file) - 22 < 2 ** 32 else [None] * 4
+        event = [96, 255, 81, 3, None, None, None]
+        shape = [*b"MThd\0\0\0\6\0\0\0\1\0\x60MTrk", *length, 0, *event[1:], *(count - 1) * event, 96, 255, 47, 0]
+        at = next((at for at, (is_, needed) in enumerate(zip(file, shape)) if needed not in (None, is_)), None)
+        if at is not None:
+            return f"{name}[{at}] is {file[at]}, {shape[at]} needed"
+        event = next((k for k in range(count) if not any(file[26 + 7 * k:][:3])), None)
+        return "" if event is None else f"{name}: tempo {event + 1:,} of it is 0"
+    return 8, look
+
+
 _RATE, _METER = _number("rate", *_TAKEN["rate"]), _number("meter", *_TAKEN["meter"])
 _ROWS = (_number("rows", 0, _MOST_ROWS), _number("bins", *_TAKEN["bins"]), _table("magnitudes", "bins"))
 _FEATURE_ROWS, _LENGTH = _number("rows", 0, _MOST_FEATURE_ROWS), _number("length", *_TAKEN["length"])
@@ -791,12 +853,14 @@ _TAKES = {
     "room_of": (_number("rows", 0, _MOST_ROWS), _RATE, _METER),
     "analyse_envelope": (*_track("envelope", (_frames_of("envelope"),), ()), _values("envelope")),
     "analyse_magnitudes": (*_track("rows", _ROWS, ("flux",)), _values("magnitudes", _MAGNITUDE)),
+    "write_tempo_track": (_RATE, _entries("beats", _MOST_FRAME), _grid("beats"), _gaps("beats"), _room("file", lambda n: tempo_track_room(n.beats))),
+    "read_tempo_track": (_tempo_track("file"), _room("gaps", lambda n: tempo_gaps_room(n.file))),
 }
 
 
-def _listed(call, *parts):
+def _listed(call, *parts, of=None):
     count = ctypes.c_size_t()
-    _call(call, *parts, ctypes.byref(count))
+    _call(call, *parts, ctypes.byref(count), of=of)
     return count.value
 
 
@@ -984,6 +1048,54 @@ def patch_features(features: Lent, rows: Optional[int] = None, start: Optional[i
     return PatchedFeatures(*_patch(call, *_features(call, "features", features, rows, _FEATURE_WIDTH, True), _size("start", start),
                                    _Slice("new_rows", new_rows, _FLOAT64, False, None, _FEATURE_WIDTH),
                                    _Slice("similarity", similarity, _FLOAT64, True, None, _SIMILARITY_WIDTH), _reals_out("novelty", novelty)))
+
+
+# ---- files
+
+
+def tempo_track_room(beats: int) -> int:
+    """Bytes of the tempo track of so many beats: 26, and 7 for each gap."""
+    return 26 + 7 * (max(beats, 1) - 1)
+
+
+def tempo_gaps_room(size: int) -> int:
+    """Slots of gaps for a tempo track of so many bytes: one for each gap."""
+    return max(size - 26, 0) // 7
+
+
+def write_tempo_track(beats: Lent, rate: int) -> bytes:
+    """The beats as a Standard MIDI File of tempos, for a sequencer: format 0, one track, 96 ticks a beat, one Set Tempo for each gap between two
+    beats. pathlib.Path("track.mid").write_bytes(..) makes a file of it.
+
+    A beat's time is (256 t + 512) / rate seconds, exact, rounded half up to whole microseconds, and a tempo is the difference of two such
+    times, so that roundings never add up. The file begins on the first beat and ends on the last. Refused, in this order, with 1 for the rate or
+    a beat above 1,048,575, with 6 for fewer than two beats or beats that don't ascend strictly, with 7 for a gap above 16,777,215
+    microseconds."""
+    file = bytearray(tempo_track_room(_count(beats, 4)))
+    count = _listed("write_tempo_track", _frames("beats", beats), _small("rate", rate), _bytes_out("file", file))
+    return bytes(file[:count])
+
+
+def write_tempo_track_into(beats: Lent, rate: int, file: Lent) -> int:
+    """write_tempo_track into bytes that are lent. Answers how many bytes the file has; those behind it stay. Refused with 3, last of all, where
+    they are fewer. Room: tempo_track_room(len(beats)) bytes of file."""
+    return _listed("write_tempo_track_into", _frames("beats", beats), _small("rate", rate), _bytes_out("file", file), of="write_tempo_track")
+
+
+def read_tempo_track(file: Lent) -> "array.array[int]":
+    """The gaps of a tempo track that write_tempo_track wrote, in microseconds, as uint32 values: 60,000,000 / gap are beats a minute.
+
+    It takes exactly that shape: a file that is read is, byte for byte, the file written for beats that are these gaps apart, where there are
+    any. Refused with 8 is any other file, though a sequencer may read it, and a tempo of 0."""
+    gaps = array.array("I", bytes(4 * tempo_gaps_room(_count(file, 1))))
+    count = _listed("read_tempo_track", _bytes("file", file), _frames_out("gaps", gaps))
+    return gaps[:count]
+
+
+def read_tempo_track_into(file: Lent, gaps: Lent) -> int:
+    """read_tempo_track into slots that are lent. Answers how many gaps there are; slots behind them stay. Refused with 3, last of all, where
+    they are fewer. Room: tempo_gaps_room(len(file)) slots of gaps."""
+    return _listed("read_tempo_track_into", _bytes("file", file), _frames_out("gaps", gaps), of="read_tempo_track")
 
 
 # ---- a whole track

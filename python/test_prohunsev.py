@@ -402,6 +402,7 @@ class Refusals(unittest.TestCase):
                 call(*words)
             refused, name = caught.exception, call.__name__
             self.assertEqual((refused.number, refused.call, refused.detail), (number, name, detail))
+            self.assertIn(number, ph.Refused.WHY)
             self.assertEqual(str(refused), f"{name} refused with {number}: {detail}")
             self.assertEqual(before, [bytes(w) if isinstance(w, array) else None for w in words])
 
@@ -503,6 +504,37 @@ class Refusals(unittest.TestCase):
         for meter, words in self.NO_METERS:
             self.refuses(1, words, ph.downbeats, reals(1, 2), frames(0, 1), frame_room(2), meter)
             self.refuses(1, words, ph.downbeats, reals(math.nan, 2), frames(0, 1), frame_room(1), meter)
+
+    def test_files(self):
+        write, into, byte_room = ph.write_tempo_track, ph.write_tempo_track_into, lambda size: array("B", [7]) * size
+        self.refuses(1, "rate 0, 1 to 192,000", write, frames(), 0)
+        self.refuses(1, "rate 192,001, 1 to 192,000", write, frames(0, 94), 192_001)
+        self.refuses(1, "beats[2] is 1,048,576, at most 1,048,575", write, frames(5, 5, 1_048_576), 1)
+        self.refuses(6, "beats: 0 beats lent, at least two needed", write, frames(), RATE)
+        self.refuses(6, "beats: 1 beat lent, at least two needed", write, frames(1_048_575), RATE)
+        self.refuses(6, "beats[2] is 7 and the one before it 7: beats ascend", write, frames(0, 7, 7, 6), 1)
+        late = "beats[%d] is %s microseconds after the one before it, at most 16,777,215"
+        self.refuses(7, late % (2, "16,777,216"), write, frames(1, 3, 1_738), 26_474)
+        # room comes last
+        self.refuses(1, "rate 0, 1 to 192,000", into, frames(), 0, byte_room(3))
+        self.refuses(6, "beats: 1 beat lent, at least two needed", into, frames(5), RATE, byte_room(3))
+        self.refuses(7, late % (1, "256,000,000"), into, frames(0, 1), 1, byte_room(3))
+        self.refuses(3, "file: 32 slots lent, 33 needed", into, frames(0, 94), RATE, byte_room(32))
+        good = write(frames(0, 94, 188), RATE)
+        read, into, lengths = ph.read_tempo_track, ph.read_tempo_track_into, "file: %s lent, 26 and 7 for each gap needed, one at least"
+
+        def changed(at, value, size=40):
+            return array("B", good[:at] + bytes(value) + good[at + len(value):size])
+
+        for size in (0, 1, 26, 32, 34, 39, 41):
+            self.refuses(8, lengths % (f"{size} byte" + ("" if size == 1 else "s")), read, array("B", (good + b"0")[:size]))
+        for at, value, needed in ((0, 82, 77), (9, 1, 0), (11, 2, 1), (13, 95, 96), (21, 19, 18), (22, 96, 0), (24, 88, 81), (29, 0, 96), (30, 96, 255),
+                                  (32, 4, 3), (36, 0, 96), (38, 46, 47), (39, 1, 0)):
+            self.refuses(8, f"file[{at}] is {value}, {needed} needed", read, changed(at, [value]))
+        self.refuses(8, "file[21] is 18, 11 needed", read, changed(0, b"", 33))
+        self.refuses(8, "file: tempo 2 of it is 0", read, changed(33, [0, 0, 0]))
+        self.refuses(8, "file[0] is 0, 77 needed", into, changed(0, [0]), frame_room(0))
+        self.refuses(3, "gaps: 1 slot lent, 2 needed", into, changed(0, b""), frame_room(1))
 
     def test_sections(self):
         self.refuses(1, "rows 50,001, 0 to 50,000", ph.similarity, room(31), 50_001, room(34))
@@ -625,6 +657,7 @@ class Refusals(unittest.TestCase):
         text = self.README.read_text()
         for call, *words in ((ph.adaptive_threshold, pulses(4_096), room(4_095), room(21)), (ph.Buffers(1, 1).analyse_envelope, reals(1), 0),
                              (ph.downbeats, reals(1), frames(0), frame_room(1), 17),
+                             (ph.write_tempo_track, frames(94, 94), RATE), (ph.read_tempo_track, b"RIFF" + bytes(29)),
                              (ph.spectral_flux, singles(*range(7)), 4, 2, room(4)),
                              (ph.pick_onsets, room(17) + reals(math.nan), room(18), RATE, frame_room(18))):
             with self.assertRaises(ph.Refused) as caught:
@@ -643,8 +676,8 @@ class Declarations(unittest.TestCase):
 
     HEADER = pathlib.Path(__file__).resolve().parent.parent / "include/prohunsev.h"
     TYPES = {"double": ctypes.c_double, "float": ctypes.c_float, "size_t": ctypes.c_size_t, "uint32_t": ctypes.c_uint32,
-             "uint64_t": ctypes.c_uint64}
-    LENT = {"float64": ctypes.c_double, "float32": ctypes.c_float, "uint32": ctypes.c_uint32}
+             "uint64_t": ctypes.c_uint64, "uint8_t": ctypes.c_uint8}
+    LENT = {"float64": ctypes.c_double, "float32": ctypes.c_float, "uint32": ctypes.c_uint32, "uint8": ctypes.c_uint8}
 
     def declared(self):
         text = re.sub(r"/\*.*?\*/", "", self.HEADER.read_text(), flags=re.S)
@@ -674,21 +707,24 @@ class Declarations(unittest.TestCase):
             "downbeats": (d, i, i, 4), "bar_beat_at": (1.0, d, d), "similarity": (d, 1, d), "novelty": (d, 1, d),
             "boundaries": (d, 1, 1, 1, i, d), "boundary_times": (i, 1, 1, d), "patch_magnitudes": (f, 1, 1, 1, f, d, d, d),
             "patch_features": (d, 1, 1, d, d, d), "room_of": (1, 1, OPTS), "analyse_envelope": (d, 1, OPTS),
-            "analyse_magnitudes": (f, 1, 1, 1, OPTS),
+            "analyse_magnitudes": (f, 1, 1, 1, OPTS), "write_tempo_track": (i, 1), "read_tempo_track": (b"",),
         }
+        # calls that are lent what others make, of the same functions
+        into = {"write_tempo_track_into": (i, 1, bytearray(1)), "read_tempo_track_into": (b"", i)}
         declared, buffers = dict(self.declared()), ph.Buffers(1, 1)
         # what the module asks the library as it loads, with types of its own
         version = ph._library.ph_version
         self.assertEqual((declared.pop("version"), version.argtypes, version.restype), ([], [], ctypes.c_uint32))
         self.assertEqual(words.keys(), declared.keys())
-        for call, given in words.items():
+        for call, given in {**words, **into}.items():
             seen = []
-            with unittest.mock.patch.object(ph, "_call", lambda name, *parts: seen.append((name, parts))):
+            with unittest.mock.patch.object(ph, "_call", lambda name, *parts, of=None: seen.append((name, of or name, parts))):
                 getattr(buffers if call.startswith("analyse_") else ph, call)(*given)
-            (name, parts), = seen
-            self.assertEqual((name, [word for part in parts for word in self.handed(part)]), (call, declared[call]))
-            told = [kind * many if many > 1 else ctypes.POINTER(kind) if lent else kind for lent, kind, many in declared[call]]
-            self.assertEqual(getattr(ph._library, "ph_" + call).argtypes, told, call)
+            (name, of, parts), = seen
+            self.assertEqual((name, of), (call, call[:-len("_into")] if call in into else call))
+            self.assertEqual([word for part in parts for word in self.handed(part)], declared[of], call)
+            told = [kind * many if many > 1 else ctypes.POINTER(kind) if lent else kind for lent, kind, many in declared[of]]
+            self.assertEqual(getattr(ph._library, "ph_" + of).argtypes, told, call)
 
     def test_a_word_of_another_type_is_no_call(self):
         d, median = reals(1), ctypes.c_double()
@@ -930,6 +966,71 @@ class Lending(unittest.TestCase):
                                env={**os.environ, "PROHUNSEV_LIBRARY": "/nowhere/lib.so"})
         self.assertEqual(tried.returncode, 1)
         self.assertIn("ImportError: PROHUNSEV_LIBRARY names /nowhere/lib.so, which is no file: run tools/library", tried.stderr)
+
+
+class Files(unittest.TestCase):
+    """Tempo tracks: bytes made by hand from the standard, roundings, what may be lent, and slots behind an answer."""
+
+    def test_bytes_by_hand(self):
+        front = b"MThd\0\0\0\6\0\0\0\1\0\x60MTrk\0\0\0"
+        one = front + b"\x0b\0\xff\x51\3\x07\xa6\x55\x60\xff\x2f\0"
+        self.assertEqual(ph.write_tempo_track(frames(0, 94), RATE), one)
+        # 501,333.3 microseconds each: the third has what the first two have not
+        three = front + b"\x19\0\xff\x51\3\x07\xa6\x55\x60\xff\x51\3\x07\xa6\x55\x60\xff\x51\3\x07\xa6\x56\x60\xff\x2f\0"
+        file = ph.write_tempo_track(frames(0, 94, 188, 282), RATE)
+        self.assertIs(type(file), bytes)
+        self.assertEqual(file, three)
+        gaps = ph.read_tempo_track(file)
+        self.assertEqual((gaps.typecode, list(gaps)), ("I", [501_333, 501_333, 501_334]))
+        # the rate is read, and where the grid begins is not told
+        self.assertEqual(list(ph.read_tempo_track(ph.write_tempo_track(frames(7, 101), 44_100))), [545_669])
+        # at 32,768 a frame is 7,812.5 microseconds: halves are rounded up
+        self.assertEqual(list(ph.read_tempo_track(ph.write_tempo_track(frames(0, 1, 2, 3, 5), 32_768))), [7_813, 7_812, 7_813, 15_625])
+        # 1,735 frames from frame 1 on; from frame 3 on as many are one microsecond more, and refused
+        self.assertEqual(list(ph.read_tempo_track(ph.write_tempo_track(frames(1, 1_736), 26_474))), [16_777_215])
+
+    def test_slots_behind_stay(self):
+        file, gaps = bytearray(b"\7" * 40), frame_room(3)
+        self.assertEqual(ph.write_tempo_track_into(frames(0, 94), RATE, file), 33)
+        self.assertEqual((file[:33], file[33:]), (ph.write_tempo_track(frames(0, 94), RATE), b"\7" * 7))
+        self.assertEqual(ph.read_tempo_track_into(memoryview(file)[:33], gaps), 1)
+        self.assertEqual(list(gaps), [501_333, WAS_FRAME, WAS_FRAME])
+        self.assertEqual([ph.tempo_track_room(beats) for beats in (0, 1, 2, 3)], [26, 26, 33, 40])
+        self.assertEqual([ph.tempo_gaps_room(size) for size in (0, 25, 26, 32, 33, 40)], [0, 0, 0, 0, 1, 2])
+
+    def test_what_may_be_lent(self):
+        file = ph.write_tempo_track(frames(0, 94), RATE)
+        for lent in (file, bytearray(file), memoryview(file), array("B", file)):
+            self.assertEqual(list(ph.read_tempo_track(lent)), [501_333])
+        wrong = Lending().wrong
+        wrong(TypeError, "write_tempo_track: beats must be a contiguous buffer of uint32 values, not list", ph.write_tempo_track, [0, 94], RATE)
+        wrong(TypeError, "format 'i'", ph.write_tempo_track, array("i", [0, 94]), RATE)
+        wrong(TypeError, "contiguous", ph.write_tempo_track, memoryview(frames(0, 1, 94))[::2], RATE)
+        wrong(TypeError, "rate must be a whole number, not float", ph.write_tempo_track, frames(0, 94), 48e3)
+        wrong(OverflowError, "rate is -1, outside 1 to 192,000", ph.write_tempo_track, frames(0, 94), -1)
+        wrong(TypeError, "read_tempo_track: file must be a contiguous buffer of uint8 values, not str", ph.read_tempo_track, "MThd")
+        wrong(TypeError, "format 'I'", ph.read_tempo_track, frames(0, 94))
+        wrong(TypeError, "file must be a contiguous buffer of uint8 values to write into", ph.write_tempo_track_into, frames(0, 94), RATE, bytes(40))
+        wrong(TypeError, "gaps must be a contiguous buffer of uint32 values to write into", ph.read_tempo_track_into, file, reals(1))
+        both = memoryview(bytearray(file + bytes(7)))
+        wrong(ValueError, "gaps overlaps file", ph.read_tempo_track_into, both[:33], both[32:36].cast("I"))
+        # an analysis' beats, lent as they are
+        buffers = ph.Buffers(4_000, RATE)
+        beats = buffers.analyse_envelope(turn(), RATE).beats
+        gaps = ph.read_tempo_track(ph.write_tempo_track(beats, RATE))
+        self.assertEqual(len(gaps), len(beats) - 1)
+        ms = room(len(beats))
+        ph.frame_times(beats, RATE, ms)
+        self.assertAlmostEqual(sum(gaps) / 1_000, ms[-1] - ms[0], places=2)
+
+    def test_random_grids(self):
+        r = random.Random(3)
+        for _ in range(200):
+            rate, beats = r.choice([8_000, 44_100, RATE, 192_000]), sorted(r.sample(range(400), r.randint(2, 30)))
+            # half up in whole numbers
+            times = [(2_000_000 * (256 * beat + 512) + rate) // (2 * rate) for beat in beats]
+            gaps = ph.read_tempo_track(ph.write_tempo_track(frames(*beats), rate))
+            self.assertEqual(list(gaps), [after - before for before, after in zip(times, times[1:])])
 
 
 class Patches(unittest.TestCase):

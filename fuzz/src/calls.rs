@@ -89,7 +89,7 @@ pub fn version() -> u32 {
     unsafe { ph_version() }
 }
 
-pub const CALLS: [Call; 22] = [
+pub const CALLS: [Call; 24] = [
     call!(median_of, ph_median_of, median, [1, 3, 4], s s p),
     call!(mad_of, ph_mad_of, mad, [1, 3, 4], s f s p),
     call!(spectral_flux, ph_spectral_flux, flux, [1, 2, 3, 4], s n n s),
@@ -124,6 +124,8 @@ pub const CALLS: [Call; 22] = [
         [1, 2, 3, 4],
         s n n u f f n s s s s s s s s s s s s p p p p p p p p p p p p p; [17, 31]
     ),
+    call!(write_tempo_track, ph_write_tempo_track, tempo_tracks, [1, 3, 6, 7], s u s p),
+    call!(read_tempo_track, ph_read_tempo_track, tempo_files, [3, 8], s s p),
 ];
 
 /// The downbeats by a call that doesn't hand the meter on (misbehave.rs).
@@ -1034,5 +1036,97 @@ mod slabs {
         let mut reach = track_reach(after, 8, &flux, range, beats_of_a_bar(&a[6])?)?;
         reach.push((7, 0..rows));
         Ok(reach)
+    }
+}
+
+// ---- files
+
+// a beat's time in microseconds, by request No. 3's words: exact, half up
+fn microseconds(beat: u32, rate: usize) -> u64 {
+    let (twice, rate) = ((256 * u64::from(beat) + 512) * 2_000_000, rate as u64);
+    (twice + rate) / (2 * rate)
+}
+// the file of these gaps, event by event
+fn track_of(gaps: &[u32]) -> Vec<u8> {
+    let mut file = b"MThd\0\0\0\x06\0\0\0\x01\0\x60MTrk".to_vec();
+    file.extend((7 * gaps.len() as u32 + 4).to_be_bytes());
+    for (k, gap) in gaps.iter().enumerate() {
+        file.extend([if k == 0 { 0 } else { 96 }, 0xff, 0x51, 3]);
+        file.extend(&gap.to_be_bytes()[1..]);
+    }
+    file.extend([96, 0xff, 0x2f, 0]);
+    file
+}
+
+mod tempo_tracks {
+    use super::*;
+    pub fn draw(r: &mut Numbers) -> Vec<Arg> {
+        let (rate, count) = (rate(r), length(r).min(300));
+        // the longest gap is 1,024 frames at 15,625: most lists keep below it
+        let longest = (rate.clamp(1, MOST_RATE) as usize * 1_024 / 15_625).max(1);
+        let step = if r.once_in(8) { longest + 2 } else { longest.min(200) };
+        let mut at = r.between(0, 900);
+        let mut beats = Vec::with_capacity(count);
+        for _ in 0..count {
+            beats.push(at as u32);
+            at += r.between(1, step);
+        }
+        if r.once_in(8) && count > 0 {
+            let k = r.between(0, count - 1);
+            beats[k] = r.one_of(&[0, beats[0], beats[count - 1], MOST_FRAME, MOST_FRAME + 1, u32::MAX]);
+        }
+        call(&beats, rate, room(r, rooms::tempo_track(count)))
+    }
+    pub fn bound(_: &mut Numbers, k: u64) -> Option<Vec<Arg>> {
+        // every frame there is, then one more: once again, or past the last
+        let every = 0..=MOST_FRAME;
+        let more: [&[u32]; 3] = [&[], &[MOST_FRAME], &[MOST_FRAME + 1]];
+        let beats: Vec<u32> = every.chain(more.get(k as usize)?.iter().copied()).collect();
+        Some(call(&beats, MOST_RATE, rooms::tempo_track(beats.len())))
+    }
+    fn call(beats: &[u32], rate: u32, file: usize) -> Vec<Arg> {
+        vec![input(beats), whole(rate as usize), output::<u8>(file), cell::<usize>()]
+    }
+    pub fn reach(a: &[Arg], after: &After) -> Reach {
+        let (beats, rate) = (frames(&a[0]), number(&a[1]));
+        let count = counted(after, 3, rooms::tempo_track(beats.len()))?;
+        let gap = |pair: &[u32]| (microseconds(pair[1], rate) - microseconds(pair[0], rate)) as u32;
+        let gaps: Vec<u32> = beats.windows(2).map(gap).collect();
+        must(after.held[2][..count] == track_of(&gaps), "another file than the beats give")?;
+        Ok(vec![(2, 0..count), all(3)])
+    }
+}
+
+mod tempo_files {
+    use super::*;
+    pub fn draw(r: &mut Numbers) -> Vec<Arg> {
+        let count = length(r).min(300);
+        let most = r.one_of(&[2, 255, 65_535, MOST_TEMPO as usize]);
+        let gaps: Vec<u32> = (0..count).map(|_| r.between(1, most) as u32).collect();
+        let mut file = track_of(&gaps);
+        if r.once_in(3) {
+            let at = r.between(0, file.len() - 1);
+            match r.between(0, 5) {
+                0 => file[at] = r.next() as u8,
+                1 => file[at] ^= 1 << r.between(0, 7),
+                2 => file.truncate(at),
+                3 => drop(file.remove(at)),
+                4 => file.insert(at, r.next() as u8),
+                _ => file.extend(vec![r.next() as u8; r.between(1, 9)]),
+            }
+        }
+        vec![input(&file), output::<u32>(room(r, count)), cell::<usize>()]
+    }
+    pub fn bound(_: &mut Numbers, k: u64) -> Option<Vec<Arg>> {
+        let room = *[MOST_ROWS, MOST_ROWS - 1].get(k as usize)?;
+        Some(vec![input(&track_of(&vec![MOST_TEMPO; MOST_ROWS])), output::<u32>(room), cell::<usize>()])
+    }
+    pub fn reach(a: &[Arg], after: &After) -> Reach {
+        let Arg::Lent { values, .. } = &a[0] else { unreachable!("a file is lent") };
+        let count = counted(after, 2, rooms::tempo_gaps(values.len()))?;
+        let gaps = after.frames(1, count);
+        must(!gaps.is_empty() && gaps.iter().all(|gap| (1..=MOST_TEMPO).contains(gap)), "a gap that no file has")?;
+        must(track_of(&gaps) == *values, "reads a file that is not written for these gaps")?;
+        Ok(vec![(1, 0..count), all(2)])
     }
 }

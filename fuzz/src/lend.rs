@@ -53,7 +53,7 @@ macro_rules! slot {
         }
     )*};
 }
-slot!(f64, true; f32, true; u32, false; usize, false;);
+slot!(f64, true; f32, true; u32, false; usize, false; u8, false;);
 
 fn lent<T: Slot>(values: &[T], slots: usize, written: bool) -> Arg {
     let mut bytes = Vec::with_capacity(values.len() * T::KIND.bytes);
@@ -152,6 +152,7 @@ pub fn contents(args: &[Arg], fill: Fill, r: &mut Numbers) -> Vec<Vec<u8>> {
                 while held.len() < all {
                     let bits = unwritten(*kind, r);
                     match kind.bytes {
+                        1 => held.push(bits as u8),
                         4 => held.extend((bits as u32).to_ne_bytes()),
                         _ => held.extend(bits.to_ne_bytes()),
                     }

@@ -168,11 +168,15 @@ fn tried(call: &Call, case: Case, args: &[Arg], pool: &mut Pool) -> Result<Came,
     Ok(Came { number, calls: calls + 1, shown: refused.shown, for_meter })
 }
 
+// the numbers that the calls give, in the order of the columns, and one more than the greatest: 5 is the reporting program's
+const NUMBERS: [usize; 8] = [0, 1, 2, 3, 4, 6, 7, 8];
+const SLOTS: usize = 9;
+
 #[derive(Default)]
 struct Tally {
-    numbers: [u64; 5],
+    numbers: [u64; SLOTS],
     // inputs with each number of which NaNs showed that slots stay
-    shown: [u64; 5],
+    shown: [u64; SLOTS],
     // whether the call may write floats
     floats: bool,
     // whether it takes bounds of the tempo, and the answers with one that isn't finite
@@ -245,16 +249,14 @@ fn never(call: &Call, tally: &Tally) -> Vec<String> {
 fn run(list: &[&Call], seed: u64, count: u64) -> bool {
     println!("the library is version {} (ph_version)", calls::version());
     println!("seed {seed}, {count} inputs a call and those at the bounds, each with guards behind and before");
-    println!(
-        "{:24}{:>10}{:>10}{:>9}{:>9}{:>9}{:>9}{:>8}",
-        "call", "calls", "answered", "no. 1", "no. 2", "no. 3", "no. 4", "faults"
-    );
+    let columns: String = NUMBERS[1..].iter().map(|number| format!("{:>9}", format!("no. {number}"))).collect();
+    println!("{:24}{:>10}{:>10}{columns}{:>8}", "call", "calls", "answered", "faults");
     let (mut calls, mut faults, mut lacks, mut pool) = (0, 0, 0, Pool::default());
     for call in list {
         let t = all_of(call, seed, count, &mut pool);
-        let [a, b, c, d, e] = t.numbers;
-        let sum = a + b + c + d + e + 2 * t.faults;
-        println!("{:24}{sum:>10}{a:>10}{b:>9}{c:>9}{d:>9}{e:>9}{:>8}", call.name, t.faults);
+        let sum = t.numbers.iter().sum::<u64>() + 2 * t.faults;
+        let columns: String = NUMBERS[1..].iter().map(|&number| format!("{:>9}", t.numbers[number])).collect();
+        println!("{:24}{sum:>10}{:>10}{columns}{:>8}", call.name, t.numbers[0], t.faults);
         calls += sum;
         faults += t.faults;
         for what in never(call, &t) {

@@ -9,6 +9,7 @@ pub enum Field {
     Reals(Vec<f64>),
     Singles(Vec<f32>),
     Frames(Vec<u32>),
+    Bytes(Vec<u8>),
 }
 use Field::*;
 
@@ -39,12 +40,17 @@ impl Field {
         let Frames(xs) = self else { panic!("not frames: {self:?}") };
         xs
     }
+    pub fn bytes(&self) -> &[u8] {
+        let Bytes(xs) = self else { panic!("not bytes: {self:?}") };
+        xs
+    }
 
     fn len(&self) -> Option<usize> {
         match self {
             Reals(xs) => Some(xs.len()),
             Singles(xs) => Some(xs.len()),
             Frames(xs) => Some(xs.len()),
+            Bytes(xs) => Some(xs.len()),
             _ => None,
         }
     }
@@ -65,6 +71,10 @@ impl Field {
                 let less = [0, xs[slot] / 2, xs[slot].saturating_sub(1)].into_iter().filter(|&y| y < xs[slot]);
                 less.map(|y| Frames(set(xs, slot, y))).collect()
             }
+            Bytes(xs) => {
+                let less = [0, xs[slot] / 2, xs[slot].saturating_sub(1)].into_iter().filter(|&y| y < xs[slot]);
+                less.map(|y| Bytes(set(xs, slot, y))).collect()
+            }
         }
     }
 
@@ -76,6 +86,7 @@ impl Field {
             Reals(xs) => Reals(cut(xs, from, past)),
             Singles(xs) => Singles(cut(xs, from, past)),
             Frames(xs) => Frames(cut(xs, from, past)),
+            Bytes(xs) => Bytes(cut(xs, from, past)),
             other => other.clone(),
         }
     }
@@ -104,6 +115,7 @@ pub fn text(name: &str, names: &[&str], fields: &[Field]) -> String {
             Reals(xs) => list(xs.iter().map(|&x| told(x)).collect()),
             Singles(xs) => list(xs.iter().map(|x| format!("{x:?}")).collect()),
             Frames(xs) => list(xs.iter().map(|x| x.to_string()).collect()),
+            Bytes(xs) => list(xs.iter().map(|x| x.to_string()).collect()),
         };
         line += &format!(" {name}={value}");
     }
@@ -133,6 +145,7 @@ pub fn parse(line: &str, like: &[Field]) -> Vec<Field> {
                 Reals(_) => Reals(items(value).iter().map(|s| heard(s)).collect()),
                 Singles(_) => Singles(items(value).iter().map(|s| s.parse().unwrap()).collect()),
                 Frames(_) => Frames(items(value).iter().map(|s| s.parse().unwrap()).collect()),
+                Bytes(_) => Bytes(items(value).iter().map(|s| s.parse().unwrap()).collect()),
             }
         })
         .collect()

@@ -1,6 +1,7 @@
 //! What each call must do: its number by document 01's table, its answer by the Rust, every other slot as it was.
 use crate::cases::Field;
 use crate::differences;
+use crate::formats;
 use crate::lent::{Floats, Slot, cell, held, poisoned};
 use crate::table::{self, BAND, WIDTH};
 use oracle::structure::StructureOpts;
@@ -415,4 +416,22 @@ pub fn patch_features(f: &[Field]) -> Expected {
     }
     let slots = vec![changed(&features), changed(&similarity), changed(&novelty)];
     Expected { number, answers: named(number, ranges), slots }
+}
+
+// ---- files, which the Rust has not: by document 02 (formats.rs)
+
+pub fn write_tempo_track(f: &[Field]) -> Expected {
+    let (beats, rate, room) = (f[0].frames(), f[1].whole(), f[2].size());
+    let number = table::write_tempo_track(beats, rate, room);
+    let file = if number == 0 { formats::written(&formats::gaps(beats, rate)) } else { vec![] };
+    let count = if number == 0 { file.len().bits() } else { cell::<usize>() };
+    Expected { number, answers: vec![count], slots: vec![listed(room, &file)] }
+}
+
+pub fn read_tempo_track(f: &[Field]) -> Expected {
+    let (file, room) = (f[0].bytes(), f[1].size());
+    let number = table::read_tempo_track(file, room);
+    let gaps = if number == 0 { formats::read(file).unwrap_or_default() } else { vec![] };
+    let count = if number == 0 { gaps.len().bits() } else { cell::<usize>() };
+    Expected { number, answers: vec![count], slots: vec![listed(room, &gaps)] }
 }

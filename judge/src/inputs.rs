@@ -1,6 +1,7 @@
 //! The inputs: for each call every small one of some kind, and random ones of every length around each boundary.
 use crate::cases::Field::{self, *};
 use crate::expected;
+use crate::formats;
 use crate::numbers::*;
 use crate::table::{BAND, MOST_FEATURE_ROWS, MOST_FRAME, MOST_MAGNITUDE, MOST_ROWS, MOST_VALUE, RATE, WIDTH};
 
@@ -717,6 +718,154 @@ pub fn analyse_magnitudes(r: &mut Numbers) -> Fields {
     [first, rooms.into_iter().map(size).collect()].concat()
 }
 
+// ---- files
+
+// rooms at, below and above what is needed
+fn rooms_around(need: usize) -> [usize; 3] {
+    [need, need.saturating_sub(1), need + 2]
+}
+
+pub fn all_tempo_tracks(each: &mut dyn FnMut(Fields)) {
+    for rate in [0, 1, 7, 44_100, 192_000, 192_001] {
+        lists(&[0, 1, 2, 40, MOST_FRAME, MOST_FRAME + 1], 4, &mut |beats| {
+            for room in rooms_around(formats::size(beats.len().max(1))) {
+                each(vec![Frames(beats.to_vec()), Whole(rate), size(room)]);
+            }
+        });
+    }
+    // halves, and gaps that are not whole
+    for rate in (1..=192_000).step_by(7) {
+        each(vec![Frames(vec![0, 1, 2, 3, 5, 8, 100, 101, 500]), Whole(rate), size(formats::size(9))]);
+    }
+    // 1,024 frames in 15,625 are 16,777,216 microseconds: the rates at which as many frames come within some microseconds of that
+    for rate in (1..=192_000u64).filter(|rate| (rate * 1_024 + 12) % 15_625 <= 24) {
+        let long = ((rate * 1_024 + 12) / 15_625) as u32;
+        for first in [0, 1, 2, 3, 1_000, 900_000] {
+            each(vec![Frames(vec![first, first + long, first + long + 1]), Whole(rate), size(formats::size(3))]);
+        }
+    }
+}
+
+pub fn write_tempo_track(r: &mut Numbers) -> Fields {
+    let rate = rate(r);
+    let count = if r.once_in(30) { r.size(100, 400) } else { r.size(0, 12) };
+    // steps up to the longest gap of the rate, or short ones
+    let longest = (rate.clamp(1, 192_000) * 1_024 / 15_625).max(1);
+    let step = if r.once_in(4) { longest } else { longest.min(400) };
+    let mut at = r.whole(0, 1_000) as u32;
+    let mut beats = Vec::new();
+    for _ in 0..count {
+        beats.push(at);
+        at += r.whole(1, step) as u32;
+    }
+    if count > 0 {
+        let k = r.size(0, count - 1);
+        match r.whole(0, 20) {
+            0 => beats[k] = r.of(&[MOST_FRAME, MOST_FRAME + 1, u32::MAX, 0]),
+            1 => beats[k] = beats[count - 1 - k],
+            2 => beats[k..].iter_mut().for_each(|beat| *beat += longest as u32 + 1),
+            3 => beats[count - 1] = MOST_FRAME,
+            _ => {}
+        }
+    }
+    let need = formats::size(count.max(1));
+    vec![Frames(beats), Whole(rate), room_field(r, need)]
+}
+
+// tempos of every size that three bytes hold
+fn tempo(r: &mut Numbers) -> u64 {
+    let most = r.of(&[3, 255, 65_535, formats::MOST_TEMPO]);
+    r.whole(1, most)
+}
+
+pub fn all_tempo_files(each: &mut dyn FnMut(Fields)) {
+    for count in 0..=3usize {
+        let good = formats::written(&[500_000, 1, formats::MOST_TEMPO][..count]);
+        for room in rooms_around(count) {
+            each(vec![Bytes(good.clone()), size(room)]);
+        }
+        // every byte as every other, every length up to it and some bytes more
+        for at in 0..good.len() {
+            for value in 0..=255 {
+                let mut file = good.clone();
+                file[at] = value;
+                each(vec![Bytes(file), size(4)]);
+            }
+            each(vec![Bytes(good[..at].to_vec()), size(4)]);
+            each(vec![Bytes([&good[..at], &good[at + 1..]].concat()), size(4)]);
+        }
+        for more in 1..=8 {
+            each(vec![Bytes([&good[..], &vec![0; more]].concat()), size(4)]);
+        }
+    }
+    tempo_files_of_others().into_iter().for_each(|file| each(vec![Bytes(file), size(9)]));
+}
+
+// files that other programs may write and read: all of them sound, none of this shape
+fn tempo_files_of_others() -> Vec<Vec<u8>> {
+    let file = |format: u8, tracks: &[&[u8]], division: u8| {
+        let mut file = [&b"MThd\0\0\0\x06\0"[..], &[format, 0, tracks.len() as u8, 0, division]].concat();
+        for track in tracks {
+            file.extend([&b"MTrk"[..], &(track.len() as u32).to_be_bytes(), track].concat());
+        }
+        file
+    };
+    let (tempo, end) = (&[0, 0xff, 0x51, 3, 7, 0xa1, 0x20][..], &[96, 0xff, 0x2f, 0][..]);
+    let later = &[96, 0xff, 0x51, 3, 7, 0xa1, 0x20][..];
+    let whole = |parts: &[&[u8]]| parts.concat();
+    let plain = whole(&[tempo, later, end]);
+    vec![
+        file(1, &[&plain], 96),
+        file(2, &[&plain], 96),
+        file(0, &[&plain], 97),
+        file(0, &[&plain, end], 96),
+        file(0, &[], 96),
+        file(0, &[end], 96),
+        file(0, &[&[0, 0xff, 0x2f, 0]], 96),
+        // the first later, the second at once, the end at once
+        file(0, &[&whole(&[later, later, end])], 96),
+        file(0, &[&whole(&[tempo, tempo, end])], 96),
+        file(0, &[&whole(&[tempo, later, &[0, 0xff, 0x2f, 0]])], 96),
+        // deltas in two bytes, in one more than is needed, and in a length of three
+        file(0, &[&whole(&[tempo, &[0x81, 0x40], &later[1..], end])], 96),
+        file(0, &[&whole(&[tempo, &[0x80], later, end])], 96),
+        file(0, &[&whole(&[tempo, &[96, 0xff, 0x51, 0x80, 3, 7, 0xa1, 0x20], end])], 96),
+        // a name, a time signature, a note, a status left out, an event behind the end
+        file(0, &[&whole(&[&[0, 0xff, 3, 0], &tempo[..], end])], 96),
+        file(0, &[&whole(&[&[0, 0xff, 0x58, 4, 4, 2, 24, 8], &tempo[..], end])], 96),
+        file(0, &[&whole(&[tempo, &[0, 0x90, 60, 64, 96, 0x80, 60, 0], &end[..]])], 96),
+        file(0, &[&whole(&[tempo, &[0, 0x90, 60, 64, 96, 60, 0], &end[..]])], 96),
+        file(0, &[&whole(&[tempo, &[96, 0x51, 3, 7, 0xa1, 0x20], &end[..]])], 96),
+        file(0, &[&whole(&[tempo, end, later])], 96),
+        // a tempo of 0, and a longer header
+        file(0, &[&whole(&[tempo, &[96, 0xff, 0x51, 3, 0, 0, 0], &end[..]])], 96),
+        whole(&[b"MThd\0\0\0\x08\0\0\0\x01\0\x60\0\0", &file(0, &[&plain], 96)[14..]]),
+        whole(&[b"RIFF\0\0\0\0RMIDdata", &file(0, &[&plain], 96)]),
+    ]
+}
+
+pub fn read_tempo_track(r: &mut Numbers) -> Fields {
+    let count = if r.once_in(30) { r.size(30, 300) } else { r.size(0, 6) };
+    let gaps: Vec<u64> = (0..count).map(|_| tempo(r)).collect();
+    let mut file = formats::written(&gaps);
+    let at = r.size(0, file.len() - 1);
+    match r.whole(0, 15) {
+        0 => file[at] = r.whole(0, 255) as u8,
+        1 => file[at] ^= 1 << r.whole(0, 7),
+        2 => drop(file.remove(at)),
+        3 => file.insert(at, r.whole(0, 255) as u8),
+        4 => file.truncate(at),
+        5 => file.extend(vec![r.of(&[0, 96, 255]); r.size(1, 9)]),
+        // an event more or fewer than the length says, and a length that says so
+        6 => drop(file.splice(at.min(22)..at.min(22), [0, 0xff, 0x51, 3, 1, 2, 3])),
+        7 => file[21] = file[21].wrapping_add(r.of(&[1, 4, 7, 249, 252, 255])),
+        // a tempo of 0
+        8 if count > 0 => file[26 + 7 * r.size(0, count - 1)..][..3].fill(0),
+        _ => {}
+    }
+    vec![Bytes(file), room_field(r, count)]
+}
+
 // ---- open bounds of the tempo: every kind of pair, on clicks that repeat, at rates of which the bounds make a difference
 
 pub fn open_bounds(call: &str, each: &mut dyn FnMut(Fields)) {
@@ -879,6 +1028,19 @@ pub fn at_the_bounds(call: &str, each: &mut dyn FnMut(Fields)) {
         }
     }
     match call {
+        // every frame there is, and one more: once again, or past the last
+        "write_tempo_track" => {
+            let all: Vec<u32> = (0..=MOST_FRAME).collect();
+            let need = formats::size(all.len());
+            for (last, room) in [(None, need), (None, need - 1), (Some(MOST_FRAME), need + 7), (Some(MOST_FRAME + 1), need + 7)] {
+                each(vec![Frames([&all[..], last.as_slice()].concat()), Whole(48_000), size(room)]);
+            }
+        }
+        "read_tempo_track" => {
+            let file = formats::written(&vec![1; MOST_ROWS + 9]);
+            each(vec![Bytes(file.clone()), size(MOST_ROWS + 9)]);
+            each(vec![Bytes(file), size(MOST_ROWS + 8)]);
+        }
         // all 45,000 lags less a few, and lags 38 to 375 on both sides of 377 slots
         "estimate" => {
             for n in [45_001, 45_002] {

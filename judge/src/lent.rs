@@ -97,6 +97,16 @@ impl Slot for u32 {
         0xdead_0000 ^ salt as u32
     }
 }
+impl Slot for u8 {
+    type Bits = u8;
+    const FLOATS: Option<Floats> = None;
+    fn narrow(self) -> u8 {
+        self
+    }
+    fn poison(salt: u64) -> u8 {
+        0xc5 ^ salt as u8
+    }
+}
 impl Slot for usize {
     type Bits = u64;
     const FLOATS: Option<Floats> = None;

@@ -1,4 +1,5 @@
-//! The judge: every call of the port against the Rust of docs/src, bit for bit, with lent, poisoned memory on the port's side.
+//! The judge: every call of the port against the Rust of docs/src, bit for bit, with lent, poisoned memory on the port's side. Files, which the
+//! Rust has not, are held to document 02's words (formats.rs).
 //!
 //!   judge run SEED         every call on every input; the last line is 'N calls, 0 differences', or the exit is 1
 //!   judge run SEED CALL..  these calls alone
@@ -12,6 +13,7 @@ mod expected;
 #[path = "../../rust/src/ffi.rs"]
 #[rustfmt::skip]
 mod ffi;
+mod formats;
 mod inputs;
 mod lent;
 mod numbers;
@@ -98,7 +100,14 @@ pub const CALLS: &[Call] = &[
     call!(boundary_times, "rows length rate ms", [1, 3], all_row_times, 40_000),
     call!(patch_magnitudes, "magnitudes rows bins start new_rows flux threshold work", [1, 2, 3, 4], all_patches_of_magnitudes, 30_000),
     call!(patch_features, "features rows start new_rows similarity novelty", [1, 2, 3, 4], all_patches_of_features, 6_000),
+    call!(write_tempo_track, "beats rate file", [1, 3, 6, 7], all_tempo_tracks, 60_000),
+    call!(read_tempo_track, "file gaps", [3, 8], all_tempo_files, 60_000),
 ];
+
+/// The numbers that the calls give, in the order of the columns: 5 is the reporting program's.
+const NUMBERS: [usize; 8] = [0, 1, 2, 3, 4, 6, 7, 8];
+/// One more than the greatest.
+const SLOTS: usize = 9;
 
 /// The first difference between what must be and what is, in words.
 fn difference(must: &Expected, is: &Outcome) -> Option<String> {
@@ -165,9 +174,9 @@ fn judged(call: &Call, fields: &[Field]) -> Judged {
 
 #[derive(Default)]
 struct Tally {
-    numbers: [u64; 5],
+    numbers: [u64; SLOTS],
     // cases with each number of which NaNs showed that slots stay
-    shown: [u64; 5],
+    shown: [u64; SLOTS],
     // whether the call may write floats
     floats: bool,
     // answers that hold something: a tempo, a stability, a place in a bar, entries of a list, slots of a curve
@@ -226,7 +235,7 @@ impl Tally {
 fn judge(call: &Call, fields: &[Field], tally: &mut Tally) -> Outcome {
     lent::fill(tally.calls());
     let one = judged(call, fields);
-    let number = (one.must.number as usize).min(4);
+    let number = one.must.number as usize;
     tally.numbers[number] += one.calls;
     tally.shown[number] += u64::from(one.shown);
     tally.floats |= one.must.slots.iter().any(|s| s.floats.is_some());
@@ -371,14 +380,12 @@ const LEAST_OTHER_EACH: u64 = 5_000;
 fn run(seed: u64, only: &[&str]) -> bool {
     differences::tell();
     println!("seed {seed}, the library is version {} (ph_version)", port::version());
-    println!(
-        "{:24}{:>10}{:>10}{:>10}{:>8}{:>8}{:>8}{:>8}{:>13}",
-        "call", "calls", "answered", "not empty", "no. 1", "no. 2", "no. 3", "no. 4", "differences"
-    );
+    let columns: String = NUMBERS[1..].iter().map(|number| format!("{:>8}", format!("no. {number}"))).collect();
+    println!("{:24}{:>10}{:>10}{:>10}{columns}{:>13}", "call", "calls", "answered", "not empty", "differences");
     let (mut calls, mut open, mut other, mut differences, mut lacks) = (0, vec![], vec![], 0, vec![]);
     let mut line = |name: &str, t: Tally| {
-        let [a, b, c, d, e] = t.numbers;
-        println!("{name:24}{:>10}{a:>10}{:>10}{b:>8}{c:>8}{d:>8}{e:>8}{:>13}", t.calls(), t.full, t.differences);
+        let columns: String = NUMBERS[1..].iter().map(|&number| format!("{:>8}", t.numbers[number])).collect();
+        println!("{name:24}{:>10}{:>10}{:>10}{columns}{:>13}", t.calls(), t.numbers[0], t.full, t.differences);
         calls += t.calls();
         open.extend((t.open > 0).then(|| (name.to_string(), t.open)));
         other.extend((t.other_meters > 0).then(|| (name.to_string(), t.other_meters)));

@@ -526,3 +526,21 @@ pub fn patch_features(f: &[Field]) -> Outcome {
     let slots = [features.end(&mut harm), similarity.end(&mut harm), novelty.end(&mut harm)];
     ended(number, named.map(|n| n.end(&mut harm)).into(), slots, harm)
 }
+
+pub fn write_tempo_track(f: &[Field]) -> Outcome {
+    let beats = Lent::of(f[0].frames());
+    let (mut file, mut count) = (Lent::<u8>::room(f[2].size()), Number::<usize>::lent());
+    let number = unsafe { ph_write_tempo_track(beats.ptr(), beats.len(), f[1].small(), file.ptr_mut(), file.len(), count.ptr_mut()) };
+    let mut harm = false;
+    beats.same(f[0].frames(), &mut harm);
+    ended(number, vec![count.end(&mut harm)], [file.end(&mut harm)], harm)
+}
+
+pub fn read_tempo_track(f: &[Field]) -> Outcome {
+    let file = Lent::of(f[0].bytes());
+    let (mut gaps, mut count) = (Lent::<u32>::room(f[1].size()), Number::<usize>::lent());
+    let number = unsafe { ph_read_tempo_track(file.ptr(), file.len(), gaps.ptr_mut(), gaps.len(), count.ptr_mut()) };
+    let mut harm = false;
+    file.same(f[0].bytes(), &mut harm);
+    ended(number, vec![count.end(&mut harm)], [gaps.end(&mut harm)], harm)
+}

@@ -1,6 +1,7 @@
 //! Document 01's table of refusals, written down from the document alone: the number that each call must answer.
 //!
-//! "The lowest number that applies is given." A test is asked only where no lower number applies.
+//! "The lowest number that applies is given." A test is asked only where no lower number applies. Files have document 02's order.
+use crate::formats;
 
 pub const RATE: std::ops::RangeInclusive<u64> = 1..=192_000;
 pub const MOST_ROWS: usize = 1_048_576;
@@ -216,4 +217,25 @@ pub fn patch_features(features: &[f64], rows: u64, start: u64, new: &[f64], simi
     let short = || similarity.len() < n * BAND || novelty.len() < n;
     let wrong = || any(features, value) || any(new, value) || any(&similarity[..n * BAND], likeness) || any(&novelty[..n], value);
     lowest(rows > MOST_FEATURE_ROWS as u64 || start > rows, length, short, wrong)
+}
+
+// ---- document 02, No. 3: "6 for fewer than two beats or frames not strictly ascending, 7 for a gap above 16,777,215, 8 for a file of another
+// shape or a tempo of 0, in that order after 1, then 3 when the output doesn't fit". What is written has that shape, and frames are apart: no 8.
+
+pub fn write_tempo_track(beats: &[u32], rate: u64, file: usize) -> u32 {
+    if !RATE.contains(&rate) || beats.iter().any(|&t| t > MOST_FRAME) {
+        1
+    } else if beats.len() < 2 || beats.windows(2).any(|pair| pair[1] <= pair[0]) {
+        6
+    } else if formats::gaps(beats, rate).iter().any(|&gap| gap > formats::MOST_TEMPO) {
+        7
+    } else if file < formats::size(beats.len()) {
+        3
+    } else {
+        0
+    }
+}
+
+pub fn read_tempo_track(file: &[u8], gaps: usize) -> u32 {
+    formats::read(file).map_or(8, |read| if gaps < read.len() { 3 } else { 0 })
 }

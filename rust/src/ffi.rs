@@ -308,4 +308,19 @@ unsafe extern "C" {
         beat_count: *mut usize,
         downbeat_count: *mut usize,
     ) -> u32;
+    pub fn ph_write_tempo_track(
+        beats: *const u32,
+        beats_len: usize,
+        rate: u32,
+        file: *mut u8,
+        file_len: usize,
+        count: *mut usize,
+    ) -> u32;
+    pub fn ph_read_tempo_track(
+        file: *const u8,
+        file_len: usize,
+        gaps: *mut u32,
+        gaps_len: usize,
+        count: *mut usize,
+    ) -> u32;
 }

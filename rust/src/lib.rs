@@ -2,12 +2,13 @@
 //!
 //! Every call is a thin, safe door to a function that is proved to meet its contract for every input. All memory is lent: slices go in,
 //! answers come back by value, and outputs are slices of the caller's, whose size is a formula ([`rooms`]). Nothing is allocated but by
-//! making [`Buffers`], nothing is kept from call to call, and any number of threads may call at once.
+//! making [`Buffers`] and by [`write_tempo_track`] and [`read_tempo_track`], which answer what they made; nothing is kept from call to call, and
+//! any number of threads may call at once.
 //!
 //! A call takes up to 40 KB of its thread's stack on x86-64 (measured: 34,279 bytes in a whole track, on a stack filled with a pattern). A
 //! thread of 40 KB ran a whole track in a release build; without optimisation what stands around the call needs more, and 48 KB were enough.
 //!
-//! - A call answers, or is [`Refused`], for one of four reasons ([`Refusal`]), and then nothing that was lent has changed. The error says
+//! - A call answers, or is [`Refused`], for a numbered reason ([`Refusal`]), and then nothing that was lent has changed. The error says
 //!   which of all that was lent it was: `threshold: 4,095 slots lent, 4,096 needed`.
 //! - "No tempo" and "no stability" are answers: `Ok` of a `None`.
 //! - A call that lists answers how many entries it listed; they stand first in the slice, and the slots behind them are unchanged.
@@ -34,12 +35,13 @@
 //! ```
 //!
 //! It also hands out the curves of what it analysed, and mends them where rows are replaced ([`Buffers::patch_magnitudes`]); the new grid
-//! is then had without a full run ([`Buffers::analyse_patched`]).
+//! is then had without a full run ([`Buffers::analyse_patched`]). The beats go to a sequencer as a MIDI file ([`write_tempo_track`]).
 #![deny(missing_docs)]
 #![deny(unsafe_op_in_unsafe_fn)]
 
 mod beats;
 mod ffi;
+mod formats;
 pub mod limits;
 mod medians;
 mod onsets;
@@ -52,6 +54,7 @@ mod track;
 mod why;
 
 pub use beats::{bar_beat_at, beat_grid, downbeats, BarBeat};
+pub use formats::{read_tempo_track, read_tempo_track_into, write_tempo_track, write_tempo_track_into};
 pub use medians::{mad_of, median_of};
 pub use onsets::{adaptive_threshold, frame_times, pick_onsets, spectral_flux, suppress_close_peaks};
 pub use patches::{patch_features, patch_magnitudes, Patched, PatchedFeatures};

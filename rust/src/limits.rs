@@ -15,6 +15,8 @@ pub const MOST_FRAME: u32 = 1_048_575;
 pub const MOST_PERIOD: usize = 45_000;
 /// The most beats of a bar; the least is 1.
 pub const MOST_METER: usize = 16;
+/// The longest gap of a tempo track, in microseconds; the least is 1. A longer one is [`Refusal::GapTooLong`](crate::Refusal::GapTooLong).
+pub const MOST_TEMPO: u32 = 16_777_215;
 /// The most feature rows.
 pub const MOST_FEATURE_ROWS: usize = 50_000;
 /// The most samples that a feature row stands for, 2^31; the least is 1.

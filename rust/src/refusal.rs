@@ -3,7 +3,8 @@ use crate::why::{Detail, Why};
 use std::error::Error;
 use std::fmt;
 
-/// Why a call refused. A refusal changes nothing that was lent, and of the reasons that apply the lowest is given.
+/// Why a call refused. A refusal changes nothing that was lent. Of numbers 1 to 4 the lowest that applies is given; the calls of tempo tracks
+/// have an order of their own, which they say. Other calls may come with other numbers.
 ///
 /// A call's error is a [`Refused`], which holds one of these; `?` turns it into one where a function answers `Result<_, Refusal>`.
 ///
@@ -16,6 +17,7 @@ use std::fmt;
 /// ```
 #[derive(Clone, Copy, Debug, PartialEq, Eq, PartialOrd, Ord, Hash)]
 #[repr(u32)]
+#[non_exhaustive]
 pub enum Refusal {
     /// Number 1: a number is outside its bounds (see [`limits`](crate::limits)), a patch's start is above its row count, a median's
     /// list is empty, or a peak list doesn't ascend or points past its curve.
@@ -26,10 +28,16 @@ pub enum Refusal {
     TooLittleRoom = 3,
     /// Number 4: a value isn't finite, or is too large: magnitudes 2^126, envelopes, curves, medians and features 2^150, a similarity 1.
     WrongValue = 4,
+    /// Number 6: of a tempo track's beats there are fewer than two, or they don't ascend strictly. (5 is of the reporting program alone.)
+    WrongGrid = 6,
+    /// Number 7: from one beat to the next are more than 16,777,215 microseconds, which is the longest tempo of a track.
+    GapTooLong = 7,
+    /// Number 8: a file isn't of the one shape that [`write_tempo_track`](crate::write_tempo_track) writes, or has a tempo of 0.
+    OtherShape = 8,
 }
 
 impl Refusal {
-    /// The number of the refusal, 1 to 4.
+    /// The number of the refusal, 1 to 4 or 6 to 8.
     pub const fn number(self) -> u32 {
         self as u32
     }
@@ -50,6 +58,12 @@ impl Refusal {
             Refusal::WrongValue => {
                 "a value isn't finite or is too large: magnitudes up to 2^126, envelopes, curves, medians and features up to 2^150, \
                  similarities -1 to 1"
+            }
+            Refusal::WrongGrid => "a tempo track needs two beats at least, which ascend strictly",
+            Refusal::GapTooLong => "from one beat to the next are more than 16,777,215 microseconds, the longest tempo of a track",
+            Refusal::OtherShape => {
+                "the file isn't of the shape that write_tempo_track writes: format 0, one track of Set Tempo events, division 96; or it has a \
+                 tempo of 0"
             }
         }
     }
@@ -89,7 +103,7 @@ pub struct Refused {
 }
 
 impl Refused {
-    /// The number of the refusal, 1 to 4.
+    /// The number of the refusal, 1 to 4 or 6 to 8.
     pub const fn number(&self) -> u32 {
         self.refusal.number()
     }
@@ -98,7 +112,7 @@ impl Refused {
         Refused { refusal, call, detail }
     }
 
-    // 0 is an answer; the calls are proved to give no number above 4. What is lent is looked at only where the number refuses.
+    // 0 is an answer; the calls are proved to give no number but these. What is lent is looked at only where the number refuses.
     pub(crate) fn unless_answered(
         call: &'static str,
         number: u32,
@@ -110,6 +124,9 @@ impl Refused {
             2 => Refusal::WrongLength,
             3 => Refusal::TooLittleRoom,
             4 => Refusal::WrongValue,
+            6 => Refusal::WrongGrid,
+            7 => Refusal::GapTooLong,
+            8 => Refusal::OtherShape,
             _ => unreachable!("the library linked answers {number}, which is no number of refusal"),
         };
         Err(Refused { refusal, call, detail: explain(Why::of(refusal)).found() })

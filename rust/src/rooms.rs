@@ -63,6 +63,16 @@ pub const fn entries(count: usize) -> usize {
     count
 }
 
+/// Bytes of the tempo track of so many beats: 26, and 7 for each gap.
+pub const fn tempo_track(beats: usize) -> usize {
+    beats.saturating_sub(1).saturating_mul(7).saturating_add(26)
+}
+
+/// Slots of `gaps` for a tempo track of so many bytes: one for each gap.
+pub const fn tempo_gaps(bytes: usize) -> usize {
+    bytes.saturating_sub(26) / 7
+}
+
 /// The room of one whole analysis, as three numbers.
 #[derive(Clone, Copy, Debug, PartialEq, Eq)]
 pub struct Track {

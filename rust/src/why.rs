@@ -42,6 +42,41 @@ pub enum Detail {
         is: u32,
         before: u32,
     },
+    /// A list of fewer beats than a tempo track has.
+    TooFew {
+        slice: &'static str,
+        lent: usize,
+    },
+    /// A beat that isn't after the one before it.
+    Unordered {
+        slice: &'static str,
+        at: usize,
+        is: u32,
+        before: u32,
+    },
+    /// A beat that comes too long after the one before it, in microseconds.
+    Late {
+        slice: &'static str,
+        at: usize,
+        gap: u64,
+    },
+    /// A file of no tempo track's length.
+    Bytes {
+        slice: &'static str,
+        lent: usize,
+    },
+    /// A byte of a file that is another in every tempo track of its length.
+    Byte {
+        slice: &'static str,
+        at: usize,
+        is: u8,
+        needed: u8,
+    },
+    /// A tempo of 0.
+    NoTempo {
+        slice: &'static str,
+        event: usize,
+    },
     /// A list of peaks that points past its curve.
     Past {
         slice: &'static str,
@@ -194,6 +229,44 @@ impl Why {
         })
     }
 
+    // ---- numbers 6, 7 and 8
+
+    pub fn grid(self, slice: &'static str, beats: &[u32]) -> Why {
+        self.or(Refusal::WrongGrid, || {
+            if beats.len() < 2 {
+                return Some(Detail::TooFew { slice, lent: beats.len() });
+            }
+            let at = 1 + beats.windows(2).position(|pair| pair[1] <= pair[0])?;
+            Some(Detail::Unordered { slice, at, is: beats[at], before: beats[at - 1] })
+        })
+    }
+
+    pub fn gaps(self, slice: &'static str, beats: &[u32], rate: u32) -> Why {
+        self.or(Refusal::GapTooLong, || {
+            let rate = u64::from(rate).max(1);
+            // half up, as the call has it
+            let time = |beat: u32| ((256 * u64::from(beat) + 512) * 2_000_000 + rate) / (2 * rate);
+            let gap = |pair: &[u32]| time(pair[1]).saturating_sub(time(pair[0]));
+            let at = 1 + beats.windows(2).position(|pair| gap(pair) > limits::MOST_TEMPO.into())?;
+            Some(Detail::Late { slice, at, gap: gap(&beats[at - 1..=at]) })
+        })
+    }
+
+    pub fn tempo_track(self, slice: &'static str, file: &[u8]) -> Why {
+        self.or(Refusal::OtherShape, || {
+            let (bytes, count) = (file.len(), rooms::tempo_gaps(file.len()));
+            if count == 0 || bytes != 26 + 7 * count {
+                return Some(Detail::Bytes { slice, lent: bytes });
+            }
+            let unlike = |&at: &usize| shape(at, bytes).is_some_and(|needed| needed != file[at]);
+            if let Some(at) = (0..bytes).find(unlike) {
+                return Some(Detail::Byte { slice, at, is: file[at], needed: shape(at, bytes)? });
+            }
+            let event = (0..count).find(|k| file[26 + 7 * k..][..3] == [0; 3])?;
+            Some(Detail::NoTempo { slice, event })
+        })
+    }
+
     // ---- numbers 1 and 2
 
     pub fn magnitude_rows(self, slice: &'static str, lent: usize, rows: usize, bins: usize) -> Why {
@@ -281,6 +354,19 @@ impl Why {
     }
 }
 
+// the byte that each tempo track of so many bytes has in this place; none where it is one of a tempo
+fn shape(at: usize, bytes: usize) -> Option<u8> {
+    const FRONT: [u8; 18] = *b"MThd\0\0\0\x06\0\0\0\x01\0\x60MTrk";
+    const END: [u8; 4] = [96, 255, 47, 0];
+    match at {
+        0..=17 => Some(FRONT[at]),
+        18..=21 => u32::try_from(bytes - 22).ok().map(|length| length.to_be_bytes()[at - 18]),
+        _ if at >= bytes - 4 => Some(END[at + 4 - bytes]),
+        22 => Some(0),
+        _ => [Some(96), Some(255), Some(81), Some(3), None, None, None][(at - 22) % 7],
+    }
+}
+
 /// A count with a comma at each thousand.
 struct Count(u64);
 
@@ -334,6 +420,20 @@ impl fmt::Display for Detail {
                 let (is, before) = (Count(is.into()), Count(before.into()));
                 write!(f, "{slice}[{at}] is {is} and the one before it {before}: a list of peaks ascends")
             }
+            Detail::TooFew { slice, lent } => write!(f, "{slice}: {} lent, at least two needed", Many(lent, "beat")),
+            Detail::Unordered { slice, at, is, before } => {
+                let (is, before) = (Count(is.into()), Count(before.into()));
+                write!(f, "{slice}[{at}] is {is} and the one before it {before}: beats ascend")
+            }
+            Detail::Late { slice, at, gap } => {
+                let most = Count(limits::MOST_TEMPO.into());
+                write!(f, "{slice}[{at}] is {} microseconds after the one before it, at most {most}", Count(gap))
+            }
+            Detail::Bytes { slice, lent } => {
+                write!(f, "{slice}: {} lent, 26 and 7 for each gap needed, one at least", Many(lent, "byte"))
+            }
+            Detail::Byte { slice, at, is, needed } => write!(f, "{slice}[{at}] is {is}, {needed} needed"),
+            Detail::NoTempo { slice, event } => write!(f, "{slice}: tempo {} of it is 0", count(event + 1)),
             Detail::Past { slice, at, is, curve } => {
                 write!(f, "{slice}[{at}] is {}, past its curve of {}", Count(is.into()), Many(curve, "slot"))
             }

@@ -382,6 +382,9 @@ fn a_refusal_explains_itself() {
         (WrongLength, 2, "rows times"),
         (TooLittleRoom, 3, "rooms"),
         (WrongValue, 4, "finite"),
+        (WrongGrid, 6, "ascend"),
+        (GapTooLong, 7, "16,777,215"),
+        (OtherShape, 8, "write_tempo_track"),
     ] {
         assert_eq!(refusal.number(), number);
         let said = refusal.to_string();
@@ -403,7 +406,7 @@ fn a_refusal_explains_itself() {
     assert_eq!(format!("{:?}", lag_range(0, OPTS)), "Err(Refused(lag_range refused with 1: rate 0, 1 to 192,000))");
 }
 
-// the README shows five
+// the README shows seven
 #[test]
 fn as_the_readme_says() {
     let mut nan = [0.0; 18];
@@ -412,6 +415,8 @@ fn as_the_readme_says() {
         adaptive_threshold(&[0.0; 4_096], &mut [0.0; 4_095], &mut [0.0; 21]).unwrap_err(),
         Buffers::for_tracks(1, 1, OPTS).unwrap().analyse_envelope(&[0.0], 0, OPTS).unwrap_err(),
         downbeats(&[0.0], &[0], OPTS.with_meter(17), &mut [0]).unwrap_err(),
+        write_tempo_track(&[94, 94], 48_000).unwrap_err(),
+        read_tempo_track(&[b"RIFF".as_slice(), &[0; 29]].concat()).unwrap_err(),
         spectral_flux(&[0.0; 7], 4, 2, &mut [0.0; 4]).unwrap_err(),
         pick_onsets(&nan, &[0.0; 18], 48_000, &mut [0; 18]).unwrap_err(),
     ] {

@@ -505,6 +505,69 @@ static void feature_patches(struct run *run)
     CHECK(same(fresh_similarity, similarity, sizeof similarity) && same(fresh_novelty, novelty, sizeof novelty));
 }
 
+/* a tempo track, its bytes made by hand from the standard */
+static void files(struct run *run)
+{
+    static const uint8_t track[47] = {
+        'M', 'T', 'h', 'd', 0, 0, 0, 6, 0, 0, 0, 1, 0, 96, 'M', 'T', 'r', 'k', 0, 0, 0, 25,
+        0, 0xFF, 0x51, 3, 0x07, 0xA6, 0x55, 96, 0xFF, 0x51, 3, 0x07, 0xA6, 0x55, 96, 0xFF, 0x51, 3, 0x07, 0xA6, 0x56, 96, 0xFF, 0x2F, 0,
+    };
+    const uint32_t grid[4] = {0, 94, 188, 282}, equal[2] = {94, 94}, back[2] = {94, 0}, past[3] = {5, 5, PROHUNSEV_MOST_FRAME + 1};
+    const uint32_t longest[2] = {1, 1736}, longer[2] = {3, 1738}, halves[4] = {0, 1, 2, 3};
+    uint8_t file[50], other[48];
+    uint32_t gaps[5];
+    size_t count = POISON_SIZE;
+
+    /* 1, 6, 7 and then 3, and nothing is written */
+    memset(file, 0xA5, sizeof file);
+    CHECK(ph_write_tempo_track(past, 3, 0, file, 0, &count) == PROHUNSEV_OUT_OF_BOUNDS);
+    CHECK(ph_write_tempo_track(past, 3, 48000, file, 50, &count) == PROHUNSEV_OUT_OF_BOUNDS); /* before 6 */
+    CHECK(ph_write_tempo_track(grid, 4, PROHUNSEV_MOST_RATE + 1, file, 50, &count) == PROHUNSEV_OUT_OF_BOUNDS);
+    CHECK(ph_write_tempo_track(grid, 0, 48000, file, 50, &count) == PROHUNSEV_WRONG_GRID);
+    CHECK(ph_write_tempo_track(grid, 1, 48000, file, 50, &count) == PROHUNSEV_WRONG_GRID);
+    CHECK(ph_write_tempo_track(equal, 2, 48000, file, 50, &count) == PROHUNSEV_WRONG_GRID);
+    CHECK(ph_write_tempo_track(back, 2, 1, file, 0, &count) == PROHUNSEV_WRONG_GRID); /* before 3 */
+    CHECK(ph_write_tempo_track(grid, 4, 1, file, 0, &count) == PROHUNSEV_GAP_TOO_LONG); /* before 3 */
+    CHECK(ph_write_tempo_track(longer, 2, 26474, file, 50, &count) == PROHUNSEV_GAP_TOO_LONG);
+    CHECK(ph_write_tempo_track(grid, 4, 48000, file, 46, &count) == PROHUNSEV_TOO_LITTLE_ROOM);
+    CHECK(count == POISON_SIZE);
+    for (size_t i = 0; i < sizeof file; i++)
+        CHECK(file[i] == 0xA5);
+
+    CHECK(ph_write_tempo_track(grid, 4, 48000, file, 50, &count) == 0);
+    CHECK(count == 47 && same(file, track, 47) && file[47] == 0xA5 && file[49] == 0xA5);
+    /* as many frames as above, and one microsecond fewer: the roundings fall otherwise */
+    CHECK(ph_write_tempo_track(longest, 2, 26474, file, 50, &count) == 0);
+    CHECK(count == 33 && file[26] == 0xFF && file[27] == 0xFF && file[28] == 0xFF);
+
+    poison_frames(gaps, 5);
+    count = POISON_SIZE;
+    CHECK(ph_read_tempo_track(track, 47, gaps, 2, &count) == PROHUNSEV_TOO_LITTLE_ROOM);
+    CHECK(ph_read_tempo_track(track, 46, gaps, 0, &count) == PROHUNSEV_OTHER_SHAPE); /* before 3 */
+    CHECK(ph_read_tempo_track(track, 0, gaps, 5, &count) == PROHUNSEV_OTHER_SHAPE);
+    for (size_t i = 0; i < 47; i++) { /* no byte but those of a tempo may be another; a tempo of 0 may not be */
+        int in_a_tempo = i >= 26 && i < 43 && (i - 22) % 7 >= 4;
+        memcpy(other, track, 47);
+        other[i] ^= 0x10;
+        CHECK(in_a_tempo || ph_read_tempo_track(other, 47, gaps, 5, &count) == PROHUNSEV_OTHER_SHAPE);
+    }
+    memcpy(other, track, 47);
+    other[47] = 0;
+    CHECK(ph_read_tempo_track(other, 48, gaps, 5, &count) == PROHUNSEV_OTHER_SHAPE);
+    memset(other + 33, 0, 3);
+    CHECK(ph_read_tempo_track(other, 47, gaps, 5, &count) == PROHUNSEV_OTHER_SHAPE);
+    CHECK(count == POISON_SIZE && kept_frames(gaps, 0, 5));
+    CHECK(ph_read_tempo_track(track, 47, gaps, 5, &count) == 0);
+    CHECK(count == 3 && gaps[0] == 501333 && gaps[1] == 501333 && gaps[2] == 501334 && kept_frames(gaps, 3, 5));
+
+    /* times end in halves, which are rounded up */
+    CHECK(ph_write_tempo_track(halves, 4, 32768, file, 50, &count) == 0);
+    CHECK(ph_read_tempo_track(file, count, gaps, 5, &count) == 0);
+    CHECK(count == 3 && gaps[0] == 7813 && gaps[1] == 7812 && gaps[2] == 7813);
+    CHECK(ph_read_tempo_track(file, 33, gaps, 5, &count) == PROHUNSEV_OTHER_SHAPE);
+    CHECK(PROHUNSEV_MOST_TEMPO == 0xFFFFFF);
+}
+
 /* what a whole analysis is lent, with room to spare behind each slice */
 enum { TRACK = 600, TRACK_LAGS = 181, SPARE = 3 };
 
@@ -641,6 +704,7 @@ static void *all(void *given)
         sections(run);
         row_patches(run);
         feature_patches(run);
+        files(run);
         whole_tracks(run);
     }
     return NULL;

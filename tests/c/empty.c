@@ -17,6 +17,7 @@ static struct {
     double a[SLOTS], b[SLOTS], c[SLOTS], d[SLOTS], e[SLOTS], f[SLOTS], g[SLOTS], work[SLOTS], reals[3], saliences[3];
     uint32_t p[SLOTS], q[SLOTS], r[SLOTS], s[SLOTS], small[2];
     size_t sizes[8], lags[3];
+    uint8_t bytes[512], track[33];
 } lent;
 
 /* where an empty slice points, and which slices are empty, a bit for each */
@@ -34,6 +35,7 @@ static void reset(void)
     }
     for (size_t k = 0; k < N; k++)
         lent.magnitudes[k * BINS] = k % 8 == 3 ? 1.0f : 0.0f;
+    memcpy(lent.track, "MThd\0\0\0\6\0\0\0\1\0\140MTrk\0\0\0\13\0\377\121\3\0\0\1\140\377\57\0", sizeof lent.track);
 }
 
 static uint32_t version(void) { return ph_version(); }
@@ -99,6 +101,9 @@ static uint32_t analyse_magnitudes(void)
                                  lent.reals + 2, lent.sizes + 2, lent.sizes + 3, lent.sizes + 4, lent.sizes + 5);
 }
 
+static uint32_t write_tempo_track(void) { return ph_write_tempo_track(S(0, lent.p, N), RATE, S(1, lent.bytes, 26 + 7 * (N - 1)), lent.sizes); }
+static uint32_t read_tempo_track(void) { return ph_read_tempo_track(S(0, lent.track, sizeof lent.track), S(1, lent.q, N), lent.sizes); }
+
 /* a function, how many slices it takes, and what it returns with all of them empty: room for the lags is asked of no rows too */
 static const struct {
     const char *name;
@@ -113,6 +118,7 @@ static const struct {
     {"bar_beat_at", bar_beat_at, 2, 0}, {"similarity", similarity, 2, 0}, {"novelty", novelty, 2, 0}, {"boundaries", boundaries, 3, 0},
     {"boundary_times", boundary_times, 2, 0}, {"patch_magnitudes", patch_magnitudes, 5, 0}, {"patch_features", patch_features, 4, 0},
     {"room_of", room_of, 0, 0}, {"analyse_envelope", analyse_envelope, 12, 3}, {"analyse_magnitudes", analyse_magnitudes, 13, 3},
+    {"write_tempo_track", write_tempo_track, 2, 6}, {"read_tempo_track", read_tempo_track, 2, 8},
 };
 
 int main(void)

@@ -12,3 +12,4 @@ pub mod grids; // grids.rt: beats, downbeats, bars
 pub mod forms; // forms.rt: similarity, novelty, sections
 pub mod repairs; // repairs.rt: patches
 pub mod tracks; // tracks.rt: one whole track in one call
+pub mod formats; // formats.rt: files
