@@ -1082,7 +1082,7 @@ def write_tempo_track_into(beats: Lent, rate: int, file: Lent) -> int:
     return _listed("write_tempo_track_into", _frames("beats", beats), _small("rate", rate), _bytes_out("file", file), of="write_tempo_track")
 
 
-def read_tempo_track(file: Lent) -> "array.array[int]":
+def read_tempo_track(file: Lent) -> array.array:
     """The gaps of a tempo track that write_tempo_track wrote, in microseconds, as uint32 values: 60,000,000 / gap are beats a minute.
 
     It takes exactly that shape: a file that is read is, byte for byte, the file written for beats that are these gaps apart, where there are

@@ -1556,11 +1556,26 @@ class Arrays(unittest.TestCase):
         self.assertTrue(said.startswith("Tempo(bpm=119.68"), said)
         self.assertTrue(f"`{said}`" in text, "README.md says something else than " + said)
 
-    def said(self, text, command, folder):
-        """What the Python example of a text prints, run by this command, with the Python that runs this."""
+    @unittest.skipUnless(ROOT.is_file(), "the project's README is not above this folder")
+    def test_readme_of_a_file(self):
+        """The lines that make a MIDI file, after those of the example before them."""
+        text = self.ROOT.read_text()
+        here = pathlib.Path(__file__).resolve().parent
+        with tempfile.TemporaryDirectory() as made:
+            said = self.said(text, f"PYTHONPATH={shlex.quote(str(here))} python3 FILE", made, 2).splitlines()
+            self.assertEqual(len(said), 2)
+            self.assertTrue(f"it prints `{said[1]}`" in text, "README.md says something else than " + said[1])
+            file = (pathlib.Path(made) / "track.mid").read_bytes()
+        self.assertEqual(said[1], f"{len(file)} {list(ph.read_tempo_track(file)[:3])}")
+        # four lines, and what they need
+        example = text.split("```python\n")[2].split("```")[0].splitlines()
+        self.assertEqual((len(example), example[0]), (5, "import pathlib"))
+
+    def said(self, text, command, folder, examples=1):
+        """What the first Python examples of a text print, run by this command, with the Python that runs this."""
         with tempfile.TemporaryDirectory() as made:
             file = pathlib.Path(made) / "example.py"
-            file.write_text(text.split("```python\n")[1].split("```")[0])
+            file.write_text("".join(part.split("```")[0] for part in text.split("```python\n")[1:1 + examples]))
             self.assertEqual((command.count("python3 "), command.count("FILE")), (1, 1))
             command = command.replace("python3 ", shlex.quote(sys.executable) + " ").replace("FILE", shlex.quote(str(file)))
             ran = subprocess.run(command, shell=True, cwd=folder, capture_output=True, text=True)

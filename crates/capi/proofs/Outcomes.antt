@@ -35,7 +35,7 @@ pub handed-unique : {A : Type 0} {number : ℕ} {parts lent₀ : A} {a b : ℕ} 
     → Handed number parts lent₀ a x → Handed number parts lent₀ b y → (a ≡ b) × (x ≡ y)
 handed-unique p q = (p .number-is ∙ sym (q .number-is), p .parts-are ∙ sym (q .parts-are))
 
--- `ph_pick_onsets`, `ph_suppress_close_peaks`, `ph_downbeats`
+-- `ph_pick_onsets`, `ph_suppress_close_peaks`, `ph_downbeats`, `ph_write_tempo_track`, `ph_read_tempo_track`
 pub listed-unique : {number : ℕ} {entries was : List ℕ} {count₀ a b : ℕ} {x y : List ℕ} {m n : ℕ}
     → ListHanded number entries was count₀ a x m → ListHanded number entries was count₀ b y n → ((a ≡ b) × (m ≡ n)) × (x ≡ y)
 listed-unique p q = (handed-unique (p .handed) (q .handed), p .frames-are ∙ sym (q .frames-are))

@@ -1,4 +1,4 @@
--- The C interface to the calls that list frames.
+-- The C interface to the calls that list frames, write the bytes of a file or list its gaps.
 use Prim.Native.Nat.{ℕ}
 use mathlib.Core.Path.{_≡_}
 use mathlib.Core.List.{List}
@@ -10,6 +10,10 @@ use Rattle.onsets.specs.Peaks.{suppressed, suppressionRefusal}
 use Rattle.onsets.specs.Onsets.{onsetsOf, onsetsRefusal}
 use Rattle.options.specs.Options.{defaultOptions, withMeter}
 use Rattle.bars.specs.Downbeats.{downbeatRefusal, downbeatsOf}
+use Rattle.midi_gaps.specs.Gaps.{gapsOf}
+use Rattle.midi_events.specs.File.{fileOf}
+use Rattle.midi_events.specs.Shapes.{gapsIn}
+use Rattle.midi.specs.Tracks.{writeRefusal, readRefusal}
 use Rattle.capi_answers.specs.Handed.{Handed}
 
 -- Of the entries that the proved call lists: the lent count is how many they are, and the lent list, which was `was`, has them first, as that call
@@ -30,3 +34,11 @@ PhSuppressionPromise peaks curve gap was = ListHanded (suppressionRefusal peaks 
 abbrev pub PhDownbeatsPromise : (envelope : List Float) (beats : List ℕ) (meter : ℕ) (was : List ℕ) (count₀ answer : ℕ) (after : List ℕ) (count : ℕ) → Type 0
 PhDownbeatsPromise envelope beats meter was =
     ListHanded (downbeatRefusal envelope beats (withMeter meter defaultOptions) (length was)) (downbeatsOf envelope beats meter) was
+
+-- what `ph_write_tempo_track` promises: the entries are the bytes of the file
+abbrev pub PhTempoTrackPromise : (beats : List ℕ) (rate : ℕ) (was : List ℕ) (count₀ answer : ℕ) (after : List ℕ) (count : ℕ) → Type 0
+PhTempoTrackPromise beats rate was = ListHanded (writeRefusal beats rate (length was)) (fileOf (gapsOf rate beats)) was
+
+-- what `ph_read_tempo_track` promises: the entries are the gaps, in microseconds
+abbrev pub PhTempoGapsPromise : (file was : List ℕ) (count₀ answer : ℕ) (after : List ℕ) (count : ℕ) → Type 0
+PhTempoGapsPromise file was = ListHanded (readRefusal file (length was)) (gapsIn file) was

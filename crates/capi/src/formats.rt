@@ -1,6 +1,6 @@
 // `write_tempo_track` and `read_tempo_track`, for C.
 use capi_answers::counts::counted;
-ghost use Rattle.capi.specs.Formats.{PhTempoTrackPromise, PhTempoGapsPromise};
+ghost use Rattle.capi.specs.Lists.{PhTempoTrackPromise, PhTempoGapsPromise};
 
 // `midi::write_tempo_track`, for C.
 #[no_mangle]

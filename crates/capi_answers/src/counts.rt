@@ -1,4 +1,4 @@
-// A listing, handed over: an answer of `pick_onsets`, `suppress_close_peaks`, `beat_grid` or `downbeats`.
+// A listing, handed over: an answer of `pick_onsets`, `suppress_close_peaks`, `beat_grid`, `downbeats`, `write_tempo_track` or `read_tempo_track`.
 use numbers::Listing;
 ghost use Rattle.capi_answers.specs.Handed.{Handed};
 
