@@ -4,12 +4,13 @@
     python3 examples/tag.py SONG.wav
     python3 examples/tag.py SONG.wav --json song.json --labels song.txt --midi song.mid --picture song.svg
 
-Says a few lines on standard output, and writes the files that are asked for: JSON, labels that Audacity imports, a MIDI file of the tempo from beat
-to beat, a picture. WAV of 8, 16, 24 or 32 bits, or float, is read here; any other file by ffmpeg or sox, where one is on the path. Needs Python 3.8 or newer, NumPy, and
-the library, as python/prohunsev.py finds it. docs/USE.md says what the answers mean, and how far to trust them.
+Says a few lines on standard output, and writes the files that are asked for: JSON, labels that Audacity imports, a MIDI file of the tempo
+from beat to beat, a picture. WAV of 8, 16, 24 or 32 bits, or float, is read here; any other file by ffmpeg or sox, where one is on the path.
+Needs Python 3.8 or newer, NumPy, and the library, as python/prohunsev.py finds it. docs/USE.md says what the answers mean, and how far to
+trust them.
 
 What is proved begins at the magnitudes: flux, threshold, onsets, tempo, stability, beats, downbeats, times, similarity, novelty and
-boundaries are calls of the library. Reading the file, the two transforms and the feature rows are NumPy's and are not proved.
+boundaries are calls of the library, and so is the MIDI file's. Reading the file, the two transforms and the feature rows are NumPy's and are not proved.
 
 The exit is 0 with an answer ("no tempo" is one), 1 where the song can't be read or analysed or a file can't be written, 2 for wrong use,
 130 when interrupted. A file that is asked for is written whole or not at all."""

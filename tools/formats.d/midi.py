@@ -120,7 +120,8 @@ for number in range(count):
     differs(f"{where}: midicsv", told == as_midicsv(ours), told and told[0], told and told[1][:9])
     told = by_mido(file)
     differs(f"{where}: mido", told == as_mido(ours), told[:2], told[2][:1])
-    seconds, lasts = mido.MidiFile(file=io.BytesIO(file)).length, (reference.time_of(beats[-1], rate) - reference.time_of(beats[0], rate)) / 1e6
+    seconds = mido.MidiFile(file=io.BytesIO(file)).length
+    lasts = (reference.time_of(beats[-1], rate) - reference.time_of(beats[0], rate)) / 1e6
     differs(f"{where}: its length", abs(seconds - lasts) < 1e-6 * max(1, lasts), seconds, lasts)
     # the same tempos, written by them
     differs(f"{where}: csvmidi's file", by_csvmidi(as_midicsv(gaps)) == file)
@@ -201,8 +202,8 @@ def written(beats, rate, space):
     global calls
     calls += 1
     number, file = reference.write(beats, rate, space)
-    lent, before = bytearray(r.randbytes(space)), None
-    before = bytes(lent)
+    before = r.randbytes(space)
+    lent = bytearray(before)
     try:
         is_ = 0, ph.write_tempo_track_into(frames(beats), rate, lent)
     except ph.Refused as error:
@@ -229,8 +230,8 @@ def about(need):
 
 most = reference.MOST_FRAME
 for rate in (0, 1, 2, 7, 15_625, 44_100, 48_000, 191_999, 192_000, 192_001, 2 ** 32 - 1):
-    for beats in ([], [0], [most], [most + 1], [0, 0], [1, 0], [0, 1], [0, most], [0, most + 1], [0, 1, 1], [0, 2, 1], [most, 0, most + 1], [0, 2 ** 32 - 1],
-                  [0, 1_023, 2_047], [0, 1_024], [5, 6, 7, 2_000], [most - 1, most]):
+    for beats in ([], [0], [most], [most + 1], [0, 0], [1, 0], [0, 1], [0, most], [0, most + 1], [0, 1, 1], [0, 2, 1], [most, 0, most + 1],
+                  [0, 2 ** 32 - 1], [0, 1_023, 2_047], [0, 1_024], [5, 6, 7, 2_000], [most - 1, most]):
         for space in (0, 26 + 7 * max(0, len(beats) - 1) - 1, 26 + 7 * max(0, len(beats) - 1), 60):
             written(beats, rate, space)
 # gaps of exactly 16,777,215 and of one more: 1,024 frames at 15,625 are 16,777,216 microseconds
@@ -270,7 +271,8 @@ for _ in range(4 * count):
         file = file or bytearray(1)
     taken(bytes(file), about(len(gaps)))
 
-print(f"formats: {count} grids of {tempos} tempos, read by midicsv and by mido {mido.__version__ if hasattr(mido, '__version__') else ''}; of"
+version = ".".join(map(str, mido.version_info[:3])) if hasattr(mido, "version_info") else ""
+print(f"formats: {count} grids of {tempos} tempos, read by midicsv and by mido {version}; of"
       f" {read + refused} files that they wrote otherwise {read} read and {refused} refused with 8; gaps at the bound {edges}")
 print(f"{files} files, {calls} calls, {len(wrong)} differences")
 sys.exit(1 if wrong else 0)
