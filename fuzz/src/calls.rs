@@ -1061,7 +1061,8 @@ fn track_of(gaps: &[u32]) -> Vec<u8> {
 mod tempo_tracks {
     use super::*;
     pub fn draw(r: &mut Numbers) -> Vec<Arg> {
-        let (rate, count) = (rate(r), length(r).min(300));
+        // at 32,768 times end in halves
+        let (rate, count) = (if r.once_in(8) { 32_768 } else { rate(r) }, length(r).min(300));
         // the longest gap is 1,024 frames at 15,625: most lists keep below it
         let longest = (rate.clamp(1, MOST_RATE) as usize * 1_024 / 15_625).max(1);
         let step = if r.once_in(8) { longest + 2 } else { longest.min(200) };

@@ -733,8 +733,8 @@ pub fn all_tempo_tracks(each: &mut dyn FnMut(Fields)) {
             }
         });
     }
-    // halves, and gaps that are not whole
-    for rate in (1..=192_000).step_by(7) {
+    // gaps that are not whole, and at the first three of these rates times that end in halves
+    for rate in [32_768, 65_536, 98_304].into_iter().chain((1..=192_000).step_by(7)) {
         each(vec![Frames(vec![0, 1, 2, 3, 5, 8, 100, 101, 500]), Whole(rate), size(formats::size(9))]);
     }
     // 1,024 frames in 15,625 are 16,777,216 microseconds: the rates at which as many frames come within some microseconds of that

@@ -90,7 +90,8 @@ def end(time):
 
 def grid():
     """A grid that has a track: a beat that drifts and trembles, steps of any size, or the longest that there are."""
-    rate = r.choice([8_000, 11_025, 16_000, 22_050, 44_100, 48_000, 88_200, 96_000, 192_000, r.randint(1_000, 192_000)])
+    # at 32,768 and 65,536 times end in halves
+    rate = r.choice([8_000, 11_025, 16_000, 22_050, 32_768, 44_100, 48_000, 65_536, 88_200, 96_000, 192_000, r.randint(1_000, 192_000)])
     longest = max(1, rate * 1_024 // 15_625 - 1)
     kind, beats, at = r.randrange(4), [], r.choice([0, 1, r.randrange(2_000), r.randrange(900_000)])
     period = min(longest, rate / 256 * 60 / r.uniform(30, 300))
@@ -229,7 +230,7 @@ def about(need):
 
 
 most = reference.MOST_FRAME
-for rate in (0, 1, 2, 7, 15_625, 44_100, 48_000, 191_999, 192_000, 192_001, 2 ** 32 - 1):
+for rate in (0, 1, 2, 7, 15_625, 32_768, 44_100, 48_000, 191_999, 192_000, 192_001, 2 ** 32 - 1):
     for beats in ([], [0], [most], [most + 1], [0, 0], [1, 0], [0, 1], [0, most], [0, most + 1], [0, 1, 1], [0, 2, 1], [most, 0, most + 1],
                   [0, 2 ** 32 - 1], [0, 1_023, 2_047], [0, 1_024], [5, 6, 7, 2_000], [most - 1, most]):
         for space in (0, 26 + 7 * max(0, len(beats) - 1) - 1, 26 + 7 * max(0, len(beats) - 1), 60):
