@@ -512,7 +512,8 @@ class Refusals(unittest.TestCase):
         self.refuses(1, "beats[2] is 1,048,576, at most 1,048,575", write, frames(5, 5, 1_048_576), 1)
         self.refuses(6, "beats: 0 beats lent, at least two needed", write, frames(), RATE)
         self.refuses(6, "beats: 1 beat lent, at least two needed", write, frames(1_048_575), RATE)
-        self.refuses(6, "beats[2] is 7 and the one before it 7: beats ascend", write, frames(0, 7, 7, 6), 1)
+        self.refuses(6, "beats[2] is 7 and the one before it 7: beats ascend", write, frames(0, 7, 7), 1)
+        self.refuses(6, "beats[1] is 6 and the one before it 7: beats ascend", write, frames(7, 6), RATE)
         late = "beats[%d] is %s microseconds after the one before it, at most 16,777,215"
         self.refuses(7, late % (2, "16,777,216"), write, frames(1, 3, 1_738), 26_474)
         # room comes last

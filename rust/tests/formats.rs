@@ -97,7 +97,8 @@ fn refusals_of_the_writer() {
     refuses!(OutOfBounds, "beats[2] is 1,048,576, at most 1,048,575", write_tempo_track(&[5, 5, 1_048_576], 1));
     refuses!(WrongGrid, "beats: 0 beats lent, at least two needed", write_tempo_track(&[], 48_000));
     refuses!(WrongGrid, "beats: 1 beat lent, at least two needed", write_tempo_track(&[1_048_575], 48_000));
-    refuses!(WrongGrid, "beats[2] is 7 and the one before it 7: beats ascend", write_tempo_track(&[0, 7, 7, 6], 1));
+    refuses!(WrongGrid, "beats[2] is 7 and the one before it 7: beats ascend", write_tempo_track(&[0, 7, 7], 1));
+    refuses!(WrongGrid, "beats[1] is 6 and the one before it 7: beats ascend", write_tempo_track(&[7, 6], 48_000));
     let words = "beats[2] is 16,777,216 microseconds after the one before it, at most 16,777,215";
     let refused = write_tempo_track(&[1, 3, 1_738], 26_474).unwrap_err();
     assert_eq!(refused.to_string(), format!("write_tempo_track refused with 7: {words}"));

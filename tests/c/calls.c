@@ -512,7 +512,7 @@ static void files(struct run *run)
         'M', 'T', 'h', 'd', 0, 0, 0, 6, 0, 0, 0, 1, 0, 96, 'M', 'T', 'r', 'k', 0, 0, 0, 25,
         0, 0xFF, 0x51, 3, 0x07, 0xA6, 0x55, 96, 0xFF, 0x51, 3, 0x07, 0xA6, 0x55, 96, 0xFF, 0x51, 3, 0x07, 0xA6, 0x56, 96, 0xFF, 0x2F, 0,
     };
-    const uint32_t grid[4] = {0, 94, 188, 282}, equal[2] = {94, 94}, back[2] = {94, 0}, past[3] = {5, 5, PROHUNSEV_MOST_FRAME + 1};
+    const uint32_t grid[4] = {0, 94, 188, 282}, equal[3] = {0, 94, 94}, back[2] = {94, 0}, past[3] = {5, 5, PROHUNSEV_MOST_FRAME + 1};
     const uint32_t longest[2] = {1, 1736}, longer[2] = {3, 1738}, halves[4] = {0, 1, 2, 3};
     uint8_t file[50], other[48];
     uint32_t gaps[5];
@@ -525,7 +525,8 @@ static void files(struct run *run)
     CHECK(ph_write_tempo_track(grid, 4, PROHUNSEV_MOST_RATE + 1, file, 50, &count) == PROHUNSEV_OUT_OF_BOUNDS);
     CHECK(ph_write_tempo_track(grid, 0, 48000, file, 50, &count) == PROHUNSEV_WRONG_GRID);
     CHECK(ph_write_tempo_track(grid, 1, 48000, file, 50, &count) == PROHUNSEV_WRONG_GRID);
-    CHECK(ph_write_tempo_track(equal, 2, 48000, file, 50, &count) == PROHUNSEV_WRONG_GRID);
+    CHECK(ph_write_tempo_track(equal + 1, 2, 48000, file, 50, &count) == PROHUNSEV_WRONG_GRID);
+    CHECK(ph_write_tempo_track(equal, 3, 1, file, 50, &count) == PROHUNSEV_WRONG_GRID); /* before 7 */
     CHECK(ph_write_tempo_track(back, 2, 1, file, 0, &count) == PROHUNSEV_WRONG_GRID); /* before 3 */
     CHECK(ph_write_tempo_track(grid, 4, 1, file, 0, &count) == PROHUNSEV_GAP_TOO_LONG); /* before 3 */
     CHECK(ph_write_tempo_track(longer, 2, 26474, file, 50, &count) == PROHUNSEV_GAP_TOO_LONG);
