@@ -10,7 +10,7 @@ use lib.ListN.{length, getD, take, drop, length-append}
 use lib.Seq.{drop-cons, drop-drop, take-suc, length-take-le}
 use Rattle.texts.specs.Texts.{starts}
 use Rattle.texts.proofs.Texts.{starts-append}
-use Rattle.midi_events.specs.File.{front, three, deltaOf, tempoEvent, trackEnd, tempoEvents, trackEvents, fileOf}
+use Rattle.midi_events.specs.File.{trackFront, inThreeBytes, deltaOf, tempoEvent, trackEnd, tempoEvents, trackEvents, fileOf}
 use Rattle.midi_events.specs.Shapes.{trackRoom}
 
 -- ---- lengths
@@ -26,7 +26,7 @@ track-length gaps = length-append (tempoEvents 0 gaps) trackEnd ∙ ap (λ (n : 
 
 pub file-length : (gaps : List ℕ) → length (fileOf gaps) ≡ trackRoom (length gaps)
 unfolding fileOf
-file-length gaps = length-append (front (length (trackEvents gaps))) (trackEvents gaps) ∙ omega (arith, track-length gaps)
+file-length gaps = length-append (trackFront (length (trackEvents gaps))) (trackEvents gaps) ∙ omega (arith, track-length gaps)
 
 -- ---- one event more
 
@@ -67,25 +67,25 @@ events-step gaps i h = rw (add-one i, drop-cons gaps i 0 h)
 -- an event: its delta, its status and kind, its tempo
 pub event-pieces : (delta gap : ℕ) (file : List ℕ) (at : ℕ) → at < length file
     → starts (tempoEvent delta gap) (drop at file)
-    ≡ (eqb (getD file at 0) delta && (starts (255 ∷ 81 ∷ 3 ∷ []) (drop (at + 1) file) && starts (three gap) (drop (at + 4) file)))
+    ≡ (eqb (getD file at 0) delta && (starts (255 ∷ 81 ∷ 3 ∷ []) (drop (at + 1) file) && starts (inThreeBytes gap) (drop (at + 4) file)))
 unfolding starts
 event-pieces delta gap file at h =
     let e : at + 1 + 3 ≡ at + 4 = omega arith in
     ap (starts (tempoEvent delta gap)) (drop-cons file at 0 h)
-    ∙ ap (λ (n : ℕ). eqb (getD file at 0) delta && starts (255 ∷ 81 ∷ 3 ∷ three gap) (drop n file)) (sym (add-one at))
-    ∙ ap (λ (t : Bool). eqb (getD file at 0) delta && t) (starts-append (255 ∷ 81 ∷ 3 ∷ []) (three gap) (drop (at + 1) file))
-    ∙ ap (λ (l : List ℕ). eqb (getD file at 0) delta && (starts (255 ∷ 81 ∷ 3 ∷ []) (drop (at + 1) file) && starts (three gap) l)) (drop-drop 3 (at + 1) file)
-    ∙ ap (λ (n : ℕ). eqb (getD file at 0) delta && (starts (255 ∷ 81 ∷ 3 ∷ []) (drop (at + 1) file) && starts (three gap) (drop n file))) e
+    ∙ ap (λ (n : ℕ). eqb (getD file at 0) delta && starts (255 ∷ 81 ∷ 3 ∷ inThreeBytes gap) (drop n file)) (sym (add-one at))
+    ∙ ap (λ (t : Bool). eqb (getD file at 0) delta && t) (starts-append (255 ∷ 81 ∷ 3 ∷ []) (inThreeBytes gap) (drop (at + 1) file))
+    ∙ ap (λ (l : List ℕ). eqb (getD file at 0) delta && (starts (255 ∷ 81 ∷ 3 ∷ []) (drop (at + 1) file) && starts (inThreeBytes gap) l)) (drop-drop 3 (at + 1) file)
+    ∙ ap (λ (n : ℕ). eqb (getD file at 0) delta && (starts (255 ∷ 81 ∷ 3 ∷ []) (drop (at + 1) file) && starts (inThreeBytes gap) (drop n file))) e
 
 -- the file: its front, its events, its end
 pub file-pieces : (gaps file : List ℕ) → starts (fileOf gaps) file
-    ≡ (starts (front (length gaps * 7 + 4)) file && (starts (tempoEvents 0 gaps) (drop 22 file) && starts trackEnd (drop (22 + length gaps * 7) file)))
+    ≡ (starts (trackFront (length gaps * 7 + 4)) file && (starts (tempoEvents 0 gaps) (drop 22 file) && starts trackEnd (drop (22 + length gaps * 7) file)))
 unfolding fileOf trackEvents
 file-pieces gaps file =
     let n = length gaps * 7 in
-    ap (λ (k : ℕ). starts (front k ++ trackEvents gaps) file) (track-length gaps)
-    ∙ starts-append (front (n + 4)) (trackEvents gaps) file
-    ∙ ap (λ (t : Bool). starts (front (n + 4)) file && t)
+    ap (λ (k : ℕ). starts (trackFront k ++ trackEvents gaps) file) (track-length gaps)
+    ∙ starts-append (trackFront (n + 4)) (trackEvents gaps) file
+    ∙ ap (λ (t : Bool). starts (trackFront (n + 4)) file && t)
     (starts-append (tempoEvents 0 gaps) trackEnd (drop 22 file)
     ∙ ap (λ (l : List ℕ). starts (tempoEvents 0 gaps) (drop 22 file) && starts trackEnd l)
     (drop-drop (length (tempoEvents 0 gaps)) 22 file ∙ ap (λ (k : ℕ). drop (22 + k) file) (events-length 0 gaps)))

@@ -14,8 +14,8 @@ use Rattle.numbers.proofs.Tests.{and-left, and-right, and-both, and-false, and-
 use Rattle.numbers.proofs.Tabs.{length-tab, getD-curve}
 use Rattle.texts.specs.Texts.{starts, exactly}
 use Rattle.texts.proofs.Texts.{starts-append, exactly-is, exactly-own}
-use Rattle.midi_events.specs.File.{front, three, deltaOf, tempoEvent, trackEnd, tempoEvents, trackEvents, fileOf}
-use Rattle.midi_events.specs.Shapes.{trackRoom, countIn, tempoOf, gapIn, gapsIn, tempoSome, shaped}
+use Rattle.midi_events.specs.File.{trackFront, inThreeBytes, deltaOf, tempoEvent, trackEnd, tempoEvents, trackEvents, fileOf}
+use Rattle.midi_events.specs.Shapes.{trackRoom, countIn, tempoFrom, gapIn, gapsIn, tempoSome, shaped}
 use Rattle.midi_events.proofs.Events.{track-length, file-length, events-step, file-pieces}
 
 pub count-in : (file : List ℕ) → length (gapsIn file) ≡ countIn file
@@ -91,7 +91,7 @@ module _ (file : List ℕ) where
       leb 1 count
       && (ltb (count * 7 + 4) 4294967296
       && ((eqb (length file) (trackRoom count)
-      && (starts (front (count * 7 + 4)) file && (starts (tempoEvents 0 (gapsIn file)) (drop 22 file) && starts trackEnd (drop (22 + count * 7) file))))
+      && (starts (trackFront (count * 7 + 4)) file && (starts (tempoEvents 0 (gapsIn file)) (drop 22 file) && starts trackEnd (drop (22 + count * 7) file))))
       && every tempoSome (gapsIn file)))
 
   pub shaped-pieces : shaped file ≡ pieces (countIn file)
@@ -103,7 +103,7 @@ module _ (file : List ℕ) where
       let t : length (trackEvents gs) ≡ n * 7 + 4 = track-length gs ∙ ap (λ (n : ℕ). n * 7 + 4) l in
       let f : length (fileOf gs) ≡ trackRoom n = file-length gs ∙ ap trackRoom l in
       let s = file-pieces gs file
-      ∙ ap (λ (n : ℕ). starts (front (n * 7 + 4)) file && (starts (tempoEvents 0 gs) (drop 22 file) && starts trackEnd (drop (22 + n * 7) file))) l in
+      ∙ ap (λ (n : ℕ). starts (trackFront (n * 7 + 4)) file && (starts (tempoEvents 0 gs) (drop 22 file) && starts trackEnd (drop (22 + n * 7) file))) l in
       ap (λ (n : ℕ). leb 1 n && (ltb (length (trackEvents gs)) 4294967296 && (exactly (fileOf gs) file && every tempoSome gs))) l
       ∙ ap (λ (m : ℕ). leb 1 n && (ltb m 4294967296 && (exactly (fileOf gs) file && every tempoSome gs))) t
       ∙ ap (λ (m : ℕ). leb 1 n && (ltb (n * 7 + 4) 4294967296 && ((eqb (length file) m && starts (fileOf gs) file) && every tempoSome gs))) f
@@ -134,7 +134,7 @@ module _ (file : List ℕ) where
       module _ (h3 : countIn file ≤ 613566755) where
         -- what is left once the numbers are fine
         rest : shaped file
-            ≡ ((starts (front (countIn file * 7 + 4)) file
+            ≡ ((starts (trackFront (countIn file * 7 + 4)) file
             && (starts (tempoEvents 0 (gapsIn file)) (drop 22 file) && starts trackEnd (drop (22 + countIn file * 7) file)))
             && every tempoSome (gapsIn file))
         rest =
@@ -145,11 +145,11 @@ module _ (file : List ℕ) where
               eq-eqb (length file) (trackRoom (countIn file)) h2,
             )
 
-        pub other-front : starts (front (countIn file * 7 + 4)) file ≡ false → false ≡ shaped file
+        pub other-front : starts (trackFront (countIn file * 7 + 4)) file ≡ false → false ≡ shaped file
         other-front e = sym (rest ∙ rw e)
 
         -- the events, and then the track's end
-        pub by-events : (fine : Bool) → starts (front (countIn file * 7 + 4)) file ≡ true
+        pub by-events : (fine : Bool) → starts (trackFront (countIn file * 7 + 4)) file ≡ true
             → fine ≡ (starts (tempoEvents 0 (gapsIn file)) (drop 22 file) && every tempoSome (gapsIn file))
             → shaped file ≡ (fine && starts trackEnd (drop (22 + countIn file * 7) file))
         by-events fine h4 e =
@@ -189,7 +189,7 @@ module _ (file : List ℕ) (e : shaped file ≡ true) where
 
 -- an event behind its delta
 abbrev told : ℕ → List ℕ
-told gap = 255 ∷ 81 ∷ 3 ∷ three gap
+told gap = 255 ∷ 81 ∷ 3 ∷ inThreeBytes gap
 
 event-byte : (n : ℕ) (gaps rest : List ℕ) (i k : ℕ) → i < length gaps → k < 6
     → getD (tempoEvents n gaps ++ rest) (i * 7 + suc k) 0 ≡ getD (told (getD gaps i 0)) k 0
@@ -211,11 +211,11 @@ file-byte : (gaps : List ℕ) (i k at : ℕ) → i < length gaps → k < 6 → a
 unfolding fileOf trackEvents
 file-byte gaps i k at h b e =
     ap (λ (n : ℕ). getD (fileOf gaps) n 0) e
-    ∙ getD-append-add (front (length (trackEvents gaps))) (trackEvents gaps) (i * 7 + suc k) 0
+    ∙ getD-append-add (trackFront (length (trackEvents gaps))) (trackEvents gaps) (i * 7 + suc k) 0
     ∙ event-byte 0 gaps trackEnd i k h b
 
 -- three bytes and back
-three-back : (g : ℕ) → tempoOf (g / 65536) (g / 256 % 256) (g % 256) ≡ g
+three-back : (g : ℕ) → tempoFrom (g / 65536) (g / 256 % 256) (g % 256) ≡ g
 three-back g = omega arith
 
 gap-back : (gaps : List ℕ) (i : ℕ) → i < length gaps → gapIn (fileOf gaps) i ≡ getD gaps i 0

@@ -8,16 +8,16 @@ use lib.ListN.{length}
 -- ---- numbers, the high byte first
 
 -- 16 bits
-abbrev pub two : ℕ → List ℕ
-two n = n / 256 ∷ n % 256 ∷ []
+abbrev pub inTwoBytes : ℕ → List ℕ
+inTwoBytes n = n / 256 ∷ n % 256 ∷ []
 
 -- 24 bits
-abbrev pub three : ℕ → List ℕ
-three n = n / 65536 ∷ n / 256 % 256 ∷ n % 256 ∷ []
+abbrev pub inThreeBytes : ℕ → List ℕ
+inThreeBytes n = n / 65536 ∷ n / 256 % 256 ∷ n % 256 ∷ []
 
 -- 32 bits
-abbrev pub four : ℕ → List ℕ
-four n = n / 16777216 ∷ n / 65536 % 256 ∷ n / 256 % 256 ∷ n % 256 ∷ []
+abbrev pub inFourBytes : ℕ → List ℕ
+inFourBytes n = n / 16777216 ∷ n / 65536 % 256 ∷ n / 256 % 256 ∷ n % 256 ∷ []
 
 -- ---- chunks
 
@@ -35,11 +35,11 @@ division = 96
 
 -- the header chunk: six bytes, format 0, one track, and the division
 abbrev pub headerChunk : List ℕ
-headerChunk = headerName ++ (four 6 ++ (two 0 ++ (two 1 ++ two division)))
+headerChunk = headerName ++ (inFourBytes 6 ++ (inTwoBytes 0 ++ (inTwoBytes 1 ++ inTwoBytes division)))
 
 -- the 22 bytes before the events of a track that has n bytes
-abbrev pub front : ℕ → List ℕ
-front n = headerChunk ++ (trackName ++ four n)
+abbrev pub trackFront : ℕ → List ℕ
+trackFront n = headerChunk ++ (trackName ++ inFourBytes n)
 
 -- ---- events: a delta time below 128 is one byte
 
@@ -50,7 +50,7 @@ deltaOf (suc i) = division
 
 -- FF 51 03, "Set Tempo, in microseconds per MIDI quarter-note", behind its delta
 abbrev pub tempoEvent : (delta gap : ℕ) → List ℕ
-tempoEvent delta gap = delta ∷ 255 ∷ 81 ∷ 3 ∷ three gap
+tempoEvent delta gap = delta ∷ 255 ∷ 81 ∷ 3 ∷ inThreeBytes gap
 
 -- "end of track 96 after the last": FF 2F 00
 abbrev pub trackEnd : List ℕ
@@ -69,4 +69,4 @@ trackEvents gaps = tempoEvents 0 gaps ++ trackEnd
 -- the whole file of some gaps: the track's length is that of its events
 unfoldable pub fileOf : List ℕ → List ℕ
 unfolding trackEvents
-fileOf gaps = front (length (trackEvents gaps)) ++ trackEvents gaps
+fileOf gaps = trackFront (length (trackEvents gaps)) ++ trackEvents gaps

@@ -19,12 +19,12 @@ abbrev pub countIn : List ℕ → ℕ
 countIn file = (length file - 26) / 7
 
 -- 24 bits, the high byte first
-abbrev pub tempoOf : (a b c : ℕ) → ℕ
-tempoOf a b c = a * 65536 + b * 256 + c
+abbrev pub tempoFrom : (a b c : ℕ) → ℕ
+tempoFrom a b c = a * 65536 + b * 256 + c
 
 -- the tempo of event i, where the written shape has it
 unfoldable pub gapIn : List ℕ → ℕ → ℕ
-gapIn file i = let at = 26 + i * 7 in tempoOf (getD file at 0) (getD file (at + 1) 0) (getD file (at + 2) 0)
+gapIn file i = let at = 26 + i * 7 in tempoFrom (getD file at 0) (getD file (at + 1) 0) (getD file (at + 2) 0)
 
 unfoldable pub gapsIn : List ℕ → List ℕ
 unfolding gapIn

@@ -7,8 +7,8 @@ ghost use Prim.Native.Nat.{_+_, _*_, _≤_, _<_};
 ghost use lib.ListN.{length, drop};
 ghost use Rattle.numbers.specs.Lists.{every};
 ghost use Rattle.texts.specs.Texts.{starts, Put};
-ghost use Rattle.midi_events.specs.File.{front, three, deltaOf, tempoEvent, trackEnd, tempoEvents};
-ghost use Rattle.midi_events.specs.Shapes.{trackRoom, countIn, tempoOf, gapIn, gapsIn, tempoSome, shaped};
+ghost use Rattle.midi_events.specs.File.{trackFront, inThreeBytes, deltaOf, tempoEvent, trackEnd, tempoEvents};
+ghost use Rattle.midi_events.specs.Shapes.{trackRoom, countIn, tempoFrom, gapIn, gapsIn, tempoSome, shaped};
 
 // most gaps whose track has a length of 32 bits
 const MOST_GAPS: usize = 613_566_755;
@@ -18,7 +18,7 @@ const MOST_GAPS: usize = 613_566_755;
 // Inner: the 22 bytes before the events: the header chunk, and the name and the length of the track of so many gaps.
 pub fn front(gaps: usize) -> [u8; 22]
     requires { ⌜ gaps * 7 + 4 < 4294967296 ⌝ }
-    ensures { λ r. ⌜ r ≡ front (gaps * 7 + 4) ⌝ }
+    ensures { λ r. ⌜ r ≡ trackFront (gaps * 7 + 4) ⌝ }
 {
     let size = (gaps * 7 + 4) as u32;
     [
@@ -57,7 +57,7 @@ fn delta_at(i: usize) -> u8
 // A tempo's three bytes.
 fn tempo_bytes(gap: u32) -> [u8; 3]
     requires { ⌜ gap < 16777216 ⌝ }
-    ensures { λ r. ⌜ r ≡ three gap ⌝ }
+    ensures { λ r. ⌜ r ≡ inThreeBytes gap ⌝ }
 {
     [
         (gap / 65536) as u8,
@@ -89,8 +89,8 @@ pub fn put_end(file: &mut [u8], at: usize) -> usize
 // ---- the shape
 
 // Three bytes as a tempo, the high byte first.
-fn tempo_of(a: u8, b: u8, c: u8) -> u32
-    ensures { λ r. ⌜ (r ≡ tempoOf a b c) × (r < 16777216) ⌝ }
+fn tempo_from(a: u8, b: u8, c: u8) -> u32
+    ensures { λ r. ⌜ (r ≡ tempoFrom a b c) × (r < 16777216) ⌝ }
 {
     (a as u32) * 65536 + (b as u32) * 256 + (c as u32)
 }
@@ -101,7 +101,7 @@ pub fn gap_in(file: &[u8], i: usize) -> u32
     ensures { λ r. ⌜ (r ≡ gapIn (now (file .entry)) i) × (r < 16777216) ⌝ }
 {
     let at = 26 + i * 7;
-    tempo_of(file[at], file[at + 1], file[at + 2])
+    tempo_from(file[at], file[at + 1], file[at + 2])
 }
 
 // Whether event i, with this gap, stands in its place. Each event has a status byte of its own: a running status is another shape.

@@ -11,7 +11,7 @@ use lib.Dec.{eqb}
 use lib.ListN.{length, getD, drop}
 use Rattle.texts.specs.Texts.{starts}
 use Rattle.texts.proofs.Texts.{fails, holds}
-use Rattle.midi_events.specs.File.{three, deltaOf}
+use Rattle.midi_events.specs.File.{inThreeBytes, deltaOf}
 use Rattle.midi_events.proofs.Events.{event-pieces}
 use Rattle.midi_events.proofs.event_stands.Statement.{statement}
 use Rattle.midi_events.proofs.event_stands.Tie as tie
@@ -34,7 +34,7 @@ returns c =
     let file = now (a .file) in
     let at = 22 + a .i * 7 in
     sym (event-pieces (deltaOf (a .i)) (a .gap) file at (omega arith)
-    ∙ ap (λ (t : Bool). t && (starts (255 ∷ 81 ∷ 3 ∷ []) (drop (at + 1) file) && starts (three (a .gap)) (drop (at + 4) file)))
+    ∙ ap (λ (t : Bool). t && (starts (255 ∷ 81 ∷ 3 ∷ []) (drop (at + 1) file) && starts (inThreeBytes (a .gap)) (drop (at + 4) file)))
     (ne-eqb (getD file at 0) (deltaOf (a .i)) (λ e. c .if1 .taken (e ∙ sym (c .before .delta-at .ensures)))))
 
 add-stands : tie.Need-add-stands
@@ -54,8 +54,8 @@ returns-2 c =
     let at = 22 + a .i * 7 in
     let same : eqb (getD file at 0) (deltaOf (a .i)) ≡ true = eq-eqb _ _ (i1 .if1 .left ∙ i1 .before .delta-at .ensures) in
     sym (event-pieces (deltaOf (a .i)) (a .gap) file at (omega arith)
-    ∙ ap (λ (t : Bool). t && (starts (255 ∷ 81 ∷ 3 ∷ []) (drop (at + 1) file) && starts (three (a .gap)) (drop (at + 4) file))) same
-    ∙ ap (λ (t : Bool). t && starts (three (a .gap)) (drop (at + 4) file)) (fails _ _ (c .before .stands .ensures) (c .if2 .taken)))
+    ∙ ap (λ (t : Bool). t && (starts (255 ∷ 81 ∷ 3 ∷ []) (drop (at + 1) file) && starts (inThreeBytes (a .gap)) (drop (at + 4) file))) same
+    ∙ ap (λ (t : Bool). t && starts (inThreeBytes (a .gap)) (drop (at + 4) file)) (fails _ _ (c .before .stands .ensures) (c .if2 .taken)))
 
 tempo-bytes-requires : tie.Need-tempo-bytes-requires
 tempo-bytes-requires c κs = search needs
@@ -78,8 +78,8 @@ returns-3 c =
     let at = 22 + a .i * 7 in
     let same : eqb (getD file at 0) (deltaOf (a .i)) ≡ true = eq-eqb _ _ (i1 .if1 .left ∙ i1 .before .delta-at .ensures) in
     sym (event-pieces (deltaOf (a .i)) (a .gap) file at (omega arith)
-    ∙ ap (λ (t : Bool). t && (starts (255 ∷ 81 ∷ 3 ∷ []) (drop (at + 1) file) && starts (three (a .gap)) (drop (at + 4) file))) same
-    ∙ ap (λ (t : Bool). t && starts (three (a .gap)) (drop (at + 4) file)) (holds _ _ (i2 .before .stands .ensures) (i2 .if2 .left))
+    ∙ ap (λ (t : Bool). t && (starts (255 ∷ 81 ∷ 3 ∷ []) (drop (at + 1) file) && starts (inThreeBytes (a .gap)) (drop (at + 4) file))) same
+    ∙ ap (λ (t : Bool). t && starts (inThreeBytes (a .gap)) (drop (at + 4) file)) (holds _ _ (i2 .before .stands .ensures) (i2 .if2 .left))
     ∙ ap (λ (l : List ℕ). starts l (drop (at + 4) file)) (sym (c .before .before .tempo-bytes .ensures))
     ∙ sym (c .stands2 .ensures))
 

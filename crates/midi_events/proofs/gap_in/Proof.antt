@@ -10,27 +10,27 @@ mul-at c = search needs
 add-at : tie.Need-add-at
 add-at c = search needs
 
-shared-slice-read-tempo-of : tie.Need-shared-slice-read-tempo-of
-shared-slice-read-tempo-of c = search needs
+shared-slice-read-tempo-from : tie.Need-shared-slice-read-tempo-from
+shared-slice-read-tempo-from c = search needs
 
-add-tempo-of : tie.Need-add-tempo-of
-add-tempo-of c = search needs
+add-tempo-from : tie.Need-add-tempo-from
+add-tempo-from c = search needs
 
-shared-slice-read-tempo-of-2 : tie.Need-shared-slice-read-tempo-of-2
-shared-slice-read-tempo-of-2 c = search needs
+shared-slice-read-tempo-from-2 : tie.Need-shared-slice-read-tempo-from-2
+shared-slice-read-tempo-from-2 c = search needs
 
-add-tempo-of-2 : tie.Need-add-tempo-of-2
-add-tempo-of-2 c = search needs
+add-tempo-from-2 : tie.Need-add-tempo-from-2
+add-tempo-from-2 c = search needs
 
-shared-slice-read-tempo-of-3 : tie.Need-shared-slice-read-tempo-of-3
-shared-slice-read-tempo-of-3 c = search needs
+shared-slice-read-tempo-from-3 : tie.Need-shared-slice-read-tempo-from-3
+shared-slice-read-tempo-from-3 c = search needs
 
-tempo-of-requires : tie.Need-tempo-of-requires
-tempo-of-requires c κs = search needs
+tempo-from-requires : tie.Need-tempo-from-requires
+tempo-from-requires c κs = search needs
 
 returns : tie.Need-returns
 unfolding gapIn
-returns c = c .tempo-of .ensures
+returns c = c .tempo-from .ensures
 
 pub gap-in-spec : {M : Type 1} → statement M
 gap-in-spec =
@@ -38,10 +38,10 @@ gap-in-spec =
     (tie.spec
     mul-at
     add-at
-    shared-slice-read-tempo-of
-    add-tempo-of
-    shared-slice-read-tempo-of-2
-    add-tempo-of-2
-    shared-slice-read-tempo-of-3
-    tempo-of-requires
+    shared-slice-read-tempo-from
+    add-tempo-from
+    shared-slice-read-tempo-from-2
+    add-tempo-from-2
+    shared-slice-read-tempo-from-3
+    tempo-from-requires
     returns)

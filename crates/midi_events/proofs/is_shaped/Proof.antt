@@ -10,7 +10,7 @@ use borrow.Author.Tests.{not-true, not-false}
 use lib.ListN.{length, drop}
 use Rattle.texts.specs.Texts.{starts}
 use Rattle.texts.proofs.Texts.{fails, holds}
-use Rattle.midi_events.specs.File.{front, trackEnd}
+use Rattle.midi_events.specs.File.{trackFront, trackEnd}
 use Rattle.midi_events.specs.Shapes.{trackRoom, countIn, shaped}
 use Rattle.midi_events.proofs.Shapes.{too-short, left-over, too-long, other-front, by-events}
 use Rattle.midi_events.proofs.is_shaped.Statement.{statement}
