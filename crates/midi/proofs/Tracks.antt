@@ -18,7 +18,7 @@ use Rattle.numbers.proofs.Everys.{every-by}
 use Rattle.numbers.proofs.Firsts.{first-skip, first-among}
 use Rattle.numbers.proofs.Tabs.{length-tab, filled-whole}
 use Rattle.numbers.proofs.Tests.{and-left, and-right, unless-zero}
-use Rattle.midi_gaps.specs.Gaps.{timeAt, gapAt, gapsOf, gridNumbersFine, isGrid, gapsFit}
+use Rattle.midi_gaps.specs.Gaps.{timeAt, gapAt, gapsOf, tempoTrackNumbersFine, isGrid, gapsFit}
 use Rattle.midi_gaps.proofs.Gaps.{gaps-length, gap-in-list, gap-least, gap-joins}
 use Rattle.midi_events.specs.File.{trackFront, tempoEvents, trackEnd, trackEvents, fileOf}
 use Rattle.midi_events.specs.Shapes.{trackRoom, countIn, gapIn, gapsIn, tempoSome, shaped}
@@ -29,16 +29,16 @@ use Rattle.midi.specs.Tracks.{writeRefusal, readRefusal, total}
 -- ---- the writer's rows
 
 module _ (rate : ℕ) (beats : List ℕ) where
-  rate-low : gridNumbersFine rate beats ≡ true → 0 < rate
-  unfolding gridNumbersFine
+  rate-low : tempoTrackNumbersFine rate beats ≡ true → 0 < rate
+  unfolding tempoTrackNumbersFine
   rate-low e = leb-true 1 rate (and-left _ (leb rate mostRate) (and-left (rateFine rate) _ e))
 
-  rate-high : gridNumbersFine rate beats ≡ true → rate ≤ mostRate
-  unfolding gridNumbersFine
+  rate-high : tempoTrackNumbersFine rate beats ≡ true → rate ≤ mostRate
+  unfolding tempoTrackNumbersFine
   rate-high e = leb-true rate mostRate (and-right (leb 1 rate) _ (and-left (rateFine rate) _ e))
 
-  frames-fine : gridNumbersFine rate beats ≡ true → every frameFine beats ≡ true
-  unfolding gridNumbersFine
+  frames-fine : tempoTrackNumbersFine rate beats ≡ true → every frameFine beats ≡ true
+  unfolding tempoTrackNumbersFine
   frames-fine e = and-right (rateFine rate) _ e
 
   two : isGrid beats ≡ true → 2 ≤ length beats
@@ -50,7 +50,7 @@ module _ (rate : ℕ) (beats : List ℕ) where
   rises e = and-right (leb 2 (length beats)) _ e
 
   -- the row of 8 holds wherever those of 1 and 6 do: two frames lie 1,333 microseconds apart or more
-  pub never-zero : gridNumbersFine rate beats ≡ true → isGrid beats ≡ true → every tempoSome (gapsOf rate beats) ≡ true
+  pub never-zero : tempoTrackNumbersFine rate beats ≡ true → isGrid beats ≡ true → every tempoSome (gapsOf rate beats) ≡ true
   never-zero b g =
       every-by tempoSome (gapsOf rate beats) 0
       (λ i h.
@@ -60,7 +60,7 @@ module _ (rate : ℕ) (beats : List ℕ) where
 
   -- the rows that the code tests before it looks at the room: 1, 6, 7
   abbrev pub gridRows : List Row
-  gridRows = (gridNumbersFine rate beats, 1) ∷ (isGrid beats, 6) ∷ (gapsFit rate beats, 7) ∷ []
+  gridRows = (tempoTrackNumbersFine rate beats, 1) ∷ (isGrid beats, 6) ∷ (gapsFit rate beats, 7) ∷ []
 
   module _ (room : ℕ) where
     -- 8 can be left out
@@ -68,7 +68,7 @@ module _ (rate : ℕ) (beats : List ℕ) where
     unfolding writeRefusal every
     tested-rows =
         first-skip gridRows (every tempoSome (gapsOf rate beats)) 8 ((leb (trackRoom (length beats - 1)) room, 3) ∷ [])
-        (λ e. never-zero (and-left (gridNumbersFine rate beats) _ e) (and-left (isGrid beats) _ (and-right (gridNumbersFine rate beats) _ e)))
+        (λ e. never-zero (and-left (tempoTrackNumbersFine rate beats) _ e) (and-left (isGrid beats) _ (and-right (tempoTrackNumbersFine rate beats) _ e)))
 
     -- so it is never given
     pub never-eight : writeRefusal beats rate room ≡ 8 → ⊥
@@ -77,10 +77,12 @@ module _ (rate : ℕ) (beats : List ℕ) where
 
 -- the number of the grid is the writer's where it refuses, and else the room decides
 module _ (a b c d : Bool) where
-  pub grid-refuses : (unless a 1 (unless b 6 (unless c 7 0)) ≡ 0 → ⊥) → unless a 1 (unless b 6 (unless c 7 0)) ≡ unless a 1 (unless b 6 (unless c 7 (unless d 3 0)))
+  pub grid-refuses : (unless a 1 (unless b 6 (unless c 7 0)) ≡ 0 → ⊥)
+      → unless a 1 (unless b 6 (unless c 7 0)) ≡ unless a 1 (unless b 6 (unless c 7 (unless d 3 0)))
   grid-refuses h = go a b c h
     where
-      go : (a b c : Bool) → (unless a 1 (unless b 6 (unless c 7 0)) ≡ 0 → ⊥) → unless a 1 (unless b 6 (unless c 7 0)) ≡ unless a 1 (unless b 6 (unless c 7 (unless d 3 0)))
+      go : (a b c : Bool) → (unless a 1 (unless b 6 (unless c 7 0)) ≡ 0 → ⊥)
+          → unless a 1 (unless b 6 (unless c 7 0)) ≡ unless a 1 (unless b 6 (unless c 7 (unless d 3 0)))
       go true true true h = absurd (h refl)
       go true true false h = refl
       go true false c h = refl
@@ -97,7 +99,7 @@ module _ (a b c d : Bool) where
 
 -- what number 0 of the writer tells
 pub record Ready (beats : List ℕ) (rate room : ℕ) : Type 0 where
-  pub bounds : gridNumbersFine rate beats ≡ true
+  pub bounds : tempoTrackNumbersFine rate beats ≡ true
   pub grid : isGrid beats ≡ true
   pub fits : gapsFit rate beats ≡ true
   pub rate-some : 0 < rate
@@ -109,7 +111,7 @@ pub record Ready (beats : List ℕ) (rate room : ℕ) : Type 0 where
 
 pub write-told : (beats : List ℕ) (rate room : ℕ) → writeRefusal beats rate room ≡ 0 → Ready beats rate room
 write-told beats rate room e =
-    let p = unless-zero (gridNumbersFine rate beats) 0 _ (sym (tested-rows rate beats room) ∙ e) in
+    let p = unless-zero (tempoTrackNumbersFine rate beats) 0 _ (sym (tested-rows rate beats room) ∙ e) in
     let q = unless-zero (isGrid beats) 5 _ (p .1) in
     let r = unless-zero (gapsFit rate beats) 6 _ (q .1) in
     let s = unless-zero (leb (trackRoom (length beats - 1)) room) 2 0 (r .1) in
@@ -128,7 +130,7 @@ write-told beats rate room e =
 -- what the number of the grid alone tells, where it is 0
 pub grid-told : (beats : List ℕ) (rate : ℕ) → firstOf (gridRows rate beats) ≡ 0 → (2 ≤ length beats) × (length beats ≤ mostFrame + 1)
 grid-told beats rate e =
-    let p = unless-zero (gridNumbersFine rate beats) 0 _ e in
+    let p = unless-zero (tempoTrackNumbersFine rate beats) 0 _ e in
     let q = unless-zero (isGrid beats) 5 _ (p .1) in (
       two rate beats (q .0),
       omega (arith, ascending-count 0 mostFrame beats (omega arith) (rises rate beats (q .0)) (frames-fine rate beats (p .0))),

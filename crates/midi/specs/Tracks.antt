@@ -7,7 +7,7 @@ use Rattle.numbers.specs.Refusals.{firstOf, outOfBounds, wrongGrid, gapTooLong,
 use Rattle.numbers.specs.Lists.{every}
 use Rattle.numbers.specs.Outcomes.{ListWritten}
 use Rattle.numbers.specs.declared.Listing.{Listing}
-use Rattle.midi_gaps.specs.Gaps.{gapsOf, gridNumbersFine, isGrid, gapsFit}
+use Rattle.midi_gaps.specs.Gaps.{gapsOf, tempoTrackNumbersFine, isGrid, gapsFit}
 use Rattle.midi_events.specs.File.{fileOf}
 use Rattle.midi_events.specs.Shapes.{trackRoom, countIn, gapsIn, tempoSome, shaped}
 
@@ -21,10 +21,10 @@ total (gap ∷ gaps) = gap + total gaps
 -- "Refusals: 6 for fewer than two beats or frames not strictly ascending, 7 for a gap above 16,777,215, 8 for a file of another shape or a tempo of
 -- 0, in that order after 1, then 3 when the output doesn't fit."
 unfoldable pub writeRefusal : (beats : List ℕ) (rate room : ℕ) → ℕ
-unfolding gridNumbersFine isGrid gapsFit gapsOf every
+unfolding tempoTrackNumbersFine isGrid gapsFit gapsOf every
 writeRefusal beats rate room =
     firstOf
-    ((gridNumbersFine rate beats, outOfBounds)
+    ((tempoTrackNumbersFine rate beats, outOfBounds)
     ∷ (isGrid beats, wrongGrid)
     ∷ (gapsFit rate beats, gapTooLong)
     ∷ (every tempoSome (gapsOf rate beats), otherShape)

@@ -74,7 +74,8 @@ event-pieces delta gap file at h =
     ap (starts (tempoEvent delta gap)) (drop-cons file at 0 h)
     ∙ ap (λ (n : ℕ). eqb (getD file at 0) delta && starts (255 ∷ 81 ∷ 3 ∷ inThreeBytes gap) (drop n file)) (sym (add-one at))
     ∙ ap (λ (t : Bool). eqb (getD file at 0) delta && t) (starts-append (255 ∷ 81 ∷ 3 ∷ []) (inThreeBytes gap) (drop (at + 1) file))
-    ∙ ap (λ (l : List ℕ). eqb (getD file at 0) delta && (starts (255 ∷ 81 ∷ 3 ∷ []) (drop (at + 1) file) && starts (inThreeBytes gap) l)) (drop-drop 3 (at + 1) file)
+    ∙ ap (λ (l : List ℕ). eqb (getD file at 0) delta && (starts (255 ∷ 81 ∷ 3 ∷ []) (drop (at + 1) file) && starts (inThreeBytes gap) l))
+    (drop-drop 3 (at + 1) file)
     ∙ ap (λ (n : ℕ). eqb (getD file at 0) delta && (starts (255 ∷ 81 ∷ 3 ∷ []) (drop (at + 1) file) && starts (inThreeBytes gap) (drop n file))) e
 
 -- the file: its front, its events, its end

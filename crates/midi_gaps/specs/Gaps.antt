@@ -24,9 +24,9 @@ gapsOf rate beats = curve (gapAt rate beats) (length beats - 1)
 -- ---- the tests of a grid
 
 -- number 1 else: the rate is 1 to 192,000, and each frame at most 1,048,575
-unfoldable pub gridNumbersFine : (rate : ℕ) → List ℕ → Bool
+unfoldable pub tempoTrackNumbersFine : (rate : ℕ) → List ℕ → Bool
 unfolding every
-gridNumbersFine rate beats = rateFine rate && every frameFine beats
+tempoTrackNumbersFine rate beats = rateFine rate && every frameFine beats
 
 -- "6 for fewer than two beats or frames not strictly ascending"
 unfoldable pub isGrid : List ℕ → Bool

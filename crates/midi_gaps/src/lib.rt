@@ -11,7 +11,7 @@ ghost use Prim.Native.Nat.{_+_, _-_, _<_};
 ghost use lib.ListN.{length};
 ghost use Rattle.numbers.specs.Refusals.{firstOf, outOfBounds, wrongGrid, gapTooLong};
 ghost use Rattle.times.specs.Micros.{microseconds};
-ghost use Rattle.midi_gaps.specs.Gaps.{gapAt, gridNumbersFine, isGrid, gapsFit};
+ghost use Rattle.midi_gaps.specs.Gaps.{gapAt, tempoTrackNumbersFine, isGrid, gapsFit};
 
 // the longest tempo that three bytes hold
 const MOST_TEMPO: u64 = 16_777_215;
@@ -68,7 +68,7 @@ pub fn grid_refusal(beats: &[u32], rate: u32) -> u32
     ensures { λ r. ⌜
         r ≡
         firstOf
-        ((gridNumbersFine rate (now (beats .entry)), outOfBounds)
+        ((tempoTrackNumbersFine rate (now (beats .entry)), outOfBounds)
         ∷ (isGrid (now (beats .entry)), wrongGrid)
         ∷ (gapsFit rate (now (beats .entry)), gapTooLong)
         ∷ [])

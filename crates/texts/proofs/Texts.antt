@@ -76,7 +76,8 @@ exactly-is bytes text e =
 pub exactly-own : (bytes : List ℕ) → exactly bytes bytes ≡ true
 unfolding exactly
 exactly-own bytes =
-    and-both (eqb (length bytes) (length bytes)) _ (eq-eqb (length bytes) (length bytes) refl) (ap (starts bytes) (sym (append-nil bytes)) ∙ starts-own bytes [])
+    and-both (eqb (length bytes) (length bytes)) _ (eq-eqb (length bytes) (length bytes) refl)
+    (ap (starts bytes) (sym (append-nil bytes)) ∙ starts-own bytes [])
 
 -- ---- digits
 

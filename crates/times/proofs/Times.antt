@@ -52,7 +52,8 @@ module _ (rate : ℕ) (h : 0 < rate) (k : rate ≤ 192000) where
       let low = half-low (sampleOf t * 1000000) rate h in
       let one : 1333 * d ≤ 512000000 = omega arith in
       let many : 1333 * d * n ≤ 512000000 * n = mul-le-mul-right n one in
-      let e : n * 1333 * d ≡ 1333 * d * n = ap (λ (x : ℕ). x * d) (mul-comm n 1333) ∙ mul-assoc 1333 n d ∙ ap (λ (x : ℕ). 1333 * x) (mul-comm n d) ∙ sym (mul-assoc 1333 d n) in
+      let e : n * 1333 * d ≡ 1333 * d * n =
+      ap (λ (x : ℕ). x * d) (mul-comm n 1333) ∙ mul-assoc 1333 n d ∙ ap (λ (x : ℕ). 1333 * x) (mul-comm n d) ∙ sym (mul-assoc 1333 d n) in
       le-div-iff-mul-le {k = d} (omega arith) .1 (rw (add-mul q (n * 1333) d) (omega arith))
 
   -- a later frame has a later time, so no two frames share a microsecond

@@ -52,7 +52,10 @@ put-event-requires c κs =
     let s = l .before .before .before in
     let i = l .loop .i in (
       omega (arith, c .before .gap-at .ensures, gap-most (s .args .rate) (now (s .args .beats)) (s .pre .1 .0) i (omega arith)),
-      omega (arith, place (now (s .args .beats)) (s .args .rate) (s .args .from) i (l .loop .at) (l .loop .file) (now (s .args .file)) (l .loop .inv .0) (l .loop .inv .2)),
+      omega (
+        arith,
+        place (now (s .args .beats)) (s .args .rate) (s .args .from) i (l .loop .at) (l .loop .file) (now (s .args .file)) (l .loop .inv .0) (l .loop .inv .2),
+      ),
     )
 
 add-i : tie.Need-add-i Inv-loop μ-loop
@@ -72,7 +75,8 @@ loop-again c =
     let i = l .loop .i in
     let n : i ≤ length beats - 1 = l .loop .inv .0 in
     let e : tempoEvents 0 (take i gs) ++ tempoEvent (deltaOf i) (event .before .before .gap-at .result) ≡ tempoEvents 0 (take (i + 1) gs) =
-    ap (λ (g : ℕ). tempoEvents 0 (take i gs) ++ tempoEvent (deltaOf i) g) (event .before .before .gap-at .ensures ∙ sym (gap-in-list rate beats i (omega arith)))
+    ap (λ (g : ℕ). tempoEvents 0 (take i gs) ++ tempoEvent (deltaOf i) g)
+    (event .before .before .gap-at .ensures ∙ sym (gap-in-list rate beats i (omega arith)))
     ∙ events-more gs i (omega (arith, gaps-length rate beats)) in
     (omega arith, put-length (event .put-event .ensures) ∙ l .loop .inv .1, put-named (put-then (l .loop .inv .2) (event .put-event .ensures)) e)
 

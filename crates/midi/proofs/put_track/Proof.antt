@@ -35,7 +35,16 @@ put-events-requires c κs =
     let r = ready (c .before .before .before .before .before .before .before .before .before) in
     let head = c .before .before .before in (
       (r .rate-some, omega (arith, r .two-beats)),
-      (r .fits, omega (arith, r .enough, head .put-words .ensures .end-is, ap length (head .before .before .before .front .ensures), put-length (head .put-words .ensures))),
+      (
+        r .fits,
+        omega (
+          arith,
+          r .enough,
+          head .put-words .ensures .end-is,
+          ap length (head .before .before .before .front .ensures),
+          put-length (head .put-words .ensures),
+        ),
+      ),
     )
 
 put-end-requires : tie.Need-put-end-requires

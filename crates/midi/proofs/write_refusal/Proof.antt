@@ -8,7 +8,7 @@ use borrow.Author.Tests.{le-leb, lt-leb}
 use lib.Dec.{leb}
 use lib.ListN.{length}
 use Rattle.numbers.specs.Refusals.{unless}
-use Rattle.midi_gaps.specs.Gaps.{gridNumbersFine, isGrid, gapsFit}
+use Rattle.midi_gaps.specs.Gaps.{tempoTrackNumbersFine, isGrid, gapsFit}
 use Rattle.midi_events.specs.Shapes.{trackRoom}
 use Rattle.midi.specs.Tracks.{writeRefusal}
 use Rattle.midi.proofs.Tracks.{tested-rows, grid-refuses, grid-passes, grid-told}
@@ -24,7 +24,7 @@ returns c =
     let beats = now (a .beats) in
     let e = c .before .grid-refusal .ensures in
     e
-    ∙ grid-refuses (gridNumbersFine (a .rate) beats) (isGrid beats) (gapsFit (a .rate) beats) (leb (trackRoom (length beats - 1)) (a .room))
+    ∙ grid-refuses (tempoTrackNumbersFine (a .rate) beats) (isGrid beats) (gapsFit (a .rate) beats) (leb (trackRoom (length beats - 1)) (a .room))
     (λ z. c .if1 .taken (e ∙ z))
     ∙ sym (tested-rows (a .rate) beats (a .room))
 
@@ -39,7 +39,7 @@ passed : (c : tie.Else1) → let a = c .before .before .before .args in
 passed c =
     let a = c .before .before .before .args in
     let beats = now (a .beats) in
-    grid-passes (gridNumbersFine (a .rate) beats) (isGrid beats) (gapsFit (a .rate) beats) (leb (trackRoom (length beats - 1)) (a .room))
+    grid-passes (tempoTrackNumbersFine (a .rate) beats) (isGrid beats) (gapsFit (a .rate) beats) (leb (trackRoom (length beats - 1)) (a .room))
     (sym (c .before .grid-refusal .ensures) ∙ c .if1 .left)
     ∙ sym (tested-rows (a .rate) beats (a .room))
 

@@ -40,7 +40,9 @@ returns c =
     let e : ((delta .delta-at .result ∷ []) ++ (255 ∷ 81 ∷ 3 ∷ [])) ++ tempo .tempo-bytes .result ≡ tempoEvent (deltaOf (a .i)) (a .gap) =
     ap (λ (d : ℕ). d ∷ 255 ∷ 81 ∷ 3 ∷ tempo .tempo-bytes .result) (delta .delta-at .ensures)
     ∙ ap (λ (t : List ℕ). deltaOf (a .i) ∷ 255 ∷ 81 ∷ 3 ∷ t) (tempo .tempo-bytes .ensures) in
-    put-named (put-then (put-then (c .before .before .before .before .before .before .before .before .before .before .before .before .before .put-byte .ensures) (c .before .before .before .before .before .before .before .before .put-words .ensures)) (c .before .before .put-words2 .ensures)) e
+    let words = c .before .before .before .before .before .before .before .before in
+    let byte = words .before .before .before .before .before in
+    put-named (put-then (put-then (byte .put-byte .ensures) (words .put-words .ensures)) (c .before .before .put-words2 .ensures)) e
 
 pub put-event-spec : {M : Type 1} → statement M
 put-event-spec =

@@ -57,7 +57,9 @@ returns-2 : tie.Need-returns-2 Inv-loop μ-loop
 returns-2 c =
     let l = c .before in
     let g = l .before .before .before .args in
-    sym (l .loop .inv .1 ∙ every-end (atMost mostTempo) (gapsOf (g .rate) (now (g .beats))) (l .loop .i) (omega (arith, gaps-length (g .rate) (now (g .beats)), l .before .less .ensures)))
+    sym (l .loop .inv .1
+    ∙ every-end (atMost mostTempo) (gapsOf (g .rate) (now (g .beats))) (l .loop .i)
+    (omega (arith, gaps-length (g .rate) (now (g .beats)), l .before .less .ensures)))
 
 pub gaps-fit-spec : {M : Type 1} → statement M
 gaps-fit-spec =

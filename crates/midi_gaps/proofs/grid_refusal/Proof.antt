@@ -9,7 +9,7 @@ use lib.Dec.{leb}
 use denote.Ref.{now}
 use Rattle.numbers.specs.Limits.{mostRate, rateFine}
 use Rattle.numbers.proofs.Tests.{and-left}
-use Rattle.midi_gaps.specs.Gaps.{gridNumbersFine}
+use Rattle.midi_gaps.specs.Gaps.{tempoTrackNumbersFine}
 use Rattle.midi_gaps.proofs.grid_refusal.Statement.{statement}
 use Rattle.midi_gaps.proofs.grid_refusal.Tie as tie
 
@@ -17,7 +17,7 @@ rate-fine-requires : tie.Need-rate-fine-requires
 rate-fine-requires c κs = search needs
 
 returns : tie.Need-returns
-unfolding gridNumbersFine
+unfolding tempoTrackNumbersFine
 returns c = simp (sym (c .before .rate-fine .ensures) ∙ not-true _ (c .if1 .taken))
 
 -- past the first test
@@ -45,7 +45,7 @@ unless-requires-3 : tie.Need-unless-requires-3
 unless-requires-3 c κs = search needs
 
 returns-2 : tie.Need-returns-2
-unfolding gridNumbersFine
+unfolding tempoTrackNumbersFine
 returns-2 c =
     let two = c .before in
     let one = two .before in
