@@ -309,8 +309,8 @@ uint32_t ph_analyse_magnitudes(const float *magnitudes, size_t magnitudes_len, s
 uint32_t ph_write_tempo_track(const uint32_t *beats, size_t beats_len, uint32_t rate, uint8_t *file, size_t file_len, size_t *count);
 
 /* Reads the gaps of such a file, in microseconds, *count of them; 60,000,000 / gap are beats a minute. A file that is read is, byte for byte, what
- * the function above writes for beats that are these gaps apart, where there are any.
- * Room: (file_len - 26) / 7 slots of gaps, one a gap; those behind them stay.
+ * the function above writes for beats that are these gaps apart, where there are such beats.
+ * Room: (file_len - 26) / 7 slots of gaps, one a gap, and none for a file of fewer than 33 bytes, which is refused; those behind them stay.
  * Refuses 8 for any other file, though a sequencer may read it: another header, format, division, length, delta or event, a status byte left out, a
  * byte more or fewer, no gap at all, a tempo of 0; and then 3. */
 uint32_t ph_read_tempo_track(const uint8_t *file, size_t file_len, uint32_t *gaps, size_t gaps_len, size_t *count);

@@ -25,6 +25,7 @@ are seen: that nothing else, such as NumPy in another thread, changes a lent buf
 import array
 import contextlib
 import ctypes
+import itertools
 import math
 import operator
 import os
@@ -787,12 +788,13 @@ def _tempo_track(name):
             return f"{name}: {_many(len(file), 'byte')} lent, 26 and 7 for each gap needed, one at least"
         # None is any byte: of a tempo, or of a length that four bytes don't hold
         length = (len(file) - 22).to_bytes(4, "big") if len(file) - 22 < 2 ** 32 else [None] * 4
+        head = [*b"MThd\0\0\0\6\0\0\0\1\0\x60MTrk", *length]
         event = [96, 255, 81, 3, None, None, None]
-        shape = [*b"MThd\0\0\0\6\0\0\0\1\0\x60MTrk", *length, 0, *event[1:], *(count - 1) * event, 96, 255, 47, 0]
-        at = next((at for at, (is_, needed) in enumerate(zip(file, shape)) if needed not in (None, is_)), None)
+        shape = itertools.chain(head, [0], event[1:], itertools.chain.from_iterable(itertools.repeat(event, count - 1)), [96, 255, 47, 0])
+        at, needed = next(((at, needed) for at, (is_, needed) in enumerate(zip(file, shape)) if needed not in (None, is_)), (None, None))
         if at is not None:
-            return f"{name}[{at}] is {file[at]}, {shape[at]} needed"
-        event = next((k for k in range(count) if not any(file[26 + 7 * k:][:3])), None)
+            return f"{name}[{at}] is {file[at]}, {needed} needed"
+        event = next((k for k in range(count) if not any(file[26 + 7 * k:29 + 7 * k])), None)
         return "" if event is None else f"{name}: tempo {event + 1:,} of it is 0"
     return 8, look
 

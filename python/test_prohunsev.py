@@ -534,6 +534,9 @@ class Refusals(unittest.TestCase):
             self.refuses(8, f"file[{at}] is {value}, {needed} needed", read, changed(at, [value]))
         self.refuses(8, "file[21] is 18, 11 needed", read, changed(0, b"", 33))
         self.refuses(8, "file: tempo 2 of it is 0", read, changed(33, [0, 0, 0]))
+        long = bytearray(ph.write_tempo_track(array("I", range(300_001)), 192_000))
+        long[-7:-4] = bytes(3)
+        self.refuses(8, "file: tempo 300,000 of it is 0", read, bytes(long))  # told in time proportional to the file
         self.refuses(8, "file[0] is 0, 77 needed", into, changed(0, [0]), frame_room(0))
         self.refuses(3, "gaps: 1 slot lent, 2 needed", into, changed(0, b""), frame_room(1))
 

@@ -51,7 +51,7 @@ fn every_frame_there_is() {
     assert_eq!(file.len(), rooms::tempo_track(beats.len()));
     let gaps = read_tempo_track(&file).unwrap();
     assert_eq!((gaps.len(), rooms::tempo_gaps(file.len())), (1_048_575, 1_048_575));
-    // the gaps add up to the time from the first beat to the last, with no rounding but its own
+    // the gaps add up to the last beat's rounded time less the first beat's
     assert_eq!(gaps.iter().map(|&gap| u64::from(gap)).sum::<u64>(), 1_398_100_000);
 }
 

@@ -515,8 +515,8 @@ static void files(struct run *run)
     const uint32_t grid[4] = {0, 94, 188, 282}, equal[3] = {0, 94, 94}, back[2] = {94, 0}, past[3] = {5, 5, PROHUNSEV_MOST_FRAME + 1};
     const uint32_t longest[2] = {1, 1736}, longer[2] = {3, 1738}, halves[4] = {0, 1, 2, 3};
     uint8_t file[50], other[48];
-    uint32_t gaps[5];
-    size_t count = POISON_SIZE;
+    uint32_t gaps[5], scratch[3];
+    size_t count = POISON_SIZE, scratch_count;
 
     /* 1, 6, 7 and then 3, and nothing is written */
     memset(file, 0xA5, sizeof file);
@@ -550,7 +550,7 @@ static void files(struct run *run)
         int in_a_tempo = i >= 26 && i < 43 && (i - 22) % 7 >= 4;
         memcpy(other, track, 47);
         other[i] ^= 0x10;
-        CHECK(in_a_tempo || ph_read_tempo_track(other, 47, gaps, 5, &count) == PROHUNSEV_OTHER_SHAPE);
+        CHECK(ph_read_tempo_track(other, 47, scratch, 3, &scratch_count) == (in_a_tempo ? 0 : PROHUNSEV_OTHER_SHAPE));
     }
     memcpy(other, track, 47);
     other[47] = 0;

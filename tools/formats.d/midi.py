@@ -55,6 +55,8 @@ def by_csvmidi(told):
     lines += [", ".join(["0" if event[1] == "End_of_file" else "1", *map(str, event)]) for event in events]
     (room / "one.csv").write_text("\n".join(lines) + "\n")
     done = subprocess.run(["csvmidi", str(room / "one.csv")], capture_output=True)
+    if done.returncode or not done.stdout.startswith(b"MThd"):
+        sys.exit(f"formats: csvmidi wrote no file: {done.stderr.decode(errors='replace').strip()}")
     return done.stdout
 
 
@@ -272,6 +274,8 @@ for _ in range(4 * count):
         file = file or bytearray(1)
     taken(bytes(file), about(len(gaps)))
 
+if not (read and refused and files):
+    wrong.append("nothing that they wrote otherwise was both read and refused")
 version = ".".join(map(str, mido.version_info[:3])) if hasattr(mido, "version_info") else ""
 print(f"formats: {count} grids of {tempos} tempos, read by midicsv and by mido {version}; of"
       f" {read + refused} files that they wrote otherwise {read} read and {refused} refused with 8; gaps at the bound {edges}")
