@@ -24,7 +24,7 @@ use Rattle.midi.proofs.Tracks as tracks
 
 -- ---- a file, read
 
-module _ {gaps slots : List ℕ} {answer : Listing} {after : List ℕ} where
+module _ (gaps slots : List ℕ) {answer : Listing} {after : List ℕ} where
   shaped-read : (file : List ℕ) → file ≡ fileOf gaps → shaped (fileOf gaps) ≡ true → length gaps ≤ length slots → TempoGapsPromise file slots answer after
       → (answer .number ≡ 0) × (answer .count ≡ length gaps) × (after ≡ listed gaps slots)
   shaped-read file f e room p =
@@ -43,9 +43,9 @@ module _ {gaps slots : List ℕ} {answer : Listing} {after : List ℕ} where
   read-of-file some fits nonzero = shaped-read (fileOf gaps) refl (shaped-back gaps some fits nonzero)
 
 -- "it takes exactly this shape": a file that is accepted is the file of the gaps that were listed, and nothing else
-pub written-of-read : {file slots : List ℕ} {answer : Listing} {after : List ℕ} → TempoGapsPromise file slots answer after → answer .number ≡ 0
+pub written-of-read : (file slots : List ℕ) {answer : Listing} {after : List ℕ} → TempoGapsPromise file slots answer after → answer .number ≡ 0
     → fileOf (take (answer .count) after) ≡ file
-written-of-read {file} {slots} {answer} {after} p n =
+written-of-read file slots {answer} {after} p n =
     let z : readRefusal file (length slots) ≡ 0 = sym (p .number-is) ∙ n in
     let gs = gapsIn file in
     let c : answer .count ≡ length gs = p .count-is ∙ passed-does _ _ 0 z in
@@ -54,7 +54,7 @@ written-of-read {file} {slots} {answer} {after} p n =
 
 -- ---- a grid, written
 
-module _ {beats : List ℕ} {rate : ℕ} {was : List ℕ} {answer : Listing} {after : List ℕ} (p : TempoTrackPromise beats rate was answer after) where
+module _ (beats : List ℕ) (rate : ℕ) (was : List ℕ) {answer : Listing} {after : List ℕ} (p : TempoTrackPromise beats rate was answer after) where
   -- 8 can't arise: two frames lie 1,333 microseconds apart or more
   pub never-eight : answer .number ≡ 8 → ⊥
   never-eight e = tracks.never-eight rate beats (length was) (sym (p .number-is) ∙ e)
@@ -84,11 +84,11 @@ module _ {beats : List ℕ} {rate : ℕ} {was : List ℕ} {answer : Listing} {af
         omega (arith, gaps-reach rate (r .rate-some) (r .rate-most) beats (r .ascends) i l)
 
     -- "reading what was written returns them": the bytes that were written, read with a slot for each gap
-    pub read-of-written : {slots : List ℕ} {told : Listing} {slots′ : List ℕ} → TempoGapsPromise (take (answer .count) after) slots told slots′
+    pub read-of-written : (slots : List ℕ) {told : Listing} {slots′ : List ℕ} → TempoGapsPromise (take (answer .count) after) slots told slots′
         → length beats - 1 ≤ length slots
         → (told .number ≡ 0) × (told .count ≡ length beats - 1) × (slots′ ≡ listed (gapsOf rate beats) slots)
-    read-of-written q room =
+    read-of-written slots q room =
         let l = gaps-length rate beats in
         let e = grid-shaped beats rate (length was) (write-told beats rate (length was) answered) in
-        let r = shaped-read (take (answer .count) after) bytes-are e (omega arith) q in
+        let r = shaped-read (gapsOf rate beats) slots (take (answer .count) after) bytes-are e (omega arith) q in
         (r .0, r .1 ∙ l, r .2)
