@@ -537,6 +537,8 @@ class Refusals(unittest.TestCase):
         long = bytearray(ph.write_tempo_track(array("I", range(300_001)), 192_000))
         long[-7:-4] = bytes(3)
         self.refuses(8, "file: tempo 300,000 of it is 0", read, bytes(long))  # told in time proportional to the file
+        # no gap, in a track of four bytes
+        self.refuses(8, lengths % "26 bytes", read, array("B", good[:21] + b"\4" + good[36:]))
         self.refuses(8, "file[0] is 0, 77 needed", into, changed(0, [0]), frame_room(0))
         self.refuses(3, "gaps: 1 slot lent, 2 needed", into, changed(0, b""), frame_room(1))
 

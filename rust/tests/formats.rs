@@ -129,6 +129,9 @@ fn refusals_of_the_reader() {
         "file: 26 bytes lent, 26 and 7 for each gap needed, one at least",
         read_tempo_track(&good[..26])
     );
+    // no gap, in a track of four bytes
+    let none = [&good[..21], &[4], &good[36..]].concat();
+    refuses!(OtherShape, "file: 26 bytes lent, 26 and 7 for each gap needed, one at least", read_tempo_track(&none));
     refuses!(
         OtherShape,
         "file: 39 bytes lent, 26 and 7 for each gap needed, one at least",

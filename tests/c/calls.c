@@ -535,11 +535,13 @@ static void files(struct run *run)
     for (size_t i = 0; i < sizeof file; i++)
         CHECK(file[i] == 0xA5);
 
+    CHECK(ph_write_tempo_track(grid, 4, 48000, file, 47, &count) == 0); /* exactly its room, and more */
     CHECK(ph_write_tempo_track(grid, 4, 48000, file, 50, &count) == 0);
     CHECK(count == 47 && same(file, track, 47) && file[47] == 0xA5 && file[49] == 0xA5);
     /* as many frames as above, and one microsecond fewer: the roundings fall otherwise */
     CHECK(ph_write_tempo_track(longest, 2, 26474, file, 50, &count) == 0);
     CHECK(count == 33 && file[26] == 0xFF && file[27] == 0xFF && file[28] == 0xFF);
+    CHECK(ph_read_tempo_track(file, 33, gaps, 1, &count) == 0 && count == 1 && gaps[0] == PROHUNSEV_MOST_TEMPO);
 
     poison_frames(gaps, 5);
     count = POISON_SIZE;
@@ -555,11 +557,21 @@ static void files(struct run *run)
     memcpy(other, track, 47);
     other[47] = 0;
     CHECK(ph_read_tempo_track(other, 48, gaps, 5, &count) == PROHUNSEV_OTHER_SHAPE);
+    memcpy(other + 22, track + 43, 4); /* no gap, in a track of four bytes */
+    other[21] = 4;
+    CHECK(ph_read_tempo_track(other, 26, gaps, 5, &count) == PROHUNSEV_OTHER_SHAPE);
+    other[22] = 0;
+    CHECK(ph_read_tempo_track(other, 26, gaps, 5, &count) == PROHUNSEV_OTHER_SHAPE);
+    memcpy(other, track, 47);
+    other[9] = 1; /* another format */
+    CHECK(ph_read_tempo_track(other, 47, gaps, 0, &count) == PROHUNSEV_OTHER_SHAPE); /* before 3 */
+    other[9] = 0;
     memset(other + 33, 0, 3);
     CHECK(ph_read_tempo_track(other, 47, gaps, 5, &count) == PROHUNSEV_OTHER_SHAPE);
     CHECK(count == POISON_SIZE && kept_frames(gaps, 0, 5));
     CHECK(ph_read_tempo_track(track, 47, gaps, 5, &count) == 0);
     CHECK(count == 3 && gaps[0] == 501333 && gaps[1] == 501333 && gaps[2] == 501334 && kept_frames(gaps, 3, 5));
+    CHECK(ph_read_tempo_track(track, 47, gaps, 3, &count) == 0);
 
     /* times end in halves, which are rounded up */
     CHECK(ph_write_tempo_track(halves, 4, 32768, file, 50, &count) == 0);

@@ -265,6 +265,9 @@ for at in range(len(good)):
 for space in range(5):
     taken(good, space)
     taken(good + bytes(7 * space), 9)
+for more in range(1, 9):
+    taken(good + bytes(more), 9)
+    taken(reference.file_of([]) + bytes(more - 1), 9)
 for _ in range(4 * count):
     gaps = [r.choice([1, 16_777_215, r.randint(1, 16_777_215)]) for _ in range(r.randrange(8))]
     file = bytearray(reference.file_of(gaps))
