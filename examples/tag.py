@@ -2,15 +2,15 @@
 """From a song to its grid: onsets, tempo, beats, downbeats, stability and sections of a recording.
 
     python3 examples/tag.py SONG.wav
-    python3 examples/tag.py SONG.wav --json song.json --labels song.txt --midi song.mid --picture song.svg
+    python3 examples/tag.py SONG.wav --json song.json --labels song.txt --midi song.mid --cues song.cues --picture song.svg
 
-Says a few lines on standard output, and writes the files that are asked for: JSON, labels that Audacity imports, a MIDI file of the tempo
-from beat to beat, a picture. WAV of 8, 16, 24 or 32 bits, or float, is read here; any other file by ffmpeg or sox, where one is on the path.
-Needs Python 3.8 or newer, NumPy, and the library, as python/prohunsev.py finds it. docs/USE.md says what the answers mean, and how far to
-trust them.
+Says a few lines on standard output, and writes the files that are asked for: JSON, labels that Audacity imports, a MIDI file of the tempo from beat
+to beat, the beats as a cue chunk for a WAV file, a picture. WAV of 8, 16, 24 or 32 bits, or float, is read here; any other file by ffmpeg or sox,
+where one is on the path. Needs Python 3.8 or newer, NumPy, and the library, as python/prohunsev.py finds it. docs/USE.md says what the answers
+mean, and how far to trust them.
 
 What is proved begins at the magnitudes: flux, threshold, onsets, tempo, stability, beats, downbeats, times, similarity, novelty and
-boundaries are calls of the library, and so is the MIDI file's. Reading the file, the two transforms and the feature rows are NumPy's and are not proved.
+boundaries are calls of the library, and so are the MIDI file's and the cue chunk's. Reading the file, the two transforms and the feature rows are NumPy's and are not proved.
 
 The exit is 0 with an answer ("no tempo" is one), 1 where the song can't be read or analysed or a file can't be written, 2 for wrong use,
 130 when interrupted. A file that is asked for is written whole or not at all."""
@@ -414,6 +414,10 @@ class Tag:
                           % (self.name, "is one" if len(self.beats) else "are none"))
         return ph.write_tempo_track(self.beats, self.rate)
 
+    def as_cues(self):
+        """The beats as a cue chunk, which a WAV file of this rate may end with."""
+        return ph.write_cues(self.beats)
+
     def as_text(self):
         def line(what, words):
             return "%-10s %s" % (what, words)
@@ -747,6 +751,7 @@ def arguments(words):
     parser.add_argument("--labels", metavar="FILE", help="write sections and beats as labels that Audacity imports")
     parser.add_argument("--onsets", action="store_true", help="label the onsets too")
     parser.add_argument("--midi", metavar="FILE", help="write the tempo from beat to beat as a MIDI file, which begins on the first beat")
+    parser.add_argument("--cues", metavar="FILE", help="write the beats as a RIFF WAVE cue chunk, the chunk alone")
     parser.add_argument("--picture", metavar="FILE.svg", help="draw flux, threshold, onsets, beats, downbeats, sections and tempo, as SVG")
     parser.add_argument("--part", metavar="START-END", type=part_of, help="draw this part alone, for example 1:00-1:30; half a minute is easy to read")
     parser.add_argument("--min-bpm", type=bound_of, default=30.0, metavar="BPM",
@@ -766,7 +771,7 @@ def arguments(words):
         if ending.lower() != ".svg":
             parser.error("--picture %s: the picture is SVG, so name it %s.svg; rsvg-convert or a browser makes other pictures of it"
                          % (given.picture, start))
-    places = [os.path.realpath(p) if p != "-" else p for p in (given.json, given.labels, given.midi, given.picture) if p]
+    places = [os.path.realpath(p) if p != "-" else p for p in (given.json, given.labels, given.midi, given.cues, given.picture) if p]
     if len(set(places)) != len(places):
         parser.error("two outputs have the same name")
     return given
@@ -774,7 +779,7 @@ def arguments(words):
 
 def run(given):
     wanted = [(given.json, Tag.as_json), (given.labels, lambda song: song.as_labels(given.onsets)), (given.midi, Tag.as_midi),
-              (given.picture, lambda song: str(Picture(song, given.part)))]
+              (given.cues, Tag.as_cues), (given.picture, lambda song: str(Picture(song, given.part)))]
     wanted = [(path, made) for path, made in wanted if path]
     for path, _ in wanted:
         check_place(path, given.song)

@@ -112,7 +112,7 @@ class Answer(Room):
     @classmethod
     def setUpClass(cls):
         super().setUpClass()
-        kinds = (("json", "out.json"), ("labels", "out.labels"), ("midi", "out.mid"), ("picture", "out.svg"))
+        kinds = (("json", "out.json"), ("labels", "out.labels"), ("midi", "out.mid"), ("cues", "out.cues"), ("picture", "out.svg"))
         outs = [word for kind, name in kinds for word in ("--" + kind, cls.path(name))]
         done = subprocess.run([sys.executable, TAG, cls.song] + outs, cwd=tempfile.gettempdir(), stdout=subprocess.PIPE, check=True)
         cls.text = done.stdout.decode()
@@ -194,6 +194,18 @@ class Answer(Room):
         self.assertAlmostEqual(sum(gaps) / 1_000_000, seconds[-1] - seconds[0], delta=1.1e-6)
         done = subprocess.run([sys.executable, TAG, self.song, "--midi", "-"], cwd=tempfile.gettempdir(), stdout=subprocess.PIPE, check=True)
         self.assertEqual(done.stdout, file)
+
+    def test_cues(self):
+        with open(self.path("out.cues"), "rb") as made:
+            chunk = made.read()
+        frames = self.told["beats"]["frames"]
+        self.assertEqual((len(chunk), chunk[:4]), (12 + 24 * len(frames), b"cue "))
+        self.assertEqual(tag.ph.read_cues(chunk).tolist(), frames)
+        # the times of the labels above that are beats, by another way
+        times = [line.split("\t")[0] for line in tag.ph.cues_to_labels(chunk, piece.RATE).decode().splitlines()]
+        self.assertEqual(times, ["%.6f" % at for at in self.told["beats"]["seconds"]])
+        done = subprocess.run([sys.executable, TAG, self.song, "--cues", "-"], cwd=tempfile.gettempdir(), stdout=subprocess.PIPE, check=True)
+        self.assertEqual(done.stdout, chunk)
 
     def test_words(self):
         self.assertEqual(self.text.splitlines()[0], "piece.wav: 1:04.0 at 44,100 samples a second, 11,022 rows")
@@ -512,6 +524,10 @@ class Odd(Room):
         err = self.refused(self.path(name), "--midi", self.path("no.mid"), "--json", self.path("no.json"))
         self.assertEqual(err, "tag: %s: no MIDI file can be written: a tempo track needs two beats at least, and there are none\n" % name)
         self.assertFalse(os.path.exists(self.path("no.mid")) or os.path.exists(self.path("no.json")))
+        # no beats, a chunk of none
+        self.run_tag(self.path(name), "--cues", self.path("no.cues"))
+        with open(self.path("no.cues"), "rb") as made:
+            self.assertEqual(made.read(), b"cue \4\0\0\0\0\0\0\0")
         return out
 
     def test_short(self):
@@ -577,13 +593,14 @@ class Odd(Room):
 
     def test_places(self):
         os.link(self.song, self.path("song.svg"))
-        for kind in "--json", "--labels", "--midi", "--picture":
+        for kind in "--json", "--labels", "--midi", "--cues", "--picture":
             self.assertIn("is the song itself", self.refused(self.song, kind, self.path("song.svg")))
             self.assertIn("is a folder", self.refused(self.song, kind, self.folder))
             self.assertIn("there is no folder", self.refused(self.song, kind, self.path("no folder/x.svg")))
         os.unlink(self.path("song.svg"))
         self.run_tag(self.song, "--json", self.path("x"), "--labels", self.path("x"), status=2)
         self.run_tag(self.song, "--midi", self.path("x"), "--labels", self.path("x"), status=2)
+        self.run_tag(self.song, "--cues", self.path("x"), "--midi", self.path("x"), status=2)
         self.run_tag(self.song, "--onsets", status=2)
         self.run_tag(self.song, "--part", "1-2", status=2)
         self.run_tag(self.song, "--picture", "-", "--part", "2-1", status=2)

@@ -4,7 +4,7 @@
  * statements, docs/PROMISES.md says what they mean. What follows are the rules that all of them share.
  *
  * Numbers of refusal. Every function but ph_version returns one of these; each has a name below. Of 1 to 4 the lowest that applies is given; the
- * two functions of tempo tracks have an order of their own, which their comments say:
+ * functions of files have an order of their own, which their comments say:
  *   0  answered ("no tempo" and "no stability" are answers)
  *   1  a number is out of bounds: a rate outside 1 to 192,000, more than 1,048,576 magnitude rows or slots of an input that is an envelope,
  *      a flux or the curve of ph_suppress_close_peaks, bins outside 1 to 4,096, more than 50,000 feature rows or slots of ph_boundaries'
@@ -19,6 +19,9 @@
  *   6  of a tempo track's beats there are fewer than two, or they don't ascend strictly
  *   7  from one beat to the next are more than 16,777,215 microseconds, the longest tempo that three bytes hold
  *   8  a file isn't of the one shape that ph_write_tempo_track writes, or has a tempo of 0
+ *   9  a line of a label track, or a cue chunk, isn't of the one form that ph_write_labels and ph_write_cues write
+ *   10 a time of a label track at its rate, or an offset of a cue chunk, is no listed frame's
+ *   11 frames that are lent, or those of a label track or a cue chunk, don't ascend strictly
  * 5 is of the reporting program alone: a malformed header.
  * A refusal changes nothing that was lent: no slot of a slice, and none of the numbers that an answer would go into.
  *
@@ -43,6 +46,8 @@
  *   min(21, N)  the work slice of a threshold
  *   a whole track at once: what ph_room_of answers
  *   26 + 7 (k - 1) bytes for the tempo track of k beats, and one slot for each gap that is read of one
+ *   12 + 24 k bytes for the cue chunk of k frames; for their label track what ph_labels_room answers, 2 d + 21 bytes for a frame whose time has
+ *   d digits of seconds, 39 at most; and one slot for each frame that is read of one
  * Work slices hold anything after an answer, in the slots of their formula, unless the function's own comment says more;
  * ph_stability_of treats its lag curves the same way. Lists have their entries first, as many as the count says. All other slots stay
  * as they were.
@@ -50,8 +55,8 @@
  * Threads. Nothing is allocated, nothing is kept from call to call, and there is no global state: any number of threads may call any
  * of these at the same time, each with slices and numbers of its own to write into; what is only read may be shared. Every call ends.
  *
- * Stack. A call takes up to 40 KB of its thread's stack on x86-64, and none recurses. Measured on a thread's stack filled with a pattern,
- * 34,112 bytes in ph_analyse_magnitudes, the most (docs/ROOM.md).
+ * Stack. A call takes up to 40 KB of its thread's stack on x86-64; none recurses but the two that write labels, a step for each digit of a time's
+ * seconds, nine at most. Measured on a thread's stack filled with a pattern, 34,112 bytes in ph_analyse_magnitudes, the most (docs/ROOM.md).
  *
  * Times. A magnitude row is a frame: 1,024 samples, 256 after the one before it. Frame t's centre is at (256 t + 512) / rate seconds.
  * A feature row has 16 values and is `length` samples long. Beats and lags are counted in frames.
@@ -86,6 +91,9 @@ extern "C" {
 #define PROHUNSEV_WRONG_GRID 6u
 #define PROHUNSEV_GAP_TOO_LONG 7u
 #define PROHUNSEV_OTHER_SHAPE 8u
+#define PROHUNSEV_NOT_OF_THIS_FORM 9u
+#define PROHUNSEV_NO_LISTED_FRAME 10u
+#define PROHUNSEV_NOT_ASCENDING 11u
 
 /* what ph_beat_grid writes in `back` for a frame with no beat before it */
 #define PROHUNSEV_NO_LINK 4294967295u
@@ -314,6 +322,55 @@ uint32_t ph_write_tempo_track(const uint32_t *beats, size_t beats_len, uint32_t 
  * Refuses 8 for any other file, though a sequencer may read it: another header, format, division, length, delta or event, a status byte left out, a
  * byte more or fewer, no gap at all, a tempo of 0; and then 3. */
 uint32_t ph_read_tempo_track(const uint8_t *file, size_t file_len, uint32_t *gaps, size_t gaps_len, size_t *count);
+
+/* How many bytes ph_write_labels writes for these frames at this rate, in *count: 2 d + 21 for a frame whose time has d digits of seconds, which is
+ * 23 below ten seconds and 39 at most.
+ * Room: none.
+ * Refuses, in this order, 1 for the rate or a frame above 1,048,575, and 11 for frames that don't ascend strictly. */
+uint32_t ph_labels_room(const uint32_t *frames, size_t frames_len, uint32_t rate, size_t *count);
+
+/* Writes the frames as an Audacity label track: for each a line of start, tab, end, tab, the word beat and a line feed. Both times are the frame's,
+ * (256 t + 512) / rate seconds, exact, rounded half up to six decimals, with no needless zero in front: frame 0 at 48,000 is 0.010667. No frames are
+ * no bytes. *count is how many bytes the text has.
+ * Room: what ph_labels_room answers, in bytes of text; those behind them stay.
+ * Refuses, in this order, 1 for the rate or a frame above 1,048,575, 11 for frames that don't ascend strictly, and 3. */
+uint32_t ph_write_labels(const uint32_t *frames, size_t frames_len, uint32_t rate, uint8_t *text, size_t text_len, size_t *count);
+
+/* Reads the frames of such a label track, *count of them. A text that is read is, byte for byte, what the function above writes for the frames read,
+ * at this rate; any bytes may be lent, of any length.
+ * Room: one slot of frames for each line, which has 23 bytes or more; those behind them stay.
+ * Refuses, in this order and each of the whole text, 1 for the rate, 9 for a line of another form (another word, a needless zero, other than six
+ * decimals, two times that differ, a carriage return, no line feed at the end), 10 for a time that is no listed frame's at this rate, or is above
+ * the last one's, be its digits as many as they may, 11 for frames that don't ascend strictly, and 3. */
+uint32_t ph_read_labels(const uint8_t *text, size_t text_len, uint32_t rate, uint32_t *frames, size_t frames_len, size_t *count);
+
+/* Writes the frames as a cue chunk of a RIFF WAVE file, all numbers with the low byte first: the id `cue `, the size of what follows it, the count,
+ * and for each frame 24 bytes: its name, from 1 upward, the position 256 t + 512, the chunk id `data`, two fields of 0, and the sample offset 256 t
+ * + 512, a frame's centre. A chunk has no rate. It is the chunk alone: the file around it is yours, and its sizes. *count is how many bytes the
+ * chunk has.
+ * Room: 12 + 24 frames_len bytes of chunk; those behind them stay.
+ * Refuses, in this order, 1 for a frame above 1,048,575, 11 for frames that don't ascend strictly, and 3. */
+uint32_t ph_write_cues(const uint32_t *frames, size_t frames_len, uint8_t *chunk, size_t chunk_len, size_t *count);
+
+/* Reads the frames of such a chunk, *count of them. A chunk that is read is, byte for byte, what the function above writes for the frames read; any
+ * bytes may be lent, of any length.
+ * Room: (chunk_len - 12) / 24 slots of frames, one a point; those behind them stay.
+ * Refuses, in this order and each of the whole chunk, 9 for one of another form, though a player may read it: another id, size, count or length, a
+ * name, chunk id or field that isn't as said, a position that isn't the sample offset; 10 for an offset that is no listed frame's, 11 for frames
+ * that don't ascend strictly, and 3. */
+uint32_t ph_read_cues(const uint8_t *chunk, size_t chunk_len, uint32_t *frames, size_t frames_len, size_t *count);
+
+/* The cue chunk of a label track's frames, in one call and with no frames lent: what ph_write_cues writes for what ph_read_labels reads. *count is
+ * how many bytes the chunk has; no labels are a chunk of count 0.
+ * Room: 12 bytes of chunk and 24 for each line; those behind them stay.
+ * Refuses, in this order, 1, 9, 10 and 11 as ph_read_labels does, and 3. */
+uint32_t ph_labels_to_cues(const uint8_t *text, size_t text_len, uint32_t rate, uint8_t *chunk, size_t chunk_len, size_t *count);
+
+/* The label track of a cue chunk's frames at this rate: what ph_write_labels writes for what ph_read_cues reads. *count is how many bytes the text
+ * has; a chunk of count 0 is no labels. The two conversions, one after the other at the same rate, give back the same bytes.
+ * Room: 2 d + 21 bytes of text for a point whose time has d digits of seconds, 39 at most; those behind them stay.
+ * Refuses, in this order, 1 for the rate, 9, 10 and 11 as ph_read_cues does, and 3. */
+uint32_t ph_cues_to_labels(const uint8_t *chunk, size_t chunk_len, uint32_t rate, uint8_t *text, size_t text_len, size_t *count);
 
 #ifdef __cplusplus
 }

@@ -16,7 +16,7 @@ A call answers, or raises Refused with the number of the refusal and what it was
 needed"), and then nothing that was lent has changed. A buffer of another kind, one that isn't contiguous, a masked array, or an output that
 can't be written raises TypeError; another shape, and an output that overlaps another slice, raises ValueError; a whole number that its C
 type cannot hold raises OverflowError; and none of these writes anything. A call that lists answers how many entries it listed: they stand
-first in the slice, and the slots behind them are unchanged. write_tempo_track and read_tempo_track make what they answer.
+first in the slice, and the slots behind them are unchanged. The calls of files make what they answer; those with _into behind their names don't.
 
 Calls hold no lock while they compute: threads run at the same time, each with outputs of its own, and may read the same inputs. A call
 that shares a slice with one of another thread that is still at work, where either writes it, raises ValueError. Only calls of this module
@@ -42,9 +42,11 @@ __version__ = "0.2.0"
 __all__ = [
     "Analysis", "BarBeat", "Buffers", "Candidate", "LagRange", "NO_LINK", "Patched", "PatchedFeatures", "Refused", "Room", "Sections",
     "Stability", "Tempo", "TempoEstimate", "TempoOpts", "adaptive_threshold", "bar_beat_at", "beat_grid", "boundaries", "boundary_times",
-    "downbeats", "estimate", "frame_times", "lag_range", "mad_of", "median_of", "novelty", "patch_features", "patch_magnitudes",
-    "pick_onsets", "read_tempo_track", "read_tempo_track_into", "room_of", "similarity", "similarity_room", "spectral_flux", "stability_of",
-    "suppress_close_peaks", "tempo_gaps_room", "tempo_track_room", "threshold_room", "write_tempo_track", "write_tempo_track_into",
+    "cue_frames_room", "cues_room", "cues_to_labels", "cues_to_labels_into", "downbeats", "estimate", "frame_times", "label_frames_room",
+    "labels_room", "labels_to_cues", "labels_to_cues_into", "lag_range", "mad_of", "median_of", "novelty", "patch_features", "patch_magnitudes",
+    "pick_onsets", "read_cues", "read_cues_into", "read_labels", "read_labels_into", "read_tempo_track", "read_tempo_track_into", "room_of",
+    "similarity", "similarity_room", "spectral_flux", "stability_of", "suppress_close_peaks", "tempo_gaps_room", "tempo_track_room",
+    "threshold_room", "write_cues", "write_cues_into", "write_labels", "write_labels_into", "write_tempo_track", "write_tempo_track_into",
 ]
 
 # what beat_grid writes in `back` for a frame with no beat before it
@@ -68,12 +70,15 @@ _SIMILARITY_WIDTH = 17
 _MEDIAN_WINDOW = 21
 _DEFAULT_METER = 4
 
+# bytes of a label whose seconds have nine digits, as the last frame's have at a rate of 1
+_LONGEST_LABEL = 39
+
 # anything with the buffer protocol, which has no type of its own before Python 3.12
 Lent = Any
 
 
 class Refused(Exception):
-    """A call refused. `number` says why; of 1 to 4 it is the lowest that applies, and the calls of tempo tracks have an order of their own, which
+    """A call refused. `number` says why; of 1 to 4 it is the lowest that applies, and the calls of files have an order of their own, which
     they say. `call` is the call's name; `detail` names what was lent and what is taken, and is empty where nothing more is known than the number."""
 
     WHY = {
@@ -88,6 +93,10 @@ class Refused(Exception):
         7: "from one beat to the next are more than 16,777,215 microseconds, the longest tempo of a track",
         8: "the file isn't of the shape that write_tempo_track writes: format 0, one track of Set Tempo events, division 96; or it has a"
            " tempo of 0",
+        9: "a line isn't START TAB END TAB beat LF with two equal times of six decimals and no needless zero, or the chunk isn't a cue chunk"
+           " as write_cues writes it",
+        10: "a time at this rate, or an offset, is that of no frame from 0 to 1,048,575",
+        11: "frames don't ascend strictly",
     }
 
     def __init__(self, call: str, number: int, detail: str = "") -> None:
@@ -273,6 +282,13 @@ _EXPORTED = {
         "downbeat_count: &mut usize"),
     "ph_write_tempo_track": "beats: &[u32], rate: u32, file: &mut [u8], count: &mut usize",
     "ph_read_tempo_track": "file: &[u8], gaps: &mut [u32], count: &mut usize",
+    "ph_labels_room": "frames: &[u32], rate: u32, count: &mut usize",
+    "ph_write_labels": "frames: &[u32], rate: u32, text: &mut [u8], count: &mut usize",
+    "ph_read_labels": "text: &[u8], rate: u32, frames: &mut [u32], count: &mut usize",
+    "ph_write_cues": "frames: &[u32], chunk: &mut [u8], count: &mut usize",
+    "ph_read_cues": "chunk: &[u8], frames: &mut [u32], count: &mut usize",
+    "ph_labels_to_cues": "text: &[u8], rate: u32, chunk: &mut [u8], count: &mut usize",
+    "ph_cues_to_labels": "chunk: &[u8], rate: u32, text: &mut [u8], count: &mut usize",
 }
 # ---- up to here
 
@@ -760,6 +776,11 @@ def _value(name):
     return 4, lambda n: "" if abs(getattr(n, name)) <= _VALUE[0] else f"{name} is {getattr(n, name)}: {_VALUE[1]}"
 
 
+def _microseconds(frame, rate):
+    # half up, as the calls have it
+    return ((256 * frame + 512) * 2_000_000 + rate) // (2 * rate)
+
+
 def _grid(name):
     def look(n):
         beats = n.of(name)
@@ -772,8 +793,7 @@ def _grid(name):
 
 def _gaps(name):
     def look(n):
-        # half up, as the call has it
-        times = [((256 * beat + 512) * 2_000_000 + n.rate) // (2 * n.rate) for beat in n.of(name)]
+        times = [_microseconds(beat, n.rate) for beat in n.of(name)]
         at = next((at for at in range(1, len(times)) if times[at] - times[at - 1] > _MOST_TEMPO), 0)
         gap = times[at] - times[at - 1] if at else 0
         return f"{name}[{at}] is {gap:,} microseconds after the one before it, at most {_MOST_TEMPO:,}" if at else ""
@@ -799,9 +819,112 @@ def _tempo_track(name):
     return 8, look
 
 
+def _ascending(name):
+    def look(n):
+        frames = n.of(name)
+        at = next((at for at in range(1, len(frames)) if frames[at] <= frames[at - 1]), 0)
+        return f"{name}[{at}] is {frames[at]:,} and the one before it {frames[at - 1]:,}: frames ascend" if at else ""
+    return 11, look
+
+
+_LABEL = re.compile(rb"((?:0|[1-9][0-9]*)\.[0-9]{6})\t\1\tbeat\n")
+_DIGITS = re.compile(rb"[0-9]*")
+
+
+def _misfit(text, at):
+    """Of a line that begins here and isn't of the form: the first byte that is not, and what it should be."""
+    digits = _DIGITS.match(text, at).group()
+    if not digits:
+        return at, "a digit"
+    zero = digits[:1] == b"0"
+    point = at + (1 if zero else len(digits))
+    if text[point:point + 1] != b".":
+        return point, "a point" if zero else "a digit or a point"
+    decimals = len(_DIGITS.match(text, point + 1).group())
+    if decimals < 6:
+        return point + 1 + decimals, "a digit"
+    past = point + 7
+    for part, needed in ((b"\t", "a tab"), (text[at:past], "the start again"), (b"\t", "a tab"), (b"beat", "the word beat"), (b"\n", "a line feed")):
+        for byte in part:
+            if text[past:past + 1] != bytes([byte]):
+                return past, needed
+            past += 1
+    return past, ""
+
+
+def _frame_of(time, rate):
+    """The one listed frame that has a time at a rate, or None. A time of more digits than the last frame's has none."""
+    if len(time) > 20:
+        return None
+    time = int(time.replace(b".", b""))
+    frame = max(0, -((1_024_000_000 + rate - 2 * rate * time) // 512_000_000))
+    return frame if frame <= _MOST_FRAME and _microseconds(frame, rate) == time else None
+
+
+def _label_bytes(frames, rate):
+    return sum(21 + 2 * len(str(_microseconds(frame, rate) // 1_000_000)) for frame in frames)
+
+
+def _labels(name):
+    """A label track at a rate: its form, its times, and the order of its frames."""
+    def form(n):
+        text, at, line = bytes(n.of(name)), 0, 1
+        while at < len(text):
+            found = _LABEL.match(text, at)
+            if not found:
+                at, needed = _misfit(text, at)
+                place = f"[{at}] is {text[at]}" if at < len(text) else " ends here"
+                return f"{name}{place}, {needed} needed: line {line:,}"
+            at, line = found.end(), line + 1
+        return ""
+
+    def frames(n):
+        return [_frame_of(time, n.rate) for time in _LABEL.findall(bytes(n.of(name)))]
+
+    def times(n):
+        line = next((line for line, frame in enumerate(frames(n), 1) if frame is None), 0)
+        return f"{name}: the time of line {line:,} is that of no frame up to {_MOST_FRAME:,} at rate {n.rate:,}" if line else ""
+    return (9, form), (10, times), (11, lambda n: _backward(name, "line", frames(n)))
+
+
+def _backward(name, part, frames):
+    at = next((at for at in range(1, len(frames)) if frames[at] <= frames[at - 1]), 0)
+    return f"{name}: {part} {at + 1:,} is frame {frames[at]:,} and the one before it {frames[at - 1]:,}: frames ascend" if at else ""
+
+
+def _offsets(chunk):
+    return [int.from_bytes(chunk[at:at + 4], "little") for at in range(32, len(chunk), 24)]
+
+
+def _cues(name):
+    """A cue chunk: its form, its offsets, and the order of its frames."""
+    def form(n):
+        chunk = bytes(n.of(name))
+        count = cue_frames_room(len(chunk))
+        if len(chunk) != cues_room(count):
+            return f"{name}: {_many(len(chunk), 'byte')} lent, 12 and 24 for each point needed"
+
+        def point(k):
+            at = chunk[16 + 24 * k:20 + 24 * k]
+            return (k + 1).to_bytes(4, "little") + at + b"data" + bytes(8) + at
+        # a size that four bytes don't hold is never found
+        if len(chunk) - 8 < 2 ** 32:
+            shape = b"".join([b"cue ", (len(chunk) - 8).to_bytes(4, "little"), count.to_bytes(4, "little"), *map(point, range(count))])
+            at = next((at for at, (is_, needed) in enumerate(zip(chunk, shape)) if is_ != needed), None)
+            return "" if at is None else f"{name}[{at}] is {chunk[at]}, {shape[at]} needed"
+        return ""
+
+    def offsets(n):
+        at, is_ = next(((at, is_) for at, is_ in enumerate(_offsets(bytes(n.of(name))), 1)
+                        if is_ % 256 or not 512 <= is_ <= 256 * _MOST_FRAME + 512), (0, 0))
+        return f"{name}: the offset of point {at:,} is {is_:,}, which is 256 t + 512 for no frame t up to {_MOST_FRAME:,}" if at else ""
+    return (9, form), (10, offsets), (11, lambda n: _backward(name, "point", [offset // 256 - 2 for offset in _offsets(bytes(n.of(name)))]))
+
+
 _RATE, _METER = _number("rate", *_TAKEN["rate"]), _number("meter", *_TAKEN["meter"])
 _ROWS = (_number("rows", 0, _MOST_ROWS), _number("bins", *_TAKEN["bins"]), _table("magnitudes", "bins"))
 _FEATURE_ROWS, _LENGTH = _number("rows", 0, _MOST_FEATURE_ROWS), _number("length", *_TAKEN["length"])
+_FRAMES = _entries("frames", _MOST_FRAME), _ascending("frames")
 _LAG_CURVES = tuple(_room(name, lambda n: n.lags) for name in ("clarity", "weight", "work"))
 
 
@@ -857,6 +980,14 @@ _TAKES = {
     "analyse_magnitudes": (*_track("rows", _ROWS, ("flux",)), _values("magnitudes", _MAGNITUDE)),
     "write_tempo_track": (_RATE, _entries("beats", _MOST_FRAME), _grid("beats"), _gaps("beats"), _room("file", lambda n: tempo_track_room(n.beats))),
     "read_tempo_track": (_tempo_track("file"), _room("gaps", lambda n: tempo_gaps_room(n.file))),
+    "labels_room": (_RATE, *_FRAMES),
+    "write_labels": (_RATE, *_FRAMES, _room("text", lambda n: _label_bytes(n.of("frames"), n.rate))),
+    "read_labels": (_RATE, *_labels("text"), _room("frames", lambda n: bytes(n.of("text")).count(b"\n"))),
+    "write_cues": (*_FRAMES, _room("chunk", lambda n: cues_room(n.frames))),
+    "read_cues": (*_cues("chunk"), _room("frames", lambda n: cue_frames_room(n.chunk))),
+    "labels_to_cues": (_RATE, *_labels("text"), _room("chunk", lambda n: cues_room(bytes(n.of("text")).count(b"\n")))),
+    "cues_to_labels": (_RATE, *_cues("chunk"),
+                       _room("text", lambda n: _label_bytes([offset // 256 - 2 for offset in _offsets(bytes(n.of("chunk")))], n.rate))),
 }
 
 
@@ -1098,6 +1229,123 @@ def read_tempo_track_into(file: Lent, gaps: Lent) -> int:
     """read_tempo_track into slots that are lent. Answers how many gaps there are; slots behind them stay. Refused with 3, last of all, where
     they are fewer. Room: tempo_gaps_room(len(file)) slots of gaps."""
     return _listed("read_tempo_track_into", _bytes("file", file), _frames_out("gaps", gaps), of="read_tempo_track")
+
+
+def labels_room(frames: Lent, rate: int) -> int:
+    """Bytes of the label track of these frames at this rate: 2 d + 21 for a frame whose time has d digits of seconds, which is 23 below ten
+    seconds and 39 at most. Refused, in this order, with 1 for the rate or a frame above 1,048,575, with 11 for frames that don't ascend strictly."""
+    return _listed("labels_room", _frames("frames", frames), _small("rate", rate))
+
+
+def label_frames_room(size: int) -> int:
+    """Slots of frames for a label track of so many bytes, at most: a line has 23 bytes or more."""
+    return max(size, 0) // 23
+
+
+def cues_room(frames: int) -> int:
+    """Bytes of the cue chunk of so many frames: 12, and 24 for each."""
+    return 12 + 24 * max(frames, 0)
+
+
+def cue_frames_room(size: int) -> int:
+    """Slots of frames for a cue chunk of so many bytes: one for each point."""
+    return max(size - 12, 0) // 24
+
+
+def write_labels(frames: Lent, rate: int) -> bytes:
+    """The frames as an Audacity label track: for each a line of start, tab, end, tab, the word beat and a line feed.
+    pathlib.Path("track.txt").write_bytes(..) makes a file of it, which Audacity imports.
+
+    Both times are the frame's, (256 t + 512) / rate seconds, exact, rounded half up to six decimals, with no needless zero in front. No frames are
+    no bytes. Refused, in this order, with 1 for the rate or a frame above 1,048,575, with 11 for frames that don't ascend strictly."""
+    text = bytearray(_LONGEST_LABEL * _count(frames, 4))
+    count = _listed("write_labels", _frames("frames", frames), _small("rate", rate), _bytes_out("text", text))
+    return bytes(text[:count])
+
+
+def write_labels_into(frames: Lent, rate: int, text: Lent) -> int:
+    """write_labels into bytes that are lent. Answers how many bytes the text has; those behind it stay. Refused with 3, last of all, where they
+    are fewer. Room: labels_room(frames, rate) bytes of text."""
+    return _listed("write_labels_into", _frames("frames", frames), _small("rate", rate), _bytes_out("text", text), of="write_labels")
+
+
+def read_labels(text: Lent, rate: int) -> array.array:
+    """The frames of a label track that write_labels wrote at this rate, as uint32 values.
+
+    It takes exactly that form: a text that is read is, byte for byte, the text written for these frames; any bytes may be lent. Refused, in this
+    order and each of the whole text, with 1 for the rate, with 9 for a line of another form, though Audacity may read it, with 10 for a time that is
+    no listed frame's at this rate, with 11 for frames that don't ascend strictly."""
+    frames = array.array("I", bytes(4 * label_frames_room(_count(text, 1))))
+    count = _listed("read_labels", _bytes("text", text), _small("rate", rate), _frames_out("frames", frames))
+    return frames[:count]
+
+
+def read_labels_into(text: Lent, rate: int, frames: Lent) -> int:
+    """read_labels into slots that are lent. Answers how many frames there are; slots behind them stay. Refused with 3, last of all, where they
+    are fewer. Room: one slot of frames for each line, label_frames_room(len(text)) at most."""
+    return _listed("read_labels_into", _bytes("text", text), _small("rate", rate), _frames_out("frames", frames), of="read_labels")
+
+
+def write_cues(frames: Lent) -> bytes:
+    """The frames as a cue chunk of a RIFF WAVE file: id, size, count, and for each frame 24 bytes, whose position and sample offset are the
+    frame's centre, 256 t + 512. It is the chunk alone: the file around it is yours, and its sizes. A chunk has no rate.
+
+    Refused, in this order, with 1 for a frame above 1,048,575, with 11 for frames that don't ascend strictly."""
+    chunk = bytearray(cues_room(_count(frames, 4)))
+    count = _listed("write_cues", _frames("frames", frames), _bytes_out("chunk", chunk))
+    return bytes(chunk[:count])
+
+
+def write_cues_into(frames: Lent, chunk: Lent) -> int:
+    """write_cues into bytes that are lent. Answers how many bytes the chunk has; those behind it stay. Refused with 3, last of all, where they
+    are fewer. Room: cues_room(len(frames)) bytes of chunk."""
+    return _listed("write_cues_into", _frames("frames", frames), _bytes_out("chunk", chunk), of="write_cues")
+
+
+def read_cues(chunk: Lent) -> array.array:
+    """The frames of a cue chunk that write_cues wrote, as uint32 values.
+
+    It takes exactly that form: a chunk that is read is, byte for byte, the chunk written for these frames; any bytes may be lent. Refused, in this
+    order and each of the whole chunk, with 9 for one of another form, though a player may read it, with 10 for an offset that is no listed frame's,
+    with 11 for frames that don't ascend strictly."""
+    frames = array.array("I", bytes(4 * cue_frames_room(_count(chunk, 1))))
+    count = _listed("read_cues", _bytes("chunk", chunk), _frames_out("frames", frames))
+    return frames[:count]
+
+
+def read_cues_into(chunk: Lent, frames: Lent) -> int:
+    """read_cues into slots that are lent. Answers how many frames there are; slots behind them stay. Refused with 3, last of all, where they
+    are fewer. Room: cue_frames_room(len(chunk)) slots of frames."""
+    return _listed("read_cues_into", _bytes("chunk", chunk), _frames_out("frames", frames), of="read_cues")
+
+
+def labels_to_cues(text: Lent, rate: int) -> bytes:
+    """The cue chunk of a label track's frames: what write_cues writes for what read_labels reads, with no frames in between. No labels are a
+    chunk of count 0. With cues_to_labels at the same rate it gives back the same bytes, either way. Refused as read_labels is."""
+    chunk = bytearray(cues_room(label_frames_room(_count(text, 1))))
+    count = _listed("labels_to_cues", _bytes("text", text), _small("rate", rate), _bytes_out("chunk", chunk))
+    return bytes(chunk[:count])
+
+
+def labels_to_cues_into(text: Lent, rate: int, chunk: Lent) -> int:
+    """labels_to_cues into bytes that are lent. Answers how many bytes the chunk has; those behind it stay. Refused with 3, last of all, where they
+    are fewer. Room: 12 bytes of chunk, and 24 for each line."""
+    return _listed("labels_to_cues_into", _bytes("text", text), _small("rate", rate), _bytes_out("chunk", chunk), of="labels_to_cues")
+
+
+def cues_to_labels(chunk: Lent, rate: int) -> bytes:
+    """The label track of a cue chunk's frames at this rate: what write_labels writes for what read_cues reads, with no frames in between. A chunk
+    of count 0 is no labels. With labels_to_cues at the same rate it gives back the same bytes, either way. Refused, in this order, with 1 for the
+    rate, and then as read_cues is."""
+    text = bytearray(_LONGEST_LABEL * cue_frames_room(_count(chunk, 1)))
+    count = _listed("cues_to_labels", _bytes("chunk", chunk), _small("rate", rate), _bytes_out("text", text))
+    return bytes(text[:count])
+
+
+def cues_to_labels_into(chunk: Lent, rate: int, text: Lent) -> int:
+    """cues_to_labels into bytes that are lent. Answers how many bytes the text has; those behind it stay. Refused with 3, last of all, where they
+    are fewer. Room: 2 d + 21 bytes of text for a point whose time has d digits of seconds, 39 at most."""
+    return _listed("cues_to_labels_into", _bytes("chunk", chunk), _small("rate", rate), _bytes_out("text", text), of="cues_to_labels")
 
 
 # ---- a whole track

@@ -9,6 +9,7 @@ import pickle
 import random
 import re
 import shlex
+import struct
 import subprocess
 import sys
 import tempfile
@@ -542,6 +543,97 @@ class Refusals(unittest.TestCase):
         self.refuses(8, "file[0] is 0, 77 needed", into, changed(0, [0]), frame_room(0))
         self.refuses(3, "gaps: 1 slot lent, 2 needed", into, changed(0, b""), frame_room(1))
 
+    def test_lists_of_frames(self):
+        above, falls = "frames[2] is 1,048,576, at most 1,048,575", "frames[2] is 7 and the one before it 7: frames ascend"
+        byte_room = lambda size: array("B", [7]) * size
+        for call in (ph.labels_room, ph.write_labels):
+            self.refuses(1, "rate 0, 1 to 192,000", call, frames(7, 7), 0)
+            self.refuses(1, "rate 192,001, 1 to 192,000", call, frames(), 192_001)
+            self.refuses(1, above, call, frames(5, 5, 1_048_576), 1)
+            self.refuses(11, falls, call, frames(0, 7, 7, 6), 1)
+        self.refuses(1, above, ph.write_cues, frames(5, 5, 1_048_576))
+        self.refuses(11, falls, ph.write_cues, frames(0, 7, 7, 6))
+        # room comes last
+        self.refuses(1, "rate 0, 1 to 192,000", ph.write_labels_into, frames(), 0, byte_room(0))
+        self.refuses(1, above, ph.write_labels_into, frames(5, 5, 1_048_576), 1, byte_room(0))
+        self.refuses(11, falls, ph.write_labels_into, frames(0, 7, 7), 1, byte_room(0))
+        self.refuses(3, "text: 70 slots lent, 71 needed", ph.write_labels_into, frames(0, 94, 1_874), RATE, byte_room(70))
+        self.refuses(1, above, ph.write_cues_into, frames(5, 5, 1_048_576), byte_room(0))
+        self.refuses(11, falls, ph.write_cues_into, frames(0, 7, 7), byte_room(0))
+        self.refuses(3, "chunk: 59 slots lent, 60 needed", ph.write_cues_into, frames(0, 94), byte_room(59))
+        self.refuses(3, "chunk: 11 slots lent, 12 needed", ph.write_cues_into, frames(), byte_room(11))
+
+    def test_label_tracks(self):
+        line, both = b"0.512000\t0.512000\tbeat\n", (ph.read_labels, ph.labels_to_cues)
+        for other, words in ((b" 7.000000\t7.000000\tbeat\n", "text[23] is 32, a digit"), (b"\n", "text[23] is 10, a digit"),
+                             (b"-1.000000\t-1.000000\tbeat\n", "text[23] is 45, a digit"), (b"07.000000\t07.000000\tbeat\n", "text[24] is 55, a point"),
+                             (b"7,000000\t7,000000\tbeat\n", "text[24] is 44, a digit or a point"), (b".000000\t.000000\tbeat\n", "text[23] is 46, a digit"),
+                             (b"7.00000\t7.00000\tbeat\n", "text[30] is 9, a digit"), (b"7.0000000\t7.0000000\tbeat\n", "text[31] is 48, a tab"),
+                             (b"7.000000\t7.000001\tbeat\n", "text[39] is 49, the start again"),
+                             (b"7.000000\t17.000000\tbeat\n", "text[32] is 49, the start again"), (b"7.000000\t7.000000 beat\n", "text[40] is 32, a tab"),
+                             (b"7.000000\t7.000000\tBeat\n", "text[41] is 66, the word beat"), (b"7.000000\t7.000000\tbeats\n", "text[45] is 115, a line feed"),
+                             (b"7.000000\t7.000000\tbeat\r\n", "text[45] is 13, a line feed"), (b"7.000000\t7.000000\tbeat", "text ends here, a line feed"),
+                             (b"7.000000\t", "text ends here, the start again"), (b"712", "text ends here, a digit or a point")):
+            for call in both:
+                self.refuses(9, words + " needed: line 2", call, array("B", line + other), RATE)
+        none, falls = array("B", line + b"0.512001\t0.512001\tbeat\n"), array("B", line + b"0.010667\t0.010667\tbeat\n")
+        no_time = "text: the time of line %d is that of no frame up to 1,048,575 at rate %s"
+        no_rise = "text: line 2 is frame %d and the one before it 94: frames ascend"
+        for call in both:
+            self.refuses(1, "rate 0, 1 to 192,000", call, none, 0)
+            self.refuses(10, no_time % (2, "48,000"), call, none, RATE)
+            self.refuses(10, no_time % (1, "44,100"), call, none, 44_100)
+            self.refuses(11, no_rise % 0, call, falls, RATE)
+            self.refuses(11, no_rise % 94, call, array("B", 2 * line), RATE)
+            # each of the whole text before the next: 9, 10, 11
+            self.refuses(10, no_time % (3, "48,000"), call, falls + array("B", b"7.000000\t7.000000\tbeat\n"), RATE)
+            self.refuses(9, "text[70] is 48, a point needed: line 4", call, none + array("B", line + b"00.512000"), RATE)
+            # seconds of any number of digits are of the form, and no frame's
+            # the last one's would be a frame's, were it to wrap round at 64 bits
+            for time in (b"9" * 20, b"9" * 1_000, b"9" * 9_000, b"18446744073710"):
+                self.refuses(10, no_time % (1, "48,000"), call, array("B", time + b".063616\t" + time + b".063616\tbeat\n"), RATE)
+        # room comes last
+        two = array("B", b"0.010667\t0.010667\tbeat\n" + line)
+        self.refuses(11, no_rise % 0, ph.read_labels_into, falls, RATE, frame_room(0))
+        self.refuses(3, "frames: 1 slot lent, 2 needed", ph.read_labels_into, two, RATE, frame_room(1))
+        self.refuses(11, no_rise % 0, ph.labels_to_cues_into, falls, RATE, array("B"))
+        self.refuses(3, "chunk: 59 slots lent, 60 needed", ph.labels_to_cues_into, two, RATE, array("B", bytes(59)))
+
+    def test_cue_chunks(self):
+        good = ph.write_cues(frames(0, 94))
+
+        def both(number, words, chunk, rate=RATE):
+            self.refuses(number, words, ph.read_cues, array("B", chunk))
+            self.refuses(number, words, ph.cues_to_labels, array("B", chunk), rate)
+
+        def changed(*changes):
+            chunk = bytearray(good)
+            for at, value in changes:
+                chunk[at:at + len(value)] = value
+            return chunk
+
+        for size in (0, 1, 11, 13, 35, 59):
+            both(9, f"chunk: {size} byte{'' if size == 1 else 's'} lent, 12 and 24 for each point needed", good[:size])
+        both(9, "chunk: 61 bytes lent, 12 and 24 for each point needed", good + b"0")
+        for at, value, needed in ((0, 67, 99), (3, 0, 32), (4, 60, 52), (7, 1, 0), (8, 1, 2), (12, 0, 1), (15, 1, 0), (20, 68, 100), (24, 1, 0), (31, 9, 0),
+                                  (33, 0, 2), (36, 1, 2), (57, 97, 96), (59, 1, 0)):
+            both(9, f"chunk[{at}] is {value}, {needed} needed", changed((at, [value])))
+        both(9, "chunk[4] is 52, 28 needed", good[:36])
+        # a position is told where the offset, which is to be the same, differs from it
+        both(9, "chunk[57] is 96, 97 needed", changed((41, [97])))
+        none, falls = changed((40, b"\1\2"), (56, b"\1\2")), changed((40, b"\0\2"), (56, b"\0\2"))
+        no_frame = "chunk: the offset of point 2 is %s, which is 256 t + 512 for no frame t up to 1,048,575"
+        both(10, no_frame % "513", none)
+        for offset in (0, 256, 511, 268_435_968, 2 ** 32 - 1):
+            both(10, no_frame % f"{offset:,}", changed((40, offset.to_bytes(4, "little")), (56, offset.to_bytes(4, "little"))))
+        both(11, "chunk: point 2 is frame 0 and the one before it 0: frames ascend", falls)
+        self.refuses(1, "rate 0, 1 to 192,000", ph.cues_to_labels, array("B", none), 0)
+        # room comes last
+        self.refuses(9, "chunk[12] is 0, 1 needed", ph.read_cues_into, array("B", changed((12, [0]))), frame_room(0))
+        self.refuses(3, "frames: 1 slot lent, 2 needed", ph.read_cues_into, array("B", good), frame_room(1))
+        self.refuses(10, no_frame % "513", ph.cues_to_labels_into, array("B", none), RATE, array("B"))
+        self.refuses(3, "text: 45 slots lent, 46 needed", ph.cues_to_labels_into, array("B", good), RATE, array("B", bytes(45)))
+
     def test_sections(self):
         self.refuses(1, "rows 50,001, 0 to 50,000", ph.similarity, room(31), 50_001, room(34))
         self.refuses(2, "features: 31 values lent, 32 needed: 2 rows of 16", ph.similarity, room(31), 2, room(34))
@@ -664,6 +756,8 @@ class Refusals(unittest.TestCase):
         for call, *words in ((ph.adaptive_threshold, pulses(4_096), room(4_095), room(21)), (ph.Buffers(1, 1).analyse_envelope, reals(1), 0),
                              (ph.downbeats, reals(1), frames(0), frame_room(1), 17),
                              (ph.write_tempo_track, frames(94, 94), RATE), (ph.read_tempo_track, b"RIFF" + bytes(29)),
+                             (ph.read_labels, b"0.5\t0.5\tbeat\n", RATE), (ph.read_cues, ph.write_cues(frames(0)).replace(b"\0\2", b"\1\2")),
+                             (ph.write_labels, frames(94, 94), RATE),
                              (ph.spectral_flux, singles(*range(7)), 4, 2, room(4)),
                              (ph.pick_onsets, room(17) + reals(math.nan), room(18), RATE, frame_room(18))):
             with self.assertRaises(ph.Refused) as caught:
@@ -713,10 +807,13 @@ class Declarations(unittest.TestCase):
             "downbeats": (d, i, i, 4), "bar_beat_at": (1.0, d, d), "similarity": (d, 1, d), "novelty": (d, 1, d),
             "boundaries": (d, 1, 1, 1, i, d), "boundary_times": (i, 1, 1, d), "patch_magnitudes": (f, 1, 1, 1, f, d, d, d),
             "patch_features": (d, 1, 1, d, d, d), "room_of": (1, 1, OPTS), "analyse_envelope": (d, 1, OPTS),
-            "analyse_magnitudes": (f, 1, 1, 1, OPTS), "write_tempo_track": (i, 1), "read_tempo_track": (b"",),
+            "analyse_magnitudes": (f, 1, 1, 1, OPTS), "write_tempo_track": (i, 1), "read_tempo_track": (b"",), "labels_room": (i, 1),
+            "write_labels": (i, 1), "read_labels": (b"", 1), "write_cues": (i,), "read_cues": (b"",), "labels_to_cues": (b"", 1), "cues_to_labels": (b"", 1),
         }
         # calls that are lent what others make, of the same functions
-        into = {"write_tempo_track_into": (i, 1, bytearray(1)), "read_tempo_track_into": (b"", i)}
+        into = {"write_tempo_track_into": (i, 1, bytearray(1)), "read_tempo_track_into": (b"", i), "write_labels_into": (i, 1, bytearray(1)),
+                "read_labels_into": (b"", 1, i), "write_cues_into": (i, bytearray(1)), "read_cues_into": (b"", i),
+                "labels_to_cues_into": (b"", 1, bytearray(1)), "cues_to_labels_into": (b"", 1, bytearray(1))}
         declared, buffers = dict(self.declared()), ph.Buffers(1, 1)
         # what the module asks the library as it loads, with types of its own
         version = ph._library.ph_version
@@ -1037,6 +1134,100 @@ class Files(unittest.TestCase):
             times = [(2_000_000 * (256 * beat + 512) + rate) // (2 * rate) for beat in beats]
             gaps = ph.read_tempo_track(ph.write_tempo_track(frames(*beats), rate))
             self.assertEqual(list(gaps), [after - before for before, after in zip(times, times[1:])])
+
+
+class Labels(unittest.TestCase):
+    """Label tracks and cue chunks: bytes made by hand, roundings, ends of the limits, what may be lent, and slots behind an answer."""
+
+    TEXT = b"0.010667\t0.010667\tbeat\n0.512000\t0.512000\tbeat\n"
+    CHUNK = (b"cue \x34\0\0\0\2\0\0\0" b"\1\0\0\0\0\2\0\0data\0\0\0\0\0\0\0\0\0\2\0\0" b"\2\0\0\0\0\x60\0\0data\0\0\0\0\0\0\0\0\0\x60\0\0")
+
+    def test_bytes_by_hand(self):
+        text, chunk = ph.write_labels(frames(0, 94), RATE), ph.write_cues(frames(0, 94))
+        self.assertEqual((text, chunk), (self.TEXT, self.CHUNK))
+        self.assertEqual((ph.labels_to_cues(text, RATE), ph.cues_to_labels(chunk, RATE)), (self.CHUNK, self.TEXT))
+        self.assertEqual({type(made) for made in (text, chunk, ph.labels_to_cues(text, RATE), ph.cues_to_labels(chunk, RATE))}, {bytes})
+        for read in (ph.read_labels(text, RATE), ph.read_cues(chunk)):
+            self.assertEqual((read.typecode, list(read)), ("I", [0, 94]))
+        self.assertEqual(ph.labels_room(frames(0, 94), RATE), 46)
+        # the rate is read: the same chunk, and another time
+        self.assertEqual(ph.cues_to_labels(chunk, 44_100), b"0.011610\t0.011610\tbeat\n0.557279\t0.557279\tbeat\n")
+        self.assertEqual(ph.write_labels(frames(0), 44_100), b"0.011610\t0.011610\tbeat\n")
+        # at 32,768 a frame is 7,812.5 microseconds: halves are rounded up
+        self.assertEqual([line[:8] for line in ph.write_labels(frames(0, 1, 2, 3), 32_768).splitlines()],
+                         [b"0.015625", b"0.023438", b"0.031250", b"0.039063"])
+        # nothing is no labels and a chunk of count 0
+        none = b"cue \4\0\0\0\0\0\0\0"
+        self.assertEqual((ph.write_labels(frames(), 1), ph.write_cues(frames())), (b"", none))
+        self.assertEqual((ph.labels_to_cues(b"", 1), ph.cues_to_labels(none, 192_000)), (none, b""))
+        self.assertEqual((list(ph.read_labels(b"", 1)), list(ph.read_cues(none)), ph.labels_room(frames(), 1)), ([], [], 0))
+
+    def test_the_ends_of_the_limits(self):
+        most = 1_048_575
+        text = ph.write_labels(frames(0, most), 1)
+        self.assertEqual(text, b"512.000000\t512.000000\tbeat\n268435712.000000\t268435712.000000\tbeat\n")
+        self.assertEqual((ph.labels_room(frames(0, most), 1), list(ph.read_labels(text, 1))), (27 + 39, [0, most]))
+        self.assertEqual(ph.write_labels(frames(most), 192_000), b"1398.102667\t1398.102667\tbeat\n")
+        self.assertEqual(ph.write_cues(frames(most))[32:], (256 * most + 512).to_bytes(4, "little"))
+        self.assertEqual([ph.label_frames_room(size) for size in (0, 22, 23, 46)], [0, 0, 1, 2])
+        self.assertEqual([ph.cues_room(count) for count in (0, 1, 2)], [12, 36, 60])
+        self.assertEqual([ph.cue_frames_room(size) for size in (0, 11, 12, 35, 36, 60)], [0, 0, 0, 0, 1, 2])
+
+    def test_slots_behind_stay(self):
+        text, chunk, held = bytearray(b"\7" * 50), bytearray(b"\7" * 63), frame_room(3)
+        self.assertEqual(ph.write_labels_into(frames(0, 94), RATE, text), 46)
+        self.assertEqual(text, self.TEXT + b"\7" * 4)
+        self.assertEqual(ph.write_cues_into(frames(0, 94), chunk), 60)
+        self.assertEqual(chunk, self.CHUNK + b"\7" * 3)
+        self.assertEqual(ph.read_labels_into(memoryview(text)[:46], RATE, held), 2)
+        self.assertEqual(list(held), [0, 94, WAS_FRAME])
+        held = frame_room(3)
+        self.assertEqual(ph.read_cues_into(memoryview(chunk)[:60], held), 2)
+        self.assertEqual(list(held), [0, 94, WAS_FRAME])
+        text, chunk = bytearray(b"\7" * 50), bytearray(b"\7" * 63)
+        self.assertEqual((ph.labels_to_cues_into(self.TEXT, RATE, chunk), ph.cues_to_labels_into(self.CHUNK, RATE, text)), (60, 46))
+        self.assertEqual((text, chunk), (self.TEXT + b"\7" * 4, self.CHUNK + b"\7" * 3))
+
+    def test_one_byte_changed(self):
+        # a digit in one of two equal times makes them differ, and so do a position and its offset: 9, whatever the byte is
+        for good, calls in ((self.TEXT, (lambda text: ph.read_labels(text, RATE), lambda text: ph.labels_to_cues(text, RATE))),
+                            (self.CHUNK, (ph.read_cues, lambda chunk: ph.cues_to_labels(chunk, RATE)))):
+            for at in range(len(good)):
+                for value in {0, 9, 10, 13, 32, 45, 46, 48, 57, 65, 255, good[at] ^ 1, good[at] + 1 & 255} - {good[at]}:
+                    for call in calls:
+                        with self.assertRaises(ph.Refused) as caught:
+                            call(good[:at] + bytes([value]) + good[at + 1:])
+                        self.assertEqual(caught.exception.number, 9, (at, value))
+
+    def test_what_may_be_lent(self):
+        for lent in (bytes, bytearray, memoryview, lambda made: array("B", made)):
+            self.assertEqual(list(ph.read_labels(lent(self.TEXT), RATE)), [0, 94])
+            self.assertEqual(list(ph.read_cues(lent(self.CHUNK))), [0, 94])
+            self.assertEqual((ph.labels_to_cues(lent(self.TEXT), RATE), ph.cues_to_labels(lent(self.CHUNK), RATE)), (self.CHUNK, self.TEXT))
+        wrong = Lending().wrong
+        wrong(TypeError, "write_labels: frames must be a contiguous buffer of uint32 values, not list", ph.write_labels, [0, 94], RATE)
+        wrong(TypeError, "format 'i'", ph.write_cues, array("i", [0, 94]))
+        wrong(TypeError, "contiguous", ph.labels_room, memoryview(frames(0, 1, 94))[::2], RATE)
+        wrong(TypeError, "rate must be a whole number, not float", ph.labels_to_cues, b"", 48e3)
+        wrong(OverflowError, "rate is -1, outside 1 to 192,000", ph.cues_to_labels, self.CHUNK, -1)
+        wrong(TypeError, "read_labels: text must be a contiguous buffer of uint8 values, not str", ph.read_labels, self.TEXT.decode(), RATE)
+        wrong(TypeError, "chunk must be a contiguous buffer of uint8 values to write into", ph.write_cues_into, frames(0), bytes(40))
+        wrong(TypeError, "frames must be a contiguous buffer of uint32 values to write into", ph.read_cues_into, self.CHUNK, reals(1))
+        both = memoryview(bytearray(self.TEXT + bytes(60)))
+        wrong(ValueError, "chunk overlaps text", ph.labels_to_cues_into, both[:46], RATE, both[45:])
+
+    def test_random_grids(self):
+        r = random.Random(6)
+        for _ in range(200):
+            rate, listed = r.choice([1, 7, 8_000, 44_100, RATE, 192_000]), sorted(r.sample(range(r.choice([40, 4_000, 1_048_576])), r.randint(0, 30)))
+            times = [(2_000_000 * (256 * frame + 512) + rate) // (2 * rate) for frame in listed]
+            text = "".join("%d.%06d\t%d.%06d\tbeat\n" % (2 * divmod(time, 1_000_000)) for time in times).encode()
+            chunk = struct.pack("<4sII", b"cue ", 4 + 24 * len(listed), len(listed)) + b"".join(
+                struct.pack("<II4sIII", k, 256 * frame + 512, b"data", 0, 0, 256 * frame + 512) for k, frame in enumerate(listed, 1))
+            self.assertEqual((ph.write_labels(frames(*listed), rate), ph.write_cues(frames(*listed))), (text, chunk))
+            self.assertEqual((list(ph.read_labels(text, rate)), list(ph.read_cues(chunk)), ph.labels_room(frames(*listed), rate)),
+                             (listed, listed, len(text)))
+            self.assertEqual((ph.labels_to_cues(text, rate), ph.cues_to_labels(chunk, rate)), (chunk, text))
 
 
 class Patches(unittest.TestCase):
@@ -1576,6 +1767,23 @@ class Arrays(unittest.TestCase):
         # four lines, and what they need
         example = text.split("```python\n")[2].split("```")[0].splitlines()
         self.assertEqual((len(example), example[0]), (5, "import pathlib"))
+
+    @unittest.skipUnless(ROOT.is_file(), "the project's README is not above this folder")
+    def test_readme_of_labels(self):
+        """The lines from labels to cue points and those back, after the examples before them."""
+        text = self.ROOT.read_text()
+        here = pathlib.Path(__file__).resolve().parent
+        with tempfile.TemporaryDirectory() as made:
+            said = self.said(text, f"PYTHONPATH={shlex.quote(str(here))} python3 FILE", made, 4).splitlines()
+            self.assertEqual(len(said), 4)
+            for line in said[2:]:
+                self.assertTrue(f"prints `{line}`" in text, "README.md says something else than " + line)
+            labels, chunk = ((pathlib.Path(made) / name).read_bytes() for name in ("track.txt", "track.cues"))
+        read = ph.read_labels(labels, RATE)
+        self.assertEqual((chunk, ph.cues_to_labels(chunk, RATE)), (ph.write_cues(read), labels))
+        self.assertEqual(said[2:], [f"{len(chunk)} {list(read[:3])}", f"True {labels[:22].split()}"])
+        # four lines each
+        self.assertEqual([len(example.split("```")[0].splitlines()) for example in text.split("```python\n")[3:5]], [4, 4])
 
     def said(self, text, command, folder, examples=1):
         """What the first Python examples of a text print, run by this command, with the Python that runs this."""

@@ -89,7 +89,7 @@ pub fn version() -> u32 {
     unsafe { ph_version() }
 }
 
-pub const CALLS: [Call; 24] = [
+pub const CALLS: [Call; 31] = [
     call!(median_of, ph_median_of, median, [1, 3, 4], s s p),
     call!(mad_of, ph_mad_of, mad, [1, 3, 4], s f s p),
     call!(spectral_flux, ph_spectral_flux, flux, [1, 2, 3, 4], s n n s),
@@ -126,6 +126,13 @@ pub const CALLS: [Call; 24] = [
     ),
     call!(write_tempo_track, ph_write_tempo_track, tempo_tracks, [1, 3, 6, 7], s u s p),
     call!(read_tempo_track, ph_read_tempo_track, tempo_files, [3, 8], s s p),
+    call!(labels_room, ph_labels_room, label_rooms, [1, 11], s u p),
+    call!(write_labels, ph_write_labels, label_tracks, [1, 3, 11], s u s p),
+    call!(read_labels, ph_read_labels, label_texts, [1, 3, 9, 10, 11], s u s p),
+    call!(write_cues, ph_write_cues, cue_chunks, [1, 3, 11], s s p),
+    call!(read_cues, ph_read_cues, cue_points, [3, 9, 10, 11], s s p),
+    call!(labels_to_cues, ph_labels_to_cues, labels_as_cues, [1, 3, 9, 10, 11], s u s p),
+    call!(cues_to_labels, ph_cues_to_labels, cues_as_labels, [1, 3, 9, 10, 11], s u s p),
 ];
 
 /// The downbeats by a call that doesn't hand the meter on (misbehave.rs).
@@ -220,6 +227,12 @@ fn reals(arg: &Arg) -> Vec<f64> {
 fn frames(arg: &Arg) -> Vec<u32> {
     match arg {
         Arg::Lent { values, .. } => values.chunks(4).map(|b| u32::from_ne_bytes(b.try_into().unwrap())).collect(),
+        _ => unreachable!("a number has no slots"),
+    }
+}
+fn bytes(arg: &Arg) -> &[u8] {
+    match arg {
+        Arg::Lent { values, .. } => values,
         _ => unreachable!("a number has no slots"),
     }
 }
@@ -1058,6 +1071,22 @@ fn track_of(gaps: &[u32]) -> Vec<u8> {
     file
 }
 
+// a third of the files are damaged somewhere
+fn damage_bytes(r: &mut Numbers, file: &mut Vec<u8>) {
+    if file.is_empty() || !r.once_in(3) {
+        return;
+    }
+    let at = r.between(0, file.len() - 1);
+    match r.between(0, 5) {
+        0 => file[at] = r.next() as u8,
+        1 => file[at] ^= 1 << r.between(0, 7),
+        2 => file.truncate(at),
+        3 => drop(file.remove(at)),
+        4 => file.insert(at, r.next() as u8),
+        _ => file.extend(vec![r.next() as u8; r.between(1, 9)]),
+    }
+}
+
 mod tempo_tracks {
     use super::*;
     pub fn draw(r: &mut Numbers) -> Vec<Arg> {
@@ -1105,17 +1134,7 @@ mod tempo_files {
         let most = r.one_of(&[2, 255, 65_535, MOST_TEMPO as usize]);
         let gaps: Vec<u32> = (0..count).map(|_| r.between(1, most) as u32).collect();
         let mut file = track_of(&gaps);
-        if r.once_in(3) {
-            let at = r.between(0, file.len() - 1);
-            match r.between(0, 5) {
-                0 => file[at] = r.next() as u8,
-                1 => file[at] ^= 1 << r.between(0, 7),
-                2 => file.truncate(at),
-                3 => drop(file.remove(at)),
-                4 => file.insert(at, r.next() as u8),
-                _ => file.extend(vec![r.next() as u8; r.between(1, 9)]),
-            }
-        }
+        damage_bytes(r, &mut file);
         vec![input(&file), output::<u32>(room(r, count)), cell::<usize>()]
     }
     pub fn bound(_: &mut Numbers, k: u64) -> Option<Vec<Arg>> {
@@ -1123,11 +1142,248 @@ mod tempo_files {
         Some(vec![input(&track_of(&vec![MOST_TEMPO; MOST_ROWS])), output::<u32>(room), cell::<usize>()])
     }
     pub fn reach(a: &[Arg], after: &After) -> Reach {
-        let Arg::Lent { values, .. } = &a[0] else { unreachable!("a file is lent") };
+        let values = bytes(&a[0]);
         let count = counted(after, 2, rooms::tempo_gaps(values.len()))?;
         let gaps = after.frames(1, count);
         must(!gaps.is_empty() && gaps.iter().all(|gap| (1..=MOST_TEMPO).contains(gap)), "a gap that no file has")?;
-        must(track_of(&gaps) == *values, "reads a file that is not written for these gaps")?;
+        must(track_of(&gaps) == values, "reads a file that is not written for these gaps")?;
         Ok(vec![(1, 0..count), all(2)])
+    }
+}
+
+// the label track of frames, by request No. 6's words
+fn labels_of(frames: &[u32], rate: usize) -> Vec<u8> {
+    let line = |&frame: &u32| {
+        let time = microseconds(frame, rate);
+        let seconds = format!("{}.{:06}", time / 1_000_000, time % 1_000_000);
+        format!("{seconds}\t{seconds}\tbeat\n")
+    };
+    frames.iter().map(line).collect::<String>().into_bytes()
+}
+// a cue chunk of these offsets, and that of frames
+fn chunk_of(offsets: &[u32]) -> Vec<u8> {
+    let count = offsets.len() as u32;
+    let mut chunk = [&b"cue "[..], &(24 * count + 4).to_le_bytes(), &count.to_le_bytes()].concat();
+    for (k, offset) in offsets.iter().enumerate() {
+        let (name, offset) = ((k as u32 + 1).to_le_bytes(), offset.to_le_bytes());
+        chunk.extend([&name[..], &offset, b"data", &[0; 8], &offset].concat());
+    }
+    chunk
+}
+fn cues_of(frames: &[u32]) -> Vec<u8> {
+    chunk_of(&frames.iter().map(|frame| 256 * frame + 512).collect::<Vec<_>>())
+}
+// the frames that a chunk's offsets are those of, whatever else is in it
+fn frames_in(chunk: &[u8]) -> Vec<u32> {
+    let points = chunk.get(12..).unwrap_or(&[]).chunks_exact(24);
+    points.map(|point| (u32::from_le_bytes(point[20..].try_into().unwrap()) / 256).wrapping_sub(2)).collect()
+}
+// frames that ascend, mostly
+fn frame_list(r: &mut Numbers) -> Vec<u32> {
+    let (count, step) = (length(r).min(300), r.one_of(&[2, 200, 3_000]));
+    let mut at = r.between(0, 900);
+    let mut frames = Vec::with_capacity(count);
+    for _ in 0..count {
+        frames.push(at as u32);
+        at += r.between(1, step);
+    }
+    if r.once_in(8) && count > 0 {
+        let k = r.between(0, count - 1);
+        frames[k] = r.one_of(&[0, frames[0], frames[count - 1], MOST_FRAME, MOST_FRAME + 1, u32::MAX]);
+    }
+    frames
+}
+// frames of an answer: a list is taken, and listed, that ascends and ends in time
+fn listed(frames: &[u32]) -> Result<(), String> {
+    ascend(frames, MOST_FRAME as usize + 1)
+}
+// every frame there is, then one more: once again, or past the last
+fn every_frame(k: u64) -> Option<Vec<u32>> {
+    let more: [&[u32]; 3] = [&[], &[MOST_FRAME], &[MOST_FRAME + 1]];
+    Some((0..=MOST_FRAME).chain(more.get(k as usize)?.iter().copied()).collect())
+}
+// a label track, its times now and then of no frame, or of very many digits
+fn text(r: &mut Numbers) -> (Vec<u8>, u32) {
+    let (frames, rate) = (frame_list(r), rate(r));
+    let mut text = labels_of(&frames, rate.clamp(1, MOST_RATE) as usize);
+    if r.once_in(6) {
+        let seconds = "123456789".repeat(r.one_of(&[1, 2, 3, 5, 120]));
+        let time = r.one_of(&["0.512001", "0.000000", "7.000000", &format!("{seconds}.512000")]).to_string();
+        text.extend(format!("{time}\t{time}\tbeat\n").into_bytes());
+    }
+    damage_bytes(r, &mut text);
+    (text, rate)
+}
+// a cue chunk, its offsets now and then of no frame
+fn chunk(r: &mut Numbers) -> Vec<u8> {
+    let mut offsets: Vec<u32> = frame_list(r).iter().map(|frame| frame.wrapping_mul(256).wrapping_add(512)).collect();
+    if r.once_in(6) && !offsets.is_empty() {
+        let k = r.between(0, offsets.len() - 1);
+        offsets[k] = r.one_of(&[0, 256, 511, offsets[k] + 1, u32::MAX, 268_435_968]);
+    }
+    let mut chunk = chunk_of(&offsets);
+    damage_bytes(r, &mut chunk);
+    chunk
+}
+fn lines(text: &[u8]) -> usize {
+    text.iter().filter(|&&byte| byte == b'\n').count()
+}
+
+mod label_rooms {
+    use super::*;
+    pub fn draw(r: &mut Numbers) -> Vec<Arg> {
+        vec![input(&frame_list(r)), whole(rate(r) as usize), cell::<usize>()]
+    }
+    pub fn bound(_: &mut Numbers, k: u64) -> Option<Vec<Arg>> {
+        Some(vec![input(&every_frame(k)?), whole(1), cell::<usize>()])
+    }
+    pub fn reach(a: &[Arg], after: &After) -> Reach {
+        let (frames, rate) = (frames(&a[0]), number(&a[1]));
+        listed(&frames)?;
+        must(
+            counted(after, 2, rooms::labels(frames.len()))? == labels_of(&frames, rate).len(),
+            "another room than the labels take",
+        )?;
+        Ok(vec![all(2)])
+    }
+}
+
+mod label_tracks {
+    use super::*;
+    pub fn draw(r: &mut Numbers) -> Vec<Arg> {
+        let (frames, rate) = (frame_list(r), rate(r));
+        let need = labels_of(&frames, rate.clamp(1, MOST_RATE) as usize).len();
+        vec![input(&frames), whole(rate as usize), output::<u8>(room(r, need)), cell::<usize>()]
+    }
+    pub fn bound(_: &mut Numbers, k: u64) -> Option<Vec<Arg>> {
+        let frames = every_frame(k)?;
+        Some(vec![input(&frames), whole(1), output::<u8>(rooms::labels(frames.len())), cell::<usize>()])
+    }
+    pub fn reach(a: &[Arg], after: &After) -> Reach {
+        let (frames, rate) = (frames(&a[0]), number(&a[1]));
+        listed(&frames)?;
+        let count = counted(after, 3, rooms::labels(frames.len()))?;
+        must(after.held[2][..count] == labels_of(&frames, rate), "another text than the frames give")?;
+        Ok(vec![(2, 0..count), all(3)])
+    }
+}
+
+mod label_texts {
+    use super::*;
+    pub fn draw(r: &mut Numbers) -> Vec<Arg> {
+        let (text, rate) = text(r);
+        vec![input(&text), whole(rate as usize), output::<u32>(room(r, lines(&text))), cell::<usize>()]
+    }
+    pub fn bound(_: &mut Numbers, k: u64) -> Option<Vec<Arg>> {
+        let (room, frames) = (MOST_ROWS - (k == 1) as usize, every_frame(k / 2)?);
+        (k < 4).then(|| {
+            vec![
+                input(&labels_of(&frames, 192_000)),
+                whole(192_000),
+                output::<u32>(room + k as usize / 2),
+                cell::<usize>(),
+            ]
+        })
+    }
+    pub fn reach(a: &[Arg], after: &After) -> Reach {
+        let (text, rate) = (bytes(&a[0]), number(&a[1]));
+        let count = counted(after, 3, rooms::label_frames(text.len()))?;
+        let frames = after.frames(2, count);
+        listed(&frames)?;
+        must(labels_of(&frames, rate) == text, "reads a text that is not written for these frames")?;
+        Ok(vec![(2, 0..count), all(3)])
+    }
+}
+
+mod cue_chunks {
+    use super::*;
+    pub fn draw(r: &mut Numbers) -> Vec<Arg> {
+        let frames = frame_list(r);
+        vec![input(&frames), output::<u8>(room(r, rooms::cues(frames.len()))), cell::<usize>()]
+    }
+    pub fn bound(_: &mut Numbers, k: u64) -> Option<Vec<Arg>> {
+        let frames = every_frame(k)?;
+        Some(vec![input(&frames), output::<u8>(rooms::cues(frames.len())), cell::<usize>()])
+    }
+    pub fn reach(a: &[Arg], after: &After) -> Reach {
+        let frames = frames(&a[0]);
+        listed(&frames)?;
+        let count = counted(after, 2, rooms::cues(frames.len()))?;
+        must(after.held[1][..count] == cues_of(&frames), "another chunk than the frames give")?;
+        Ok(vec![(1, 0..count), all(2)])
+    }
+}
+
+mod cue_points {
+    use super::*;
+    pub fn draw(r: &mut Numbers) -> Vec<Arg> {
+        let chunk = chunk(r);
+        vec![input(&chunk), output::<u32>(room(r, rooms::cue_frames(chunk.len()))), cell::<usize>()]
+    }
+    pub fn bound(_: &mut Numbers, k: u64) -> Option<Vec<Arg>> {
+        let (room, frames) = (MOST_ROWS - (k == 1) as usize, every_frame(k / 2)?);
+        (k < 4).then(|| vec![input(&cues_of(&frames)), output::<u32>(room + k as usize / 2), cell::<usize>()])
+    }
+    pub fn reach(a: &[Arg], after: &After) -> Reach {
+        let chunk = bytes(&a[0]);
+        let count = counted(after, 2, rooms::cue_frames(chunk.len()))?;
+        let frames = after.frames(1, count);
+        listed(&frames)?;
+        must(cues_of(&frames) == chunk, "reads a chunk that is not written for these frames")?;
+        Ok(vec![(1, 0..count), all(2)])
+    }
+}
+
+mod labels_as_cues {
+    use super::*;
+    pub fn draw(r: &mut Numbers) -> Vec<Arg> {
+        let (text, rate) = text(r);
+        vec![input(&text), whole(rate as usize), output::<u8>(room(r, rooms::cues(lines(&text)))), cell::<usize>()]
+    }
+    pub fn bound(_: &mut Numbers, k: u64) -> Option<Vec<Arg>> {
+        let frames = every_frame(k)?;
+        Some(vec![
+            input(&labels_of(&frames, 48_000)),
+            whole(48_000),
+            output::<u8>(rooms::cues(frames.len())),
+            cell::<usize>(),
+        ])
+    }
+    pub fn reach(a: &[Arg], after: &After) -> Reach {
+        let (text, rate) = (bytes(&a[0]), number(&a[1]));
+        let count = counted(after, 3, rooms::cues(lines(text)))?;
+        let chunk = &after.held[2][..count];
+        let frames = frames_in(chunk);
+        listed(&frames)?;
+        must(
+            cues_of(&frames) == chunk && labels_of(&frames, rate) == text,
+            "another chunk than the labels' frames give",
+        )?;
+        Ok(vec![(2, 0..count), all(3)])
+    }
+}
+
+mod cues_as_labels {
+    use super::*;
+    pub fn draw(r: &mut Numbers) -> Vec<Arg> {
+        let (chunk, rate) = (chunk(r), rate(r));
+        let frames: Vec<u32> = frames_in(&chunk).into_iter().filter(|&frame| frame <= MOST_FRAME).collect();
+        let need = labels_of(&frames, rate.clamp(1, MOST_RATE) as usize).len();
+        vec![input(&chunk), whole(rate as usize), output::<u8>(room(r, need)), cell::<usize>()]
+    }
+    pub fn bound(_: &mut Numbers, k: u64) -> Option<Vec<Arg>> {
+        let frames = every_frame(k)?;
+        Some(vec![input(&cues_of(&frames)), whole(48_000), output::<u8>(rooms::labels(frames.len())), cell::<usize>()])
+    }
+    pub fn reach(a: &[Arg], after: &After) -> Reach {
+        let (chunk, rate) = (bytes(&a[0]), number(&a[1]));
+        let frames = frames_in(chunk);
+        listed(&frames)?;
+        let count = counted(after, 3, rooms::labels(frames.len()))?;
+        must(
+            cues_of(&frames) == chunk && after.held[2][..count] == labels_of(&frames, rate),
+            "other labels than the points' frames give",
+        )?;
+        Ok(vec![(2, 0..count), all(3)])
     }
 }

@@ -2,6 +2,7 @@
 use crate::cases::Field;
 use crate::differences;
 use crate::formats;
+use crate::labels;
 use crate::lent::{Floats, Slot, cell, held, poisoned};
 use crate::table::{self, BAND, WIDTH};
 use oracle::structure::StructureOpts;
@@ -418,7 +419,7 @@ pub fn patch_features(f: &[Field]) -> Expected {
     Expected { number, answers: named(number, ranges), slots }
 }
 
-// ---- files, which the Rust has not: by document 02 (formats.rs)
+// ---- files, which the Rust has not: by document 02 (formats.rs, labels.rs)
 
 pub fn write_tempo_track(f: &[Field]) -> Expected {
     let (beats, rate, room) = (f[0].frames(), f[1].whole(), f[2].size());
@@ -434,4 +435,53 @@ pub fn read_tempo_track(f: &[Field]) -> Expected {
     let gaps = if number == 0 { formats::read(file).unwrap_or_default() } else { vec![] };
     let count = if number == 0 { gaps.len().bits() } else { cell::<usize>() };
     Expected { number, answers: vec![count], slots: vec![listed(room, &gaps)] }
+}
+
+// what a call writes that answers entries and how many they are: nothing where it refuses
+fn counted<T: Slot>(number: u32, room: usize, entries: impl FnOnce() -> Vec<T>) -> Expected {
+    let entries = if number == 0 { entries() } else { vec![] };
+    let count = if number == 0 { entries.len().bits() } else { cell::<usize>() };
+    Expected { number, answers: vec![count], slots: vec![listed(room, &entries)] }
+}
+
+// the frames that a label track or a cue chunk has
+fn frames_in(named: Option<labels::Named>) -> Vec<u32> {
+    named.unwrap_or_default().into_iter().flatten().collect()
+}
+
+pub fn labels_room(f: &[Field]) -> Expected {
+    let (frames, rate) = (f[0].frames(), f[1].whole());
+    let number = table::labels_room(frames, rate);
+    let count = if number == 0 { labels::labels(frames, rate).len().bits() } else { cell::<usize>() };
+    Expected { number, answers: vec![count], slots: vec![] }
+}
+
+pub fn write_labels(f: &[Field]) -> Expected {
+    let (frames, rate, room) = (f[0].frames(), f[1].whole(), f[2].size());
+    counted(table::write_labels(frames, rate, room), room, || labels::labels(frames, rate))
+}
+
+pub fn read_labels(f: &[Field]) -> Expected {
+    let (text, rate, room) = (f[0].bytes(), f[1].whole(), f[2].size());
+    counted(table::read_labels(text, rate, room), room, || frames_in(labels::named_in_labels(text, rate)))
+}
+
+pub fn write_cues(f: &[Field]) -> Expected {
+    let (frames, room) = (f[0].frames(), f[1].size());
+    counted(table::write_cues(frames, room), room, || labels::cues(frames))
+}
+
+pub fn read_cues(f: &[Field]) -> Expected {
+    let (chunk, room) = (f[0].bytes(), f[1].size());
+    counted(table::read_cues(chunk, room), room, || frames_in(labels::named_in_cues(chunk)))
+}
+
+pub fn labels_to_cues(f: &[Field]) -> Expected {
+    let (text, rate, room) = (f[0].bytes(), f[1].whole(), f[2].size());
+    counted(table::labels_to_cues(text, rate, room), room, || labels::cues(&frames_in(labels::named_in_labels(text, rate))))
+}
+
+pub fn cues_to_labels(f: &[Field]) -> Expected {
+    let (chunk, rate, room) = (f[0].bytes(), f[1].whole(), f[2].size());
+    counted(table::cues_to_labels(chunk, rate, room), room, || labels::labels(&frames_in(labels::named_in_cues(chunk)), rate))
 }

@@ -1,4 +1,4 @@
-//! Files, by document 02, No. 3, written down from its words alone: the Rust of docs/src has none of them.
+//! Tempo tracks, by document 02, No. 3, written down from its words alone: the Rust of docs/src has none of them.
 //!
 //! "Standard MIDI File: format 0, one track, division 96, one Set Tempo event per beat gap, the first at delta 0 and the others 96 apart, end of
 //! track 96 after the last." The writer is made of these words, and the reader walks through a file event by event, as any reader of such

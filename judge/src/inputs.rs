@@ -2,6 +2,7 @@
 use crate::cases::Field::{self, *};
 use crate::expected;
 use crate::formats;
+use crate::labels;
 use crate::numbers::*;
 use crate::table::{BAND, MOST_FEATURE_ROWS, MOST_FRAME, MOST_MAGNITUDE, MOST_ROWS, MOST_VALUE, RATE, WIDTH};
 
@@ -866,6 +867,404 @@ pub fn read_tempo_track(r: &mut Numbers) -> Fields {
     vec![Bytes(file), room_field(r, count)]
 }
 
+// ---- label tracks and cue chunks
+
+// every small list of frames, at rates from end to end, and all rates in steps
+fn each_list(each: &mut dyn FnMut(&[u32], u64)) {
+    for rate in [0, 1, 7, 44_100, 192_000, 192_001] {
+        lists(&[0, 1, 2, 40, MOST_FRAME, MOST_FRAME + 1], 4, &mut |frames| each(frames, rate));
+    }
+    // halves, and times that are not whole; seconds of one digit and more
+    for rate in (1..=192_000).step_by(7) {
+        each(&[0, 1, 2, 3, 5, 8, 100, 101, 500, 8_191, 65_536, MOST_FRAME - 1, MOST_FRAME], rate);
+    }
+    // the rates at which times end in half a microsecond: 256 (t + 2) 10^6 has 2^14, so these have 2^15 at least
+    for rate in (32_768..=192_000).step_by(32_768) {
+        (0..300).for_each(|t| each(&[t, t + 1, t + 2], rate));
+    }
+    // one microsecond before ten seconds, and ten; the same of a hundred and so on
+    for tens in [10, 100, 1_000, 10_000, 100_000u64] {
+        for rate in (256..=192_000).step_by(256).filter(|rate| tens * rate <= 256 * u64::from(MOST_FRAME)) {
+            let at = (tens * rate - 512) / 256;
+            each(&[at as u32 - 1, at as u32], rate);
+        }
+    }
+}
+
+// the bytes of a label track, for room; of a list that is refused anything will do
+fn labels_size(frames: &[u32], rate: u64) -> usize {
+    labels::labels(&frames.iter().map(|&t| t.min(MOST_FRAME)).collect::<Vec<_>>(), rate.max(1)).len()
+}
+
+pub fn all_label_rooms(each: &mut dyn FnMut(Fields)) {
+    each_list(&mut |frames, rate| each(vec![Frames(frames.to_vec()), Whole(rate)]));
+}
+
+pub fn all_labels_written(each: &mut dyn FnMut(Fields)) {
+    each_list(&mut |frames, rate| {
+        for room in rooms_around(labels_size(frames, rate)) {
+            each(vec![Frames(frames.to_vec()), Whole(rate), size(room)]);
+        }
+    });
+}
+
+pub fn all_cues_written(each: &mut dyn FnMut(Fields)) {
+    lists(&[0, 1, 2, 40, MOST_FRAME, MOST_FRAME + 1, u32::MAX], 5, &mut |frames| {
+        for room in rooms_around(12 + 24 * frames.len()) {
+            each(vec![Frames(frames.to_vec()), size(room)]);
+        }
+    });
+}
+
+// a grid at a rate, and at times one that is none
+fn grid(r: &mut Numbers) -> (Vec<u32>, u64) {
+    let rate = rate(r);
+    let count = if r.once_in(30) { r.size(100, 400) } else { r.size(0, 12) };
+    let step = r.of(&[2, 200, 20_000]);
+    let mut at = r.whole(0, 1_000) as u32;
+    let mut frames = Vec::new();
+    for _ in 0..count {
+        frames.push(at.min(MOST_FRAME));
+        at += r.whole(1, step) as u32;
+    }
+    frames.dedup();
+    let count = frames.len();
+    if count > 0 {
+        let k = r.size(0, count - 1);
+        match r.whole(0, 20) {
+            0 => frames[k] = r.of(&[MOST_FRAME, MOST_FRAME + 1, u32::MAX, 0]),
+            1 => frames[k] = frames[count - 1 - k],
+            2 => frames[count - 1] = MOST_FRAME,
+            _ => {}
+        }
+    }
+    (frames, rate)
+}
+
+pub fn labels_room(r: &mut Numbers) -> Fields {
+    let (frames, rate) = grid(r);
+    vec![Frames(frames), Whole(rate)]
+}
+
+pub fn write_labels(r: &mut Numbers) -> Fields {
+    let (frames, rate) = grid(r);
+    let need = labels_size(&frames, rate);
+    vec![Frames(frames), Whole(rate), room_field(r, need)]
+}
+
+pub fn write_cues(r: &mut Numbers) -> Fields {
+    let (frames, _) = grid(r);
+    let need = 12 + 24 * frames.len();
+    vec![Frames(frames), room_field(r, need)]
+}
+
+// every byte as every other, every length up to it, every byte left out or there twice, and some bytes more
+fn each_damage(good: &[u8], each: &mut dyn FnMut(Vec<u8>)) {
+    each(good.to_vec());
+    for at in 0..good.len() {
+        for value in 0..=255 {
+            let mut bytes = good.to_vec();
+            bytes[at] = value;
+            each(bytes);
+        }
+        each(good[..at].to_vec());
+        each([&good[..at], &good[at + 1..]].concat());
+        each([&good[..=at], &good[at..]].concat());
+    }
+    for more in [&b"\n"[..], b"\r\n", b"\0", b" ", b"0", b"\t", b"beat", &[0; 24]] {
+        each([good, more].concat());
+    }
+}
+
+// label tracks, each with a rate
+fn each_text(each: &mut dyn FnMut(Vec<u8>, u64)) {
+    for count in 0..=2 {
+        each_damage(&labels::labels(&[0, 1_874][..count], 48_000), &mut |text| each(text, 48_000));
+    }
+    each_damage(&labels::labels(&[MOST_FRAME], 1), &mut |text| each(text, 1));
+    // lines of every kind, in every order: 9 anywhere before 10 anywhere, before 11; then 3
+    let line = |time: &str| format!("{time}\t{time}\tbeat\n");
+    let kinds = [line("0.010667"), line("0.512000"), line("7.000000"), line("00.512000"), "0.512000\t0.512000\tbeat\r\n".to_string()];
+    for rate in [0, 48_000, 192_001] {
+        lists(&[0, 1, 2, 3, 4usize], 4, &mut |list| {
+            each(list.iter().map(|&kind| kinds[kind].as_str()).collect::<String>().into_bytes(), rate);
+        });
+    }
+    // times of every form about one, in the first place, the second and both
+    for time in [
+        "",
+        ".",
+        "0",
+        "0.",
+        "0.51200",
+        "0.5120000",
+        "0.512000",
+        ".512000",
+        "00.512000",
+        "+0.512000",
+        "-0.512000",
+        " 0.512000",
+        "0.512000 ",
+        "0,512000",
+        "0.512 00",
+        "0.512e00",
+        "5.12e-1",
+        "0x0.51200",
+        "1.000000",
+        "10.000000",
+        "01.000000",
+        "0.0.512000",
+        "nan",
+        "inf",
+        "0.51200\u{665}",
+        "１.000000",
+        "0.512000\0",
+    ] {
+        for text in [
+            line(time),
+            format!("{time}\t0.512000\tbeat\n"),
+            format!("0.512000\t{time}\tbeat\n"),
+            format!("{}{}", line("0.010667"), line(time)),
+        ] {
+            each(text.into_bytes(), 48_000);
+        }
+    }
+    for name in ["", "Beat", "BEAT", "beats", "bea", "beat ", " beat", "beat\t", "beat\tbeat", "beat\0", "1.1", "beat\u{feff}"] {
+        each(format!("0.512000\t0.512000\t{name}\n").into_bytes(), 48_000);
+    }
+    for text in [
+        "\u{feff}0.512000\t0.512000\tbeat\n",
+        "\n",
+        "\n\n",
+        "\r\n",
+        "\t\t\n",
+        "beat\n",
+        "0.512000\n",
+        "0.512000\t0.512000\n",
+        "0.512000 0.512000 beat\n",
+        "0.512000\t0.512000\tbeat\n\n",
+        "\n0.512000\t0.512000\tbeat\n",
+        "0.512000\t0.512000\tbeat\r0.600000\t0.600000\tbeat\n",
+        "0.512000\t0.512000\tbeat\n\\\t0.000000\t0.000000\n",
+    ] {
+        each(text.as_bytes().to_vec(), 48_000);
+    }
+    // every microsecond about a frame's time, at the ends and at rates at which halves are met
+    for (rate, frame) in
+        [(48_000, 0), (32_768, 1), (44_100, 94), (192_000, MOST_FRAME), (1, MOST_FRAME), (1, 0), (191_999, 524_288), (7, 3)]
+    {
+        let time = formats::microseconds(frame, rate);
+        for near in time.saturating_sub(9)..=time + 9 {
+            each(line(&format!("{}.{:06}", near / 1_000_000, near % 1_000_000)).into_bytes(), rate);
+        }
+    }
+    // seconds of many digits, those among them that are a frame's time where a number of so many bits wraps round
+    for bits in [32, 53, 63, 64, 127] {
+        let time = (1_u128 << bits) + 512_000;
+        each(line(&format!("{}.{:06}", time / 1_000_000, time % 1_000_000)).into_bytes(), 48_000);
+    }
+    for digits in [9, 10, 18, 19, 20, 21, 38, 39, 40, 77, 78, 1_000, 10_000] {
+        for digit in ["1", "9"] {
+            let time = digit.repeat(digits) + ".512000";
+            for rate in [1, 192_000] {
+                each(line(&time).into_bytes(), rate);
+            }
+            each([line(&time), line("0.512000").replace('.', ",")].concat().into_bytes(), 48_000);
+            each((line(&time) + &time).into_bytes(), 48_000);
+        }
+    }
+}
+
+// how many lines a text may have
+fn lines(text: &[u8]) -> usize {
+    text.iter().filter(|&&byte| byte == b'\n').count()
+}
+
+pub fn all_labels_read(each: &mut dyn FnMut(Fields)) {
+    each_text(&mut |text, rate| {
+        let room = lines(&text);
+        each(vec![Bytes(text.clone()), Whole(rate), size(room)]);
+        if room > 0 && text.len() < 100 {
+            each(vec![Bytes(text), Whole(rate), size(room - 1)]);
+        }
+    });
+}
+
+pub fn all_labels_to_cues(each: &mut dyn FnMut(Fields)) {
+    each_text(&mut |text, rate| {
+        let room = 12 + 24 * lines(&text);
+        each(vec![Bytes(text.clone()), Whole(rate), size(room)]);
+        each(vec![Bytes(text), Whole(rate), size(room - 1)]);
+    });
+}
+
+// cue chunks
+fn each_chunk(each: &mut dyn FnMut(Vec<u8>)) {
+    for count in 0..=3usize {
+        each_damage(&labels::cues(&[0, 94, MOST_FRAME][..count]), each);
+    }
+    // points of every kind, in every order; a name, a chunk id or a field that isn't as said stands for 9
+    lists(&[512, 24_576, 513, u32::MAX, 0], 4, &mut |offsets| {
+        let good = labels::chunk(offsets);
+        each(good.clone());
+        for k in 0..offsets.len() {
+            for field in [0, 8, 12, 16] {
+                let mut chunk = good.clone();
+                chunk[12 + 24 * k + field] ^= 1;
+                each(chunk);
+            }
+        }
+    });
+    // position and offset together, byte by byte, and about the ends
+    for at in 0..4 {
+        for value in 0..=255 {
+            let mut offset = 24_576_u32.to_le_bytes();
+            offset[at] = value;
+            each(labels::chunk(&[512, u32::from_le_bytes(offset)]));
+        }
+    }
+    for end in [0, 512, 256 * MOST_FRAME + 512, 1 << 31, u32::MAX] {
+        for near in end.saturating_sub(600)..=end.saturating_add(600) {
+            each(labels::chunk(&[near]));
+        }
+    }
+    // counts and sizes that lie, large ones among them
+    let good = labels::cues(&[0, 94]);
+    for lie in [0, 1, 2, 3, 4, 27, 28, 29, 51, 52, 53, 76, 1 << 16, 1 << 31, (1 << 31) + 2, u32::MAX / 24, u32::MAX / 24 + 3, u32::MAX] {
+        for at in [4, 8] {
+            let mut chunk = good.clone();
+            chunk[at..at + 4].copy_from_slice(&u32::to_le_bytes(lie));
+            each(chunk.clone());
+            chunk[4..8].copy_from_slice(&u32::wrapping_add(4, u32::wrapping_mul(24, lie)).to_le_bytes());
+            chunk[8..12].copy_from_slice(&u32::to_le_bytes(lie));
+            each(chunk);
+        }
+    }
+    // others' chunks, sound all of them: names from 0, places in a playlist, another order, an empty one with a byte behind it
+    let names = |first: u32| {
+        let mut chunk = good.clone();
+        for k in 0..2 {
+            chunk[12 + 24 * k..][..4].copy_from_slice(&(first + k as u32).to_le_bytes());
+        }
+        chunk
+    };
+    for chunk in [
+        names(0),
+        names(2),
+        [&b"RIFF\0\0\0\0WAVE"[..], &good].concat(),
+        [&b"LIST"[..], &good[4..]].concat(),
+        [&good[..], &good[..]].concat(),
+    ] {
+        each(chunk);
+    }
+}
+
+pub fn all_cues_read(each: &mut dyn FnMut(Fields)) {
+    each_chunk(&mut |chunk| {
+        let room = chunk.len().saturating_sub(12) / 24;
+        each(vec![Bytes(chunk.clone()), size(room)]);
+        if room > 0 {
+            each(vec![Bytes(chunk), size(room - 1)]);
+        }
+    });
+}
+
+pub fn all_cues_to_labels(each: &mut dyn FnMut(Fields)) {
+    each_chunk(&mut |chunk| {
+        let frames: Vec<u32> = labels::named_in_cues(&chunk).unwrap_or_default().into_iter().flatten().collect();
+        for rate in [48_000, 1, 0] {
+            let need = labels_size(&frames, rate);
+            each(vec![Bytes(chunk.clone()), Whole(rate), size(need)]);
+            if need > 0 && rate == 1 {
+                each(vec![Bytes(chunk.clone()), Whole(rate), size(need - 1)]);
+            }
+        }
+    });
+    for rate in (0..=192_001).step_by(83) {
+        each(vec![Bytes(labels::cues(&[0, 1, 94, 8_191, MOST_FRAME])), Whole(rate), size(5 * 39)]);
+    }
+}
+
+fn damaged(r: &mut Numbers, mut bytes: Vec<u8>) -> Vec<u8> {
+    if bytes.is_empty() {
+        return if r.once_in(4) { vec![r.whole(0, 255) as u8; r.size(1, 30)] } else { bytes };
+    }
+    let at = r.size(0, bytes.len() - 1);
+    match r.whole(0, 20) {
+        0 => bytes[at] = r.whole(0, 255) as u8,
+        1 => bytes[at] ^= 1 << r.whole(0, 7),
+        2 => drop(bytes.remove(at)),
+        3 => bytes.insert(at, r.whole(0, 255) as u8),
+        4 => bytes.truncate(at),
+        5 => bytes.extend(vec![r.of(&[0, 9, 10, 13, 32, 48]); r.size(1, 30)]),
+        6 => bytes[at] = r.of(b"0123456789.\t\r\n beat"),
+        // a part of it twice
+        7 => bytes.extend_from_within(..=at),
+        _ => {}
+    }
+    bytes
+}
+
+// a label track whose times may be others' than its frames', or in another order
+fn text(r: &mut Numbers) -> (Vec<u8>, u64) {
+    let (mut frames, rate) = grid(r);
+    frames.iter_mut().for_each(|frame| *frame = (*frame).min(MOST_FRAME));
+    let mut times: Vec<u64> = frames.iter().map(|&t| formats::microseconds(t, rate.max(1))).collect();
+    if !times.is_empty() && r.once_in(8) {
+        let k = r.size(0, times.len() - 1);
+        times[k] = match r.whole(0, 5) {
+            0 => times[k] + 1,
+            1 => times[k].saturating_sub(1),
+            2 => r.next(),
+            3 => r.whole(0, 400_000_000_000_000),
+            4 => formats::microseconds(MOST_FRAME + 1, rate.max(1)),
+            _ => times[times.len() - 1 - k],
+        };
+    }
+    let lines = times.iter().map(|time| format!("{0}.{1:06}\t{0}.{1:06}\tbeat\n", time / 1_000_000, time % 1_000_000)).collect::<String>();
+    (damaged(r, lines.into_bytes()), rate)
+}
+
+pub fn read_labels(r: &mut Numbers) -> Fields {
+    let (text, rate) = text(r);
+    let need = lines(&text);
+    vec![Bytes(text), Whole(rate), room_field(r, need)]
+}
+
+pub fn labels_to_cues(r: &mut Numbers) -> Fields {
+    let (text, rate) = text(r);
+    let need = 12 + 24 * lines(&text);
+    vec![Bytes(text), Whole(rate), room_field(r, need)]
+}
+
+fn random_chunk(r: &mut Numbers) -> (Vec<u8>, u64) {
+    let (frames, rate) = grid(r);
+    let mut offsets: Vec<u32> = frames.iter().map(|&t| t.wrapping_mul(256).wrapping_add(512)).collect();
+    if !offsets.is_empty() && r.once_in(8) {
+        let k = r.size(0, offsets.len() - 1);
+        offsets[k] = match r.whole(0, 3) {
+            0 => offsets[k] + 1,
+            1 => r.next() as u32,
+            2 => r.next() as u32 & !255,
+            _ => offsets[offsets.len() - 1 - k],
+        };
+    }
+    (damaged(r, labels::chunk(&offsets)), rate)
+}
+
+pub fn read_cues(r: &mut Numbers) -> Fields {
+    let (chunk, _) = random_chunk(r);
+    let need = chunk.len().saturating_sub(12) / 24;
+    vec![Bytes(chunk), room_field(r, need)]
+}
+
+pub fn cues_to_labels(r: &mut Numbers) -> Fields {
+    let (chunk, rate) = random_chunk(r);
+    let frames: Vec<u32> = labels::named_in_cues(&chunk).unwrap_or_default().into_iter().flatten().collect();
+    let need = labels_size(&frames, rate);
+    vec![Bytes(chunk), Whole(rate), room_field(r, need)]
+}
+
 // ---- open bounds of the tempo: every kind of pair, on clicks that repeat, at rates of which the bounds make a difference
 
 pub fn open_bounds(call: &str, each: &mut dyn FnMut(Fields)) {
@@ -1034,6 +1433,41 @@ pub fn at_the_bounds(call: &str, each: &mut dyn FnMut(Fields)) {
             let need = formats::size(all.len());
             for (last, room) in [(None, need), (None, need - 1), (Some(MOST_FRAME), need + 7), (Some(MOST_FRAME + 1), need + 7)] {
                 each(vec![Frames([&all[..], last.as_slice()].concat()), Whole(48_000), size(room)]);
+            }
+        }
+        "labels_room" | "write_labels" | "write_cues" => {
+            let all: Vec<u32> = (0..=MOST_FRAME).collect();
+            let need = if call == "write_cues" { 12 + 24 * all.len() } else { labels::labels(&all, 48_000).len() };
+            for (last, room) in [(None, need), (None, need - 1), (Some(MOST_FRAME), need + 41), (Some(MOST_FRAME + 1), need + 41)] {
+                let frames = Frames([&all[..], last.as_slice()].concat());
+                each(match call {
+                    "labels_room" => vec![frames, Whole(48_000)],
+                    "write_labels" => vec![frames, Whole(48_000), size(room)],
+                    _ => vec![frames, size(room)],
+                });
+            }
+        }
+        "read_labels" | "labels_to_cues" | "read_cues" | "cues_to_labels" => {
+            let all: Vec<u32> = (0..=MOST_FRAME).collect();
+            let (text, chunk) = (labels::labels(&all, 48_000), labels::cues(&all));
+            let need = match call {
+                "read_labels" | "read_cues" => all.len(),
+                "labels_to_cues" => chunk.len(),
+                _ => text.len(),
+            };
+            // all of them, with room and without, and then one more: the last once again
+            let again = labels::labels(&[MOST_FRAME], 48_000);
+            for (more, room) in [(false, need), (false, need - 1), (true, need + 41)] {
+                each(match call {
+                    "read_labels" | "labels_to_cues" => {
+                        vec![Bytes([&text[..], if more { &again } else { &[] }].concat()), Whole(48_000), size(room)]
+                    }
+                    _ => {
+                        let frames = [&all[..], if more { &[MOST_FRAME] } else { &[] }].concat();
+                        let chunk = Bytes(labels::cues(&frames));
+                        if call == "read_cues" { vec![chunk, size(room)] } else { vec![chunk, Whole(48_000), size(room)] }
+                    }
+                });
             }
         }
         "read_tempo_track" => {

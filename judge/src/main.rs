@@ -1,5 +1,5 @@
 //! The judge: every call of the port against the Rust of docs/src, bit for bit, with lent, poisoned memory on the port's side. Files, which the
-//! Rust has not, are held to document 02's words (formats.rs).
+//! Rust has not, are held to document 02's words (formats.rs, labels.rs).
 //!
 //!   judge run SEED         every call on every input; the last line is 'N calls, 0 differences', or the exit is 1
 //!   judge run SEED CALL..  these calls alone
@@ -15,6 +15,7 @@ mod expected;
 mod ffi;
 mod formats;
 mod inputs;
+mod labels;
 mod lent;
 mod numbers;
 mod patches;
@@ -102,12 +103,19 @@ pub const CALLS: &[Call] = &[
     call!(patch_features, "features rows start new_rows similarity novelty", [1, 2, 3, 4], all_patches_of_features, 6_000),
     call!(write_tempo_track, "beats rate file", [1, 3, 6, 7], all_tempo_tracks, 60_000),
     call!(read_tempo_track, "file gaps", [3, 8], all_tempo_files, 60_000),
+    call!(labels_room, "frames rate", [1, 11], all_label_rooms, 60_000),
+    call!(write_labels, "frames rate text", [1, 3, 11], all_labels_written, 60_000),
+    call!(read_labels, "text rate frames", [1, 3, 9, 10, 11], all_labels_read, 60_000),
+    call!(write_cues, "frames chunk", [1, 3, 11], all_cues_written, 60_000),
+    call!(read_cues, "chunk frames", [3, 9, 10, 11], all_cues_read, 60_000),
+    call!(labels_to_cues, "text rate chunk", [1, 3, 9, 10, 11], all_labels_to_cues, 60_000),
+    call!(cues_to_labels, "chunk rate text", [1, 3, 9, 10, 11], all_cues_to_labels, 60_000),
 ];
 
 /// The numbers that the calls give, in the order of the columns: 5 is the reporting program's.
-const NUMBERS: [usize; 8] = [0, 1, 2, 3, 4, 6, 7, 8];
+const NUMBERS: [usize; 11] = [0, 1, 2, 3, 4, 6, 7, 8, 9, 10, 11];
 /// One more than the greatest.
-const SLOTS: usize = 9;
+const SLOTS: usize = 12;
 
 /// The first difference between what must be and what is, in words.
 fn difference(must: &Expected, is: &Outcome) -> Option<String> {

@@ -544,3 +544,65 @@ pub fn read_tempo_track(f: &[Field]) -> Outcome {
     file.same(f[0].bytes(), &mut harm);
     ended(number, vec![count.end(&mut harm)], [gaps.end(&mut harm)], harm)
 }
+
+pub fn labels_room(f: &[Field]) -> Outcome {
+    let (frames, mut count) = (Lent::of(f[0].frames()), Number::<usize>::lent());
+    let number = unsafe { ph_labels_room(frames.ptr(), frames.len(), f[1].small(), count.ptr_mut()) };
+    let mut harm = false;
+    frames.same(f[0].frames(), &mut harm);
+    ended(number, vec![count.end(&mut harm)], [], harm)
+}
+
+pub fn write_labels(f: &[Field]) -> Outcome {
+    let frames = Lent::of(f[0].frames());
+    let (mut text, mut count) = (Lent::<u8>::room(f[2].size()), Number::<usize>::lent());
+    let number = unsafe { ph_write_labels(frames.ptr(), frames.len(), f[1].small(), text.ptr_mut(), text.len(), count.ptr_mut()) };
+    let mut harm = false;
+    frames.same(f[0].frames(), &mut harm);
+    ended(number, vec![count.end(&mut harm)], [text.end(&mut harm)], harm)
+}
+
+pub fn read_labels(f: &[Field]) -> Outcome {
+    let text = Lent::of(f[0].bytes());
+    let (mut frames, mut count) = (Lent::<u32>::room(f[2].size()), Number::<usize>::lent());
+    let number = unsafe { ph_read_labels(text.ptr(), text.len(), f[1].small(), frames.ptr_mut(), frames.len(), count.ptr_mut()) };
+    let mut harm = false;
+    text.same(f[0].bytes(), &mut harm);
+    ended(number, vec![count.end(&mut harm)], [frames.end(&mut harm)], harm)
+}
+
+pub fn write_cues(f: &[Field]) -> Outcome {
+    let frames = Lent::of(f[0].frames());
+    let (mut chunk, mut count) = (Lent::<u8>::room(f[1].size()), Number::<usize>::lent());
+    let number = unsafe { ph_write_cues(frames.ptr(), frames.len(), chunk.ptr_mut(), chunk.len(), count.ptr_mut()) };
+    let mut harm = false;
+    frames.same(f[0].frames(), &mut harm);
+    ended(number, vec![count.end(&mut harm)], [chunk.end(&mut harm)], harm)
+}
+
+pub fn read_cues(f: &[Field]) -> Outcome {
+    let chunk = Lent::of(f[0].bytes());
+    let (mut frames, mut count) = (Lent::<u32>::room(f[1].size()), Number::<usize>::lent());
+    let number = unsafe { ph_read_cues(chunk.ptr(), chunk.len(), frames.ptr_mut(), frames.len(), count.ptr_mut()) };
+    let mut harm = false;
+    chunk.same(f[0].bytes(), &mut harm);
+    ended(number, vec![count.end(&mut harm)], [frames.end(&mut harm)], harm)
+}
+
+pub fn labels_to_cues(f: &[Field]) -> Outcome {
+    let text = Lent::of(f[0].bytes());
+    let (mut chunk, mut count) = (Lent::<u8>::room(f[2].size()), Number::<usize>::lent());
+    let number = unsafe { ph_labels_to_cues(text.ptr(), text.len(), f[1].small(), chunk.ptr_mut(), chunk.len(), count.ptr_mut()) };
+    let mut harm = false;
+    text.same(f[0].bytes(), &mut harm);
+    ended(number, vec![count.end(&mut harm)], [chunk.end(&mut harm)], harm)
+}
+
+pub fn cues_to_labels(f: &[Field]) -> Outcome {
+    let chunk = Lent::of(f[0].bytes());
+    let (mut text, mut count) = (Lent::<u8>::room(f[2].size()), Number::<usize>::lent());
+    let number = unsafe { ph_cues_to_labels(chunk.ptr(), chunk.len(), f[1].small(), text.ptr_mut(), text.len(), count.ptr_mut()) };
+    let mut harm = false;
+    chunk.same(f[0].bytes(), &mut harm);
+    ended(number, vec![count.end(&mut harm)], [text.end(&mut harm)], harm)
+}

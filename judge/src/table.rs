@@ -1,7 +1,7 @@
 //! Document 01's table of refusals, written down from the document alone: the number that each call must answer.
 //!
 //! "The lowest number that applies is given." A test is asked only where no lower number applies. Files have document 02's order.
-use crate::formats;
+use crate::{formats, labels};
 
 pub const RATE: std::ops::RangeInclusive<u64> = 1..=192_000;
 pub const MOST_ROWS: usize = 1_048_576;
@@ -238,4 +238,72 @@ pub fn write_tempo_track(beats: &[u32], rate: u64, file: usize) -> u32 {
 
 pub fn read_tempo_track(file: &[u8], gaps: usize) -> u32 {
     formats::read(file).map_or(8, |read| if gaps < read.len() { 3 } else { 0 })
+}
+
+// ---- document 02, No. 6: "9 for a line or chunk not of this form, 10 for a time or offset that is no listed frame's, 11 for frames not strictly
+// ascending, in that order after 1, then 3 when the output doesn't fit". A chunk alone has no rate, and frames have no 9 and no 10.
+
+fn no_rate(rate: Option<u64>) -> bool {
+    rate.is_some_and(|rate| !RATE.contains(&rate))
+}
+
+fn fall(frames: &[u32]) -> bool {
+    frames.windows(2).any(|pair| pair[1] <= pair[0])
+}
+
+// frames that are lent: 1, 11, and then room, which is asked where there is an answer
+fn of_frames(frames: &[u32], rate: Option<u64>, fits: impl FnOnce() -> bool) -> u32 {
+    if no_rate(rate) || frames.iter().any(|&t| t > MOST_FRAME) {
+        1
+    } else if fall(frames) {
+        11
+    } else if !fits() {
+        3
+    } else {
+        0
+    }
+}
+
+// what is in a label track or a cue chunk: 1, 9, 10, 11, and then room for these frames
+fn of_file(rate: Option<u64>, named: impl FnOnce() -> Option<labels::Named>, fits: impl FnOnce(&[u32]) -> bool) -> u32 {
+    if no_rate(rate) {
+        return 1;
+    }
+    let Some(named) = named() else { return 9 };
+    let Some(frames) = named.into_iter().collect::<Option<Vec<u32>>>() else { return 10 };
+    if fall(&frames) {
+        11
+    } else if !fits(&frames) {
+        3
+    } else {
+        0
+    }
+}
+
+pub fn labels_room(frames: &[u32], rate: u64) -> u32 {
+    of_frames(frames, Some(rate), || true)
+}
+
+pub fn write_labels(frames: &[u32], rate: u64, text: usize) -> u32 {
+    of_frames(frames, Some(rate), || text >= labels::labels(frames, rate).len())
+}
+
+pub fn read_labels(text: &[u8], rate: u64, frames: usize) -> u32 {
+    of_file(Some(rate), || labels::named_in_labels(text, rate), |read| frames >= read.len())
+}
+
+pub fn write_cues(frames: &[u32], chunk: usize) -> u32 {
+    of_frames(frames, None, || chunk >= 12 + 24 * frames.len())
+}
+
+pub fn read_cues(chunk: &[u8], frames: usize) -> u32 {
+    of_file(None, || labels::named_in_cues(chunk), |read| frames >= read.len())
+}
+
+pub fn labels_to_cues(text: &[u8], rate: u64, chunk: usize) -> u32 {
+    of_file(Some(rate), || labels::named_in_labels(text, rate), |read| chunk >= 12 + 24 * read.len())
+}
+
+pub fn cues_to_labels(chunk: &[u8], rate: u64, text: usize) -> u32 {
+    of_file(Some(rate), || labels::named_in_cues(chunk), |read| text >= labels::labels(read, rate).len())
 }

@@ -323,4 +323,51 @@ unsafe extern "C" {
         gaps_len: usize,
         count: *mut usize,
     ) -> u32;
+    pub fn ph_labels_room(frames: *const u32, frames_len: usize, rate: u32, count: *mut usize) -> u32;
+    pub fn ph_write_labels(
+        frames: *const u32,
+        frames_len: usize,
+        rate: u32,
+        text: *mut u8,
+        text_len: usize,
+        count: *mut usize,
+    ) -> u32;
+    pub fn ph_read_labels(
+        text: *const u8,
+        text_len: usize,
+        rate: u32,
+        frames: *mut u32,
+        frames_len: usize,
+        count: *mut usize,
+    ) -> u32;
+    pub fn ph_write_cues(
+        frames: *const u32,
+        frames_len: usize,
+        chunk: *mut u8,
+        chunk_len: usize,
+        count: *mut usize,
+    ) -> u32;
+    pub fn ph_read_cues(
+        chunk: *const u8,
+        chunk_len: usize,
+        frames: *mut u32,
+        frames_len: usize,
+        count: *mut usize,
+    ) -> u32;
+    pub fn ph_labels_to_cues(
+        text: *const u8,
+        text_len: usize,
+        rate: u32,
+        chunk: *mut u8,
+        chunk_len: usize,
+        count: *mut usize,
+    ) -> u32;
+    pub fn ph_cues_to_labels(
+        chunk: *const u8,
+        chunk_len: usize,
+        rate: u32,
+        text: *mut u8,
+        text_len: usize,
+        count: *mut usize,
+    ) -> u32;
 }

@@ -2,8 +2,8 @@
 //!
 //! Every call is a thin, safe door to a function that is proved to meet its contract for every input. All memory is lent: slices go in,
 //! answers come back by value, and outputs are slices of the caller's, whose size is a formula ([`rooms`]). Nothing is allocated but by
-//! making [`Buffers`] and by [`write_tempo_track`] and [`read_tempo_track`], which answer what they made; nothing is kept from call to call, and
-//! any number of threads may call at once.
+//! making [`Buffers`] and by the calls of files, which answer what they made and have `_into` beside them; nothing is kept from call to call,
+//! and any number of threads may call at once.
 //!
 //! A call takes up to 40 KB of its thread's stack on x86-64 (measured: 34,279 bytes in a whole track, on a stack filled with a pattern). A
 //! thread of 40 KB ran a whole track in a release build; without optimisation what stands around the call needs more, and 48 KB were enough.
@@ -35,13 +35,16 @@
 //! ```
 //!
 //! It also hands out the curves of what it analysed, and mends them where rows are replaced ([`Buffers::patch_magnitudes`]); the new grid
-//! is then had without a full run ([`Buffers::analyse_patched`]). The beats go to a sequencer as a MIDI file ([`write_tempo_track`]).
+//! is then had without a full run ([`Buffers::analyse_patched`]). The beats go to a sequencer as a MIDI file ([`write_tempo_track`]),
+//! to Audacity as a label track ([`write_labels`]) and into a WAV file as a cue chunk ([`write_cues`]); [`labels_to_cues`] and
+//! [`cues_to_labels`] make one of the other.
 #![deny(missing_docs)]
 #![deny(unsafe_op_in_unsafe_fn)]
 
 mod beats;
 mod ffi;
 mod formats;
+mod labels;
 pub mod limits;
 mod medians;
 mod onsets;
@@ -49,12 +52,16 @@ mod patches;
 mod refusal;
 pub mod rooms;
 mod sections;
+mod shapes;
 mod tempo;
 mod track;
 mod why;
 
 pub use beats::{bar_beat_at, beat_grid, downbeats, BarBeat};
 pub use formats::{read_tempo_track, read_tempo_track_into, write_tempo_track, write_tempo_track_into};
+pub use labels::{cues_to_labels, cues_to_labels_into, labels_to_cues, labels_to_cues_into};
+pub use labels::{labels_room, read_labels, read_labels_into, write_labels, write_labels_into};
+pub use labels::{read_cues, read_cues_into, write_cues, write_cues_into};
 pub use medians::{mad_of, median_of};
 pub use onsets::{adaptive_threshold, frame_times, pick_onsets, spectral_flux, suppress_close_peaks};
 pub use patches::{patch_features, patch_magnitudes, Patched, PatchedFeatures};

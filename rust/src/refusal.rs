@@ -3,8 +3,8 @@ use crate::why::{Detail, Why};
 use std::error::Error;
 use std::fmt;
 
-/// Why a call refused. A refusal changes nothing that was lent. Of numbers 1 to 4 the lowest that applies is given; the calls of tempo tracks
-/// have an order of their own, which they say. Other calls may come with other numbers.
+/// Why a call refused. A refusal changes nothing that was lent. Of numbers 1 to 4 the lowest that applies is given; the calls of files have an
+/// order of their own, which they say. Other calls may come with other numbers.
 ///
 /// A call's error is a [`Refused`], which holds one of these; `?` turns it into one where a function answers `Result<_, Refusal>`.
 ///
@@ -34,10 +34,17 @@ pub enum Refusal {
     GapTooLong = 7,
     /// Number 8: a file isn't of the one shape that [`write_tempo_track`](crate::write_tempo_track) writes, or has a tempo of 0.
     OtherShape = 8,
+    /// Number 9: a line of a label track, or a cue chunk, isn't of the one form that [`write_labels`](crate::write_labels) and
+    /// [`write_cues`](crate::write_cues) write.
+    NotOfThisForm = 9,
+    /// Number 10: a time of a label track at its rate, or an offset of a cue chunk, is no listed frame's.
+    NoListedFrame = 10,
+    /// Number 11: frames that are lent, or those of a label track or a cue chunk, don't ascend strictly.
+    NotAscending = 11,
 }
 
 impl Refusal {
-    /// The number of the refusal, 1 to 4 or 6 to 8.
+    /// The number of the refusal, 1 to 4 or 6 to 11.
     pub const fn number(self) -> u32 {
         self as u32
     }
@@ -65,6 +72,12 @@ impl Refusal {
                 "the file isn't of the shape that write_tempo_track writes: format 0, one track of Set Tempo events, division 96; or it has a \
                  tempo of 0"
             }
+            Refusal::NotOfThisForm => {
+                "a line isn't START TAB END TAB beat LF with two equal times of six decimals and no needless zero, or the chunk isn't a cue chunk \
+                 as write_cues writes it"
+            }
+            Refusal::NoListedFrame => "a time at this rate, or an offset, is that of no frame from 0 to 1,048,575",
+            Refusal::NotAscending => "frames don't ascend strictly",
         }
     }
 }
@@ -103,7 +116,7 @@ pub struct Refused {
 }
 
 impl Refused {
-    /// The number of the refusal, 1 to 4 or 6 to 8.
+    /// The number of the refusal, 1 to 4 or 6 to 11.
     pub const fn number(&self) -> u32 {
         self.refusal.number()
     }
@@ -127,6 +140,9 @@ impl Refused {
             6 => Refusal::WrongGrid,
             7 => Refusal::GapTooLong,
             8 => Refusal::OtherShape,
+            9 => Refusal::NotOfThisForm,
+            10 => Refusal::NoListedFrame,
+            11 => Refusal::NotAscending,
             _ => unreachable!("the library linked answers {number}, which is no number of refusal"),
         };
         Err(Refused { refusal, call, detail: explain(Why::of(refusal)).found() })

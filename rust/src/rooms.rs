@@ -73,6 +73,27 @@ pub const fn tempo_gaps(bytes: usize) -> usize {
     bytes.saturating_sub(26) / 7
 }
 
+/// Bytes of the label track of so many frames, at most: 39 each, at a rate of 1 and late in the longest track. How many they are is what
+/// [`labels_room`](crate::labels_room) answers, 2 d + 21 for a time with d digits of seconds.
+pub const fn labels(frames: usize) -> usize {
+    frames.saturating_mul(39)
+}
+
+/// Slots of `frames` for a label track of so many bytes, at most: a line has 23 bytes or more.
+pub const fn label_frames(bytes: usize) -> usize {
+    bytes / 23
+}
+
+/// Bytes of the cue chunk of so many frames: 12, and 24 for each.
+pub const fn cues(frames: usize) -> usize {
+    frames.saturating_mul(24).saturating_add(12)
+}
+
+/// Slots of `frames` for a cue chunk of so many bytes: one for each point.
+pub const fn cue_frames(bytes: usize) -> usize {
+    bytes.saturating_sub(12) / 24
+}
+
 /// The room of one whole analysis, as three numbers.
 #[derive(Clone, Copy, Debug, PartialEq, Eq)]
 pub struct Track {

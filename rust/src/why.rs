@@ -2,7 +2,7 @@
 //!
 //! A call names all that it takes, in the order of its parameters, and the first that the number of its refusal fits is told. It decides
 //! nothing: the number is the proved call's, and where none is found here the general sentence is told.
-use crate::{limits, rooms, Refusal, TempoOpts};
+use crate::{limits, rooms, shapes, Refusal, TempoOpts};
 use std::fmt;
 
 /// A slice by its name, and the slots that were lent.
@@ -47,12 +47,13 @@ pub enum Detail {
         slice: &'static str,
         lent: usize,
     },
-    /// A beat that isn't after the one before it.
+    /// A beat or frame that isn't after the one before it.
     Unordered {
         slice: &'static str,
         at: usize,
         is: u32,
         before: u32,
+        what: &'static str,
     },
     /// A beat that comes too long after the one before it, in microseconds.
     Late {
@@ -76,6 +77,39 @@ pub enum Detail {
     NoTempo {
         slice: &'static str,
         event: usize,
+    },
+    /// A byte of a label track that isn't of the form; none where the text ends too soon.
+    Line {
+        slice: &'static str,
+        at: usize,
+        is: Option<u8>,
+        needed: &'static str,
+        line: usize,
+    },
+    /// A cue chunk of no length that one has.
+    Points {
+        slice: &'static str,
+        lent: usize,
+    },
+    /// A time of a label track that is no frame's.
+    NoTime {
+        slice: &'static str,
+        line: usize,
+        rate: u32,
+    },
+    /// An offset of a cue chunk that is no frame's.
+    NoOffset {
+        slice: &'static str,
+        point: usize,
+        is: u32,
+    },
+    /// A label or a cue point whose frame isn't after that of the one before it.
+    Backward {
+        slice: &'static str,
+        part: &'static str,
+        at: usize,
+        is: u32,
+        before: u32,
     },
     /// A list of peaks that points past its curve.
     Past {
@@ -237,7 +271,7 @@ impl Why {
                 return Some(Detail::TooFew { slice, lent: beats.len() });
             }
             let at = 1 + beats.windows(2).position(|pair| pair[1] <= pair[0])?;
-            Some(Detail::Unordered { slice, at, is: beats[at], before: beats[at - 1] })
+            Some(Detail::Unordered { slice, at, is: beats[at], before: beats[at - 1], what: "beats" })
         })
     }
 
@@ -265,6 +299,45 @@ impl Why {
             let event = (0..count).find(|k| file[26 + 7 * k..][..3] == [0; 3])?;
             Some(Detail::NoTempo { slice, event })
         })
+    }
+
+    // ---- numbers 9, 10 and 11, and 1 of a list
+
+    // frames that are lent as a grid
+    pub fn listed(self, slice: &'static str, frames: &[u32]) -> Why {
+        self.entries(slice, frames, limits::MOST_FRAME).or(Refusal::NotAscending, || {
+            let at = 1 + frames.windows(2).position(|pair| pair[1] <= pair[0])?;
+            Some(Detail::Unordered { slice, at, is: frames[at], before: frames[at - 1], what: "frames" })
+        })
+    }
+
+    pub fn labels(self, slice: &'static str, text: &[u8], rate: u32) -> Why {
+        let frames = || shapes::times(text).map(|time| shapes::frame_of(time, rate));
+        let why = self.or(Refusal::NotOfThisForm, || {
+            let shapes::Misfit { at, line, needed } = shapes::misfit(text)?;
+            Some(Detail::Line { slice, at, is: text.get(at).copied(), needed, line })
+        });
+        let why = why.or(Refusal::NoListedFrame, || {
+            let line = 1 + frames().position(|frame| frame.is_none())?;
+            Some(Detail::NoTime { slice, line, rate })
+        });
+        why.or(Refusal::NotAscending, || backward(slice, "line", frames().flatten()))
+    }
+
+    pub fn cues(self, slice: &'static str, chunk: &[u8]) -> Why {
+        let why = self.or(Refusal::NotOfThisForm, || {
+            if chunk.len() < 12 || (chunk.len() - 12) % 24 != 0 {
+                return Some(Detail::Points { slice, lent: chunk.len() });
+            }
+            let unlike = |&at: &usize| shapes::chunk_byte(chunk, at).is_some_and(|needed| needed != chunk[at]);
+            let at = (0..chunk.len()).find(unlike)?;
+            Some(Detail::Byte { slice, at, is: chunk[at], needed: shapes::chunk_byte(chunk, at)? })
+        });
+        let why = why.or(Refusal::NoListedFrame, || {
+            let (at, is) = shapes::offsets(chunk).enumerate().find(|&(_, is)| shapes::frame_at(is).is_none())?;
+            Some(Detail::NoOffset { slice, point: at + 1, is })
+        });
+        why.or(Refusal::NotAscending, || backward(slice, "point", shapes::offsets(chunk).filter_map(shapes::frame_at)))
     }
 
     // ---- numbers 1 and 2
@@ -354,6 +427,18 @@ impl Why {
     }
 }
 
+// the first of a label track's or cue chunk's frames that isn't after the one before it
+fn backward(slice: &'static str, part: &'static str, frames: impl Iterator<Item = u32>) -> Option<Detail> {
+    let mut last = None;
+    for (k, is) in frames.enumerate() {
+        match last.replace(is) {
+            Some(before) if is <= before => return Some(Detail::Backward { slice, part, at: k + 1, is, before }),
+            _ => {}
+        }
+    }
+    None
+}
+
 // the byte that each tempo track of so many bytes has in this place; none where it is one of a tempo
 fn shape(at: usize, bytes: usize) -> Option<u8> {
     const FRONT: [u8; 18] = *b"MThd\0\0\0\x06\0\0\0\x01\0\x60MTrk";
@@ -421,9 +506,9 @@ impl fmt::Display for Detail {
                 write!(f, "{slice}[{at}] is {is} and the one before it {before}: a list of peaks ascends")
             }
             Detail::TooFew { slice, lent } => write!(f, "{slice}: {} lent, at least two needed", Many(lent, "beat")),
-            Detail::Unordered { slice, at, is, before } => {
+            Detail::Unordered { slice, at, is, before, what } => {
                 let (is, before) = (Count(is.into()), Count(before.into()));
-                write!(f, "{slice}[{at}] is {is} and the one before it {before}: beats ascend")
+                write!(f, "{slice}[{at}] is {is} and the one before it {before}: {what} ascend")
             }
             Detail::Late { slice, at, gap } => {
                 let most = Count(limits::MOST_TEMPO.into());
@@ -434,6 +519,30 @@ impl fmt::Display for Detail {
             }
             Detail::Byte { slice, at, is, needed } => write!(f, "{slice}[{at}] is {is}, {needed} needed"),
             Detail::NoTempo { slice, event } => write!(f, "{slice}: tempo {} of it is 0", count(event + 1)),
+            Detail::Line { slice, at, is: Some(is), needed, line } => {
+                write!(f, "{slice}[{at}] is {is}, {needed} needed: line {}", count(line))
+            }
+            Detail::Line { slice, needed, line, .. } => {
+                write!(f, "{slice} ends here, {needed} needed: line {}", count(line))
+            }
+            Detail::Points { slice, lent } => {
+                write!(f, "{slice}: {} lent, 12 and 24 for each point needed", Many(lent, "byte"))
+            }
+            Detail::NoTime { slice, line, rate } => {
+                let (line, most, rate) = (count(line), Count(limits::MOST_FRAME.into()), Count(rate.into()));
+                write!(f, "{slice}: the time of line {line} is that of no frame up to {most} at rate {rate}")
+            }
+            Detail::NoOffset { slice, point, is } => {
+                let (point, is, most) = (count(point), Count(is.into()), Count(limits::MOST_FRAME.into()));
+                write!(
+                    f,
+                    "{slice}: the offset of point {point} is {is}, which is 256 t + 512 for no frame t up to {most}"
+                )
+            }
+            Detail::Backward { slice, part, at, is, before } => {
+                let (is, before) = (Count(is.into()), Count(before.into()));
+                write!(f, "{slice}: {part} {} is frame {is} and the one before it {before}: frames ascend", count(at))
+            }
             Detail::Past { slice, at, is, curve } => {
                 write!(f, "{slice}[{at}] is {}, past its curve of {}", Count(is.into()), Many(curve, "slot"))
             }

@@ -385,6 +385,9 @@ fn a_refusal_explains_itself() {
         (WrongGrid, 6, "ascend"),
         (GapTooLong, 7, "16,777,215"),
         (OtherShape, 8, "write_tempo_track"),
+        (NotOfThisForm, 9, "write_cues"),
+        (NoListedFrame, 10, "1,048,575"),
+        (NotAscending, 11, "ascend"),
     ] {
         assert_eq!(refusal.number(), number);
         let said = refusal.to_string();
@@ -406,7 +409,7 @@ fn a_refusal_explains_itself() {
     assert_eq!(format!("{:?}", lag_range(0, OPTS)), "Err(Refused(lag_range refused with 1: rate 0, 1 to 192,000))");
 }
 
-// the README shows seven
+// the README shows ten
 #[test]
 fn as_the_readme_says() {
     let mut nan = [0.0; 18];
@@ -417,6 +420,9 @@ fn as_the_readme_says() {
         downbeats(&[0.0], &[0], OPTS.with_meter(17), &mut [0]).unwrap_err(),
         write_tempo_track(&[94, 94], 48_000).unwrap_err(),
         read_tempo_track(&[b"RIFF".as_slice(), &[0; 29]].concat()).unwrap_err(),
+        read_labels(b"0.5\t0.5\tbeat\n", 48_000).unwrap_err(),
+        read_cues(b"cue \x1c\0\0\0\x01\0\0\0\x01\0\0\0\x01\x02\0\0data\0\0\0\0\0\0\0\0\x01\x02\0\0").unwrap_err(),
+        write_labels(&[94, 94], 48_000).unwrap_err(),
         spectral_flux(&[0.0; 7], 4, 2, &mut [0.0; 4]).unwrap_err(),
         pick_onsets(&nan, &[0.0; 18], 48_000, &mut [0; 18]).unwrap_err(),
     ] {

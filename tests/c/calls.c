@@ -581,6 +581,106 @@ static void files(struct run *run)
     CHECK(PROHUNSEV_MOST_TEMPO == 0xFFFFFF);
 }
 
+/* a label track and a cue chunk of the same two frames, made by hand, and one of the other */
+static void labels(struct run *run)
+{
+    static const char text[46] = "0.010667\t0.010667\tbeat\n0.512000\t0.512000\tbeat\n";
+    static const uint8_t chunk[60] = {
+        'c', 'u', 'e', ' ', 52, 0, 0, 0, 2, 0, 0, 0,
+        1, 0, 0, 0, 0x00, 0x02, 0, 0, 'd', 'a', 't', 'a', 0, 0, 0, 0, 0, 0, 0, 0, 0x00, 0x02, 0, 0,
+        2, 0, 0, 0, 0x00, 0x60, 0, 0, 'd', 'a', 't', 'a', 0, 0, 0, 0, 0, 0, 0, 0, 0x00, 0x60, 0, 0,
+    };
+    static const char end[66] = "512.000000\t512.000000\tbeat\n268435712.000000\t268435712.000000\tbeat\n";
+    static const char falls[46] = "0.512000\t0.512000\tbeat\n0.010667\t0.010667\tbeat\n", none[23] = "0.512001\t0.512001\tbeat\n";
+    static const char zero[25] = "00.512000\t00.512000\tbeat\n";
+    const uint32_t grid[2] = {0, 94}, ends[2] = {0, PROHUNSEV_MOST_FRAME}, equal[2] = {94, 94}, past[3] = {5, 5, PROHUNSEV_MOST_FRAME + 1};
+    const uint8_t *bytes = (const uint8_t *)text;
+    uint8_t file[70], other[60];
+    uint32_t frames[4];
+    size_t count = POISON_SIZE;
+
+    /* frames: 1, 11 and then 3; a label track: 1, 9, 10, 11 and then 3; a chunk: no rate; and nothing is written */
+    memset(file, 0xA5, sizeof file);
+    poison_frames(frames, 4);
+    CHECK(ph_labels_room(past, 3, 48000, &count) == PROHUNSEV_OUT_OF_BOUNDS);
+    CHECK(ph_labels_room(equal, 2, PROHUNSEV_MOST_RATE + 1, &count) == PROHUNSEV_OUT_OF_BOUNDS);
+    CHECK(ph_labels_room(equal, 2, 48000, &count) == PROHUNSEV_NOT_ASCENDING);
+    CHECK(ph_write_labels(past, 3, 48000, file, 70, &count) == PROHUNSEV_OUT_OF_BOUNDS); /* before 11 */
+    CHECK(ph_write_labels(grid, 2, 0, file, 70, &count) == PROHUNSEV_OUT_OF_BOUNDS);
+    CHECK(ph_write_labels(equal, 2, 48000, file, 0, &count) == PROHUNSEV_NOT_ASCENDING); /* before 3 */
+    CHECK(ph_write_labels(grid, 2, 48000, file, 45, &count) == PROHUNSEV_TOO_LITTLE_ROOM);
+    CHECK(ph_write_cues(past, 3, file, 70, &count) == PROHUNSEV_OUT_OF_BOUNDS);
+    CHECK(ph_write_cues(equal, 2, file, 0, &count) == PROHUNSEV_NOT_ASCENDING);
+    CHECK(ph_write_cues(grid, 2, file, 59, &count) == PROHUNSEV_TOO_LITTLE_ROOM);
+    CHECK(ph_write_cues(grid, 0, file, 11, &count) == PROHUNSEV_TOO_LITTLE_ROOM);
+    CHECK(ph_read_labels((const uint8_t *)zero, 25, 0, frames, 4, &count) == PROHUNSEV_OUT_OF_BOUNDS);
+    CHECK(ph_read_labels((const uint8_t *)zero, 25, 48000, frames, 4, &count) == PROHUNSEV_NOT_OF_THIS_FORM);
+    CHECK(ph_read_labels(bytes, 45, 48000, frames, 0, &count) == PROHUNSEV_NOT_OF_THIS_FORM); /* no last line feed, and before 3 */
+    CHECK(ph_read_labels((const uint8_t *)none, 23, 48000, frames, 4, &count) == PROHUNSEV_NO_LISTED_FRAME);
+    CHECK(ph_read_labels(bytes, 46, 44100, frames, 0, &count) == PROHUNSEV_NO_LISTED_FRAME);
+    CHECK(ph_read_labels((const uint8_t *)falls, 46, 48000, frames, 0, &count) == PROHUNSEV_NOT_ASCENDING);
+    CHECK(ph_read_labels(bytes, 46, 48000, frames, 1, &count) == PROHUNSEV_TOO_LITTLE_ROOM);
+    CHECK(ph_labels_to_cues((const uint8_t *)zero, 25, 48000, file, 0, &count) == PROHUNSEV_NOT_OF_THIS_FORM);
+    CHECK(ph_labels_to_cues((const uint8_t *)none, 23, 48000, file, 70, &count) == PROHUNSEV_NO_LISTED_FRAME);
+    CHECK(ph_labels_to_cues((const uint8_t *)falls, 46, 48000, file, 0, &count) == PROHUNSEV_NOT_ASCENDING);
+    CHECK(ph_labels_to_cues(bytes, 46, 48000, file, 59, &count) == PROHUNSEV_TOO_LITTLE_ROOM);
+    CHECK(ph_labels_to_cues(bytes, 46, 0, file, 70, &count) == PROHUNSEV_OUT_OF_BOUNDS);
+    CHECK(ph_read_cues(chunk, 60, frames, 1, &count) == PROHUNSEV_TOO_LITTLE_ROOM);
+    CHECK(ph_read_cues(chunk, 59, frames, 0, &count) == PROHUNSEV_NOT_OF_THIS_FORM);
+    CHECK(ph_read_cues(chunk, 0, frames, 4, &count) == PROHUNSEV_NOT_OF_THIS_FORM);
+    for (size_t i = 0; i < 60; i++) { /* no byte may be another by itself */
+        memcpy(other, chunk, 60);
+        other[i] ^= 0x10;
+        CHECK(ph_read_cues(other, 60, frames, 4, &count) == PROHUNSEV_NOT_OF_THIS_FORM);
+        CHECK(ph_cues_to_labels(other, 60, 48000, file, 70, &count) == PROHUNSEV_NOT_OF_THIS_FORM);
+        if (i < 46) {
+            memcpy(other, text, 46);
+            other[i] ^= 0x10;
+            CHECK(ph_read_labels(other, 46, 48000, frames, 4, &count) == PROHUNSEV_NOT_OF_THIS_FORM);
+        }
+    }
+    memcpy(other, chunk, 60);
+    other[40] = other[56] = 1; /* sample 24,577 */
+    CHECK(ph_read_cues(other, 60, frames, 0, &count) == PROHUNSEV_NO_LISTED_FRAME);
+    CHECK(ph_cues_to_labels(other, 60, 48000, file, 0, &count) == PROHUNSEV_NO_LISTED_FRAME);
+    CHECK(ph_cues_to_labels(other, 60, 0, file, 70, &count) == PROHUNSEV_OUT_OF_BOUNDS);
+    other[40] = other[56] = 0;
+    other[41] = other[57] = 2; /* the first frame again */
+    CHECK(ph_read_cues(other, 60, frames, 0, &count) == PROHUNSEV_NOT_ASCENDING);
+    CHECK(ph_cues_to_labels(other, 60, 48000, file, 0, &count) == PROHUNSEV_NOT_ASCENDING);
+    CHECK(ph_cues_to_labels(chunk, 60, 48000, file, 45, &count) == PROHUNSEV_TOO_LITTLE_ROOM);
+    CHECK(count == POISON_SIZE && kept_frames(frames, 0, 4));
+    for (size_t i = 0; i < sizeof file; i++)
+        CHECK(file[i] == 0xA5);
+
+    CHECK(ph_labels_room(grid, 2, 48000, &count) == 0 && count == 46);
+    CHECK(ph_labels_room(ends, 2, 1, &count) == 0 && count == 66);
+    CHECK(ph_write_labels(grid, 2, 48000, file, 70, &count) == 0);
+    CHECK(count == 46 && same(file, text, 46) && file[46] == 0xA5 && file[69] == 0xA5);
+    CHECK(ph_write_labels(ends, 2, 1, file, 66, &count) == 0);
+    CHECK(count == 66 && same(file, end, 66) && file[66] == 0xA5);
+    memset(file, 0xA5, sizeof file);
+    CHECK(ph_write_cues(grid, 2, file, 70, &count) == 0);
+    CHECK(count == 60 && same(file, chunk, 60) && file[60] == 0xA5 && file[69] == 0xA5);
+    CHECK(ph_read_labels(bytes, 46, 48000, frames, 4, &count) == 0);
+    CHECK(count == 2 && frames[0] == 0 && frames[1] == 94 && kept_frames(frames, 2, 4));
+    poison_frames(frames, 4);
+    CHECK(ph_read_cues(chunk, 60, frames, 4, &count) == 0);
+    CHECK(count == 2 && frames[0] == 0 && frames[1] == 94 && kept_frames(frames, 2, 4));
+    memset(file, 0xA5, sizeof file);
+    CHECK(ph_labels_to_cues(bytes, 46, 48000, file, 70, &count) == 0);
+    CHECK(count == 60 && same(file, chunk, 60) && file[60] == 0xA5);
+    memset(file, 0xA5, sizeof file);
+    CHECK(ph_cues_to_labels(chunk, 60, 48000, file, 70, &count) == 0);
+    CHECK(count == 46 && same(file, text, 46) && file[46] == 0xA5);
+
+    /* none: no bytes, and a chunk of count 0 */
+    CHECK(ph_write_labels(grid, 0, 48000, file, 70, &count) == 0 && count == 0);
+    CHECK(ph_labels_to_cues(bytes, 0, 48000, file, 70, &count) == 0 && count == 12 && same(file, "cue \4\0\0\0\0\0\0\0", 12));
+    CHECK(ph_cues_to_labels(file, 12, 48000, other, 60, &count) == 0 && count == 0);
+    CHECK(ph_read_cues(file, 12, frames, 4, &count) == 0 && count == 0);
+}
+
 /* what a whole analysis is lent, with room to spare behind each slice */
 enum { TRACK = 600, TRACK_LAGS = 181, SPARE = 3 };
 
@@ -718,6 +818,7 @@ static void *all(void *given)
         row_patches(run);
         feature_patches(run);
         files(run);
+        labels(run);
         whole_tracks(run);
     }
     return NULL;

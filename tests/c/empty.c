@@ -17,7 +17,7 @@ static struct {
     double a[SLOTS], b[SLOTS], c[SLOTS], d[SLOTS], e[SLOTS], f[SLOTS], g[SLOTS], work[SLOTS], reals[3], saliences[3];
     uint32_t p[SLOTS], q[SLOTS], r[SLOTS], s[SLOTS], small[2];
     size_t sizes[8], lags[3];
-    uint8_t bytes[512], track[33];
+    uint8_t bytes[1024], track[33], text[46], chunk[60];
 } lent;
 
 /* where an empty slice points, and which slices are empty, a bit for each */
@@ -36,6 +36,9 @@ static void reset(void)
     for (size_t k = 0; k < N; k++)
         lent.magnitudes[k * BINS] = k % 8 == 3 ? 1.0f : 0.0f;
     memcpy(lent.track, "MThd\0\0\0\6\0\0\0\1\0\140MTrk\0\0\0\13\0\377\121\3\0\0\1\140\377\57\0", sizeof lent.track);
+    memcpy(lent.text, "0.200000\t0.200000\tbeat\n0.300000\t0.300000\tbeat\n", sizeof lent.text);
+    memcpy(lent.chunk, "cue \64\0\0\0\2\0\0\0\1\0\0\0\0\2\0\0data\0\0\0\0\0\0\0\0\0\2\0\0"
+                       "\2\0\0\0\0\3\0\0data\0\0\0\0\0\0\0\0\0\3\0\0", sizeof lent.chunk);
 }
 
 static uint32_t version(void) { return ph_version(); }
@@ -103,6 +106,19 @@ static uint32_t analyse_magnitudes(void)
 
 static uint32_t write_tempo_track(void) { return ph_write_tempo_track(S(0, lent.p, N), RATE, S(1, lent.bytes, 26 + 7 * (N - 1)), lent.sizes); }
 static uint32_t read_tempo_track(void) { return ph_read_tempo_track(S(0, lent.track, sizeof lent.track), S(1, lent.q, N), lent.sizes); }
+static uint32_t labels_room(void) { return ph_labels_room(S(0, lent.p, N), RATE, lent.sizes); }
+static uint32_t write_labels(void) { return ph_write_labels(S(0, lent.p, N), RATE, S(1, lent.bytes, 23 * N), lent.sizes); }
+static uint32_t read_labels(void) { return ph_read_labels(S(0, lent.text, sizeof lent.text), RATE, S(1, lent.q, N), lent.sizes); }
+static uint32_t write_cues(void) { return ph_write_cues(S(0, lent.p, N), S(1, lent.bytes, 12 + 24 * N), lent.sizes); }
+static uint32_t read_cues(void) { return ph_read_cues(S(0, lent.chunk, sizeof lent.chunk), S(1, lent.q, N), lent.sizes); }
+static uint32_t labels_to_cues(void)
+{
+    return ph_labels_to_cues(S(0, lent.text, sizeof lent.text), RATE, S(1, lent.bytes, 60), lent.sizes);
+}
+static uint32_t cues_to_labels(void)
+{
+    return ph_cues_to_labels(S(0, lent.chunk, sizeof lent.chunk), RATE, S(1, lent.bytes, 46), lent.sizes);
+}
 
 /* a function, how many slices it takes, and what it returns with all of them empty: room for the lags is asked of no rows too */
 static const struct {
@@ -118,7 +134,9 @@ static const struct {
     {"bar_beat_at", bar_beat_at, 2, 0}, {"similarity", similarity, 2, 0}, {"novelty", novelty, 2, 0}, {"boundaries", boundaries, 3, 0},
     {"boundary_times", boundary_times, 2, 0}, {"patch_magnitudes", patch_magnitudes, 5, 0}, {"patch_features", patch_features, 4, 0},
     {"room_of", room_of, 0, 0}, {"analyse_envelope", analyse_envelope, 12, 3}, {"analyse_magnitudes", analyse_magnitudes, 13, 3},
-    {"write_tempo_track", write_tempo_track, 2, 6}, {"read_tempo_track", read_tempo_track, 2, 8},
+    {"write_tempo_track", write_tempo_track, 2, 6}, {"read_tempo_track", read_tempo_track, 2, 8}, {"labels_room", labels_room, 1, 0},
+    {"write_labels", write_labels, 2, 0}, {"read_labels", read_labels, 2, 0}, {"write_cues", write_cues, 2, 3}, {"read_cues", read_cues, 2, 9},
+    {"labels_to_cues", labels_to_cues, 2, 3}, {"cues_to_labels", cues_to_labels, 2, 9},
 };
 
 int main(void)

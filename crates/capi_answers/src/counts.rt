@@ -1,4 +1,4 @@
-// A listing, handed over: an answer of `pick_onsets`, `suppress_close_peaks`, `beat_grid`, `downbeats`, `write_tempo_track` or `read_tempo_track`.
+// A listing, handed over: an answer of `pick_onsets`, `suppress_close_peaks`, `beat_grid`, `downbeats`, or of a call that writes or reads a file.
 use numbers::Listing;
 ghost use Rattle.capi_answers.specs.Handed.{Handed};
 

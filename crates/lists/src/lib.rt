@@ -1,14 +1,27 @@
-// What is asked of a list: whether each entry is at most so much, whether it ascends, its sum and its mean, and which value is the first greatest.
+// What is asked of a list: whether each entry is at most so much, whether it ascends, its sum and its mean, and which value is the first greatest; the
+// number of frames that are lent as a grid, and of frames that are read one by one.
 //
 // docs/RULES.md, L7 (sums) and L11 (first greatest). Inner calls all: the crates above share them, and no caller of the library needs them.
 ghost use mathlib.Core.Path.{_≡_};
+ghost use mathlib.Core.Bool.{true};
+ghost use mathlib.Core.List.{[]};
 ghost use Prim.Native.Nat.{_≤_, _<_};
 ghost use lib.ListN.{length};
 ghost use Rattle.numbers.specs.Rounded.{real, sumOf};
 ghost use Rattle.numbers.specs.Limits.{atMost};
 ghost use Rattle.numbers.specs.Lists.{every, ascending};
+ghost use Rattle.numbers.specs.Refusals.{firstOf};
+ghost use Rattle.lists.specs.Grids.{gridRows, unread, nextRead, missed, readNumber};
 ghost use Rattle.lists.specs.Greatest.{valueAt, firstGreatest};
 ghost use Rattle.lists.specs.Means.{meanOf};
+
+// Inner: what is found of frames that are read one by one: whether each was a listed frame's, whether they strictly ascend, and the least that the next
+// may be.
+pub struct Reading {
+    pub listed: bool,
+    pub rises: bool,
+    pub low: u32,
+}
 
 // Inner: a value, and the place that has it.
 pub struct Best {
@@ -45,6 +58,73 @@ pub fn ascends(list: &[u32]) -> bool
         i += 1;
     }
     true
+}
+
+// Inner: the number of frames that a call is lent as a grid: 1 for one above the largest listed, then 11 where they don't strictly ascend.
+pub fn grid_refusal(frames: &[u32]) -> u32
+    ensures { λ r. ⌜ r ≡ firstOf (gridRows (now (frames .entry))) ⌝ }
+{
+    if !all_at_most(frames, numbers::MOST_FRAME) {
+        return numbers::OUT_OF_BOUNDS;
+    }
+    if !ascends(frames) {
+        return numbers::NOT_ASCENDING;
+    }
+    0
+}
+
+// Inner: before the first frame is read.
+pub fn unread() -> Reading
+    ensures { λ r. ⌜ r ≡ unread ⌝ }
+{
+    Reading {
+        listed: true,
+        rises: true,
+        low: 0,
+    }
+}
+
+// Inner: one frame more.
+pub fn read_frame(j: Reading, t: u32) -> Reading
+    requires { ⌜ t < 16777216 ⌝ }
+    ensures { λ r. ⌜ r ≡ nextRead j t ⌝ }
+{
+    if t < j.low {
+        return Reading {
+            listed: j.listed,
+            rises: false,
+            low: t + 1,
+        };
+    }
+    Reading {
+        listed: j.listed,
+        rises: j.rises,
+        low: t + 1,
+    }
+}
+
+// Inner: one that is no listed frame's.
+pub fn read_none(j: Reading) -> Reading
+    ensures { λ r. ⌜ r ≡ missed j ⌝ }
+{
+    Reading {
+        listed: false,
+        rises: j.rises,
+        low: j.low,
+    }
+}
+
+// Inner: the number when all are read: 10 where one was no listed frame's, then 11 where they don't strictly ascend.
+pub fn read_refusal(j: Reading) -> u32
+    ensures { λ r. ⌜ r ≡ readNumber j true [] ⌝ }
+{
+    if !j.listed {
+        return numbers::NO_LISTED_FRAME;
+    }
+    if !j.rises {
+        return numbers::NOT_ASCENDING;
+    }
+    0
 }
 
 // Inner: a count as a float.

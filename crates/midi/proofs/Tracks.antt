@@ -59,21 +59,21 @@ module _ (rate : ℕ) (beats : List ℕ) where
       le-leb 1 (getD (gapsOf rate beats) i 0) (omega (arith, gap-in-list rate beats i k)))
 
   -- the rows that the code tests before it looks at the room: 1, 6, 7
-  abbrev pub gridRows : List Row
-  gridRows = (tempoTrackNumbersFine rate beats, 1) ∷ (isGrid beats, 6) ∷ (gapsFit rate beats, 7) ∷ []
+  abbrev pub trackRows : List Row
+  trackRows = (tempoTrackNumbersFine rate beats, 1) ∷ (isGrid beats, 6) ∷ (gapsFit rate beats, 7) ∷ []
 
   module _ (room : ℕ) where
     -- 8 can be left out
-    pub tested-rows : writeRefusal beats rate room ≡ firstOf (gridRows ++ ((leb (trackRoom (length beats - 1)) room, 3) ∷ []))
+    pub tested-rows : writeRefusal beats rate room ≡ firstOf (trackRows ++ ((leb (trackRoom (length beats - 1)) room, 3) ∷ []))
     unfolding writeRefusal every
     tested-rows =
-        first-skip gridRows (every tempoSome (gapsOf rate beats)) 8 ((leb (trackRoom (length beats - 1)) room, 3) ∷ [])
+        first-skip trackRows (every tempoSome (gapsOf rate beats)) 8 ((leb (trackRoom (length beats - 1)) room, 3) ∷ [])
         (λ e. never-zero (and-left (tempoTrackNumbersFine rate beats) _ e) (and-left (isGrid beats) _ (and-right (tempoTrackNumbersFine rate beats) _ e)))
 
     -- so it is never given
     pub never-eight : writeRefusal beats rate room ≡ 8 → ⊥
     unfolding every
-    never-eight e = first-among (gridRows ++ ((leb (trackRoom (length beats - 1)) room, 3) ∷ [])) 8 refl (omega arith) (sym tested-rows ∙ e)
+    never-eight e = first-among (trackRows ++ ((leb (trackRoom (length beats - 1)) room, 3) ∷ [])) 8 refl (omega arith) (sym tested-rows ∙ e)
 
 -- the number of the grid is the writer's where it refuses, and else the room decides
 module _ (a b c d : Bool) where
@@ -128,7 +128,7 @@ write-told beats rate room e =
     }
 
 -- what the number of the grid alone tells, where it is 0
-pub grid-told : (beats : List ℕ) (rate : ℕ) → firstOf (gridRows rate beats) ≡ 0 → (2 ≤ length beats) × (length beats ≤ mostFrame + 1)
+pub grid-told : (beats : List ℕ) (rate : ℕ) → firstOf (trackRows rate beats) ≡ 0 → (2 ≤ length beats) × (length beats ≤ mostFrame + 1)
 grid-told beats rate e =
     let p = unless-zero (tempoTrackNumbersFine rate beats) 0 _ e in
     let q = unless-zero (isGrid beats) 5 _ (p .1) in (

@@ -48,6 +48,22 @@ first-zero (r ∷ rows) n e = go (r .0) (r .1) (ltb-true 0 (r .1) (and-left (num
     go true k h e f = f e
     go false k h e f = absurd (omega arith)
 
+-- rows behind others: a number that refuses already stays, and where none does the rest decides
+pub first-refused : (before after : List Row) → (firstOf before ≡ 0 → ⊥) → firstOf (before ++ after) ≡ firstOf before
+first-refused [] after h = absurd (h refl)
+first-refused (r ∷ before) after h = go (r .0) (r .1) h (first-refused before after)
+  where
+    go : (t : Bool) (k : ℕ) → (unless t k (firstOf before) ≡ 0 → ⊥) → ((firstOf before ≡ 0 → ⊥) → firstOf (before ++ after) ≡ firstOf before)
+        → unless t k (firstOf (before ++ after)) ≡ unless t k (firstOf before)
+    go true k h f = f h
+    go false k h f = refl
+
+pub first-then : (before after : List Row) → every holds before ≡ true → firstOf (before ++ after) ≡ firstOf after
+unfolding every
+first-then [] after e = refl
+first-then (r ∷ before) after e =
+    first-passed (r .0) (r .1) (before ++ after) (and-left (r .0) _ e) ∙ first-then before after (and-right (r .0) _ e)
+
 -- a row that holds wherever those before it do can be left out
 pub first-skip : (before : List Row) (t : Bool) (k : ℕ) (after : List Row) → (every holds before ≡ true → t ≡ true)
     → firstOf (before ++ ((t, k) ∷ after)) ≡ firstOf (before ++ after)

@@ -38,6 +38,18 @@ gapTooLong = 7
 abbrev pub otherShape : ℕ
 otherShape = 8
 
+-- document 02, No. 6: "9 for a line or chunk not of this form"
+abbrev pub notOfThisForm : ℕ
+notOfThisForm = 9
+
+-- "10 for a time or offset that is no listed frame's"
+abbrev pub noListedFrame : ℕ
+noListedFrame = 10
+
+-- "11 for frames not strictly ascending"
+abbrev pub notAscending : ℕ
+notAscending = 11
+
 -- the number k unless the test holds, and then the rest
 abbrev pub unless : Bool → ℕ → ℕ → ℕ
 unless true k rest = rest

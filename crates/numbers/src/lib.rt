@@ -55,6 +55,12 @@ pub const GAP_TOO_LONG: u32 = 7;
 
 pub const OTHER_SHAPE: u32 = 8;
 
+pub const NOT_OF_THIS_FORM: u32 = 9;
+
+pub const NO_LISTED_FRAME: u32 = 10;
+
+pub const NOT_ASCENDING: u32 = 11;
+
 // The shape of a slab of magnitudes: so many rows of so many bins, one row behind the other.
 pub struct Slab {
     pub rows: usize,

@@ -25,6 +25,9 @@ use Rattle.flux.specs.Flux.{fluxAt, FluxPromise}
 use Rattle.threshold.specs.Threshold.{sortingRoom, thresholdRefusal, ThresholdPromise}
 use Rattle.onsets.specs.Peaks.{SuppressionPromise}
 use Rattle.onsets.specs.Onsets.{OnsetsPromise, FrameTimesPromise}
+use Rattle.cues.specs.Calls.{WriteCuesPromise, ReadCuesPromise}
+use Rattle.labels.specs.Calls.{LabelsRoomPromise, WriteLabelsPromise, ReadLabelsPromise}
+use Rattle.label_cues.specs.Calls.{LabelsToCuesPromise, CuesToLabelsPromise}
 use Rattle.threshold.proofs.Thresholds.{thresholds-unique}
 use Rattle.lags.specs.Lags.{minLag, maxLag, lagRange}
 use Rattle.options.specs.Options.{defaultOptions, optionsOf, withMinBpm, withMaxBpm, withMeter}
@@ -136,6 +139,37 @@ pub suppress-close-peaks : (peaks : List ℕ) (curve : List Float) (gap : ℕ) (
     → SuppressionPromise peaks curve gap was a x → SuppressionPromise peaks curve gap was b y
     → (a .number ≡ b .number) × (a .count ≡ b .count) × (x ≡ y)
 suppress-close-peaks peaks curve gap was = listing _ _ was
+
+-- `write_cues`, `read_cues`
+pub write-cues : (frames was : List ℕ) {a b : Listing} {x y : List ℕ} → WriteCuesPromise frames was a x → WriteCuesPromise frames was b y
+    → (a .number ≡ b .number) × (a .count ≡ b .count) × (x ≡ y)
+write-cues frames was = listing _ _ was
+
+pub read-cues : (chunk was : List ℕ) {a b : Listing} {x y : List ℕ} → ReadCuesPromise chunk was a x → ReadCuesPromise chunk was b y
+    → (a .number ≡ b .number) × (a .count ≡ b .count) × (x ≡ y)
+read-cues chunk was = listing _ _ was
+
+-- `labels_room`, `write_labels`, `read_labels`
+pub labels-room : (frames : List ℕ) (rate : ℕ) {a b : Listing} → LabelsRoomPromise frames rate a → LabelsRoomPromise frames rate b
+    → (a .number ≡ b .number) × (a .count ≡ b .count)
+labels-room frames rate p q = (p .number-is ∙ sym (q .number-is), p .count-is ∙ sym (q .count-is))
+
+pub write-labels : (frames : List ℕ) (rate : ℕ) (was : List ℕ) {a b : Listing} {x y : List ℕ}
+    → WriteLabelsPromise frames rate was a x → WriteLabelsPromise frames rate was b y → (a .number ≡ b .number) × (a .count ≡ b .count) × (x ≡ y)
+write-labels frames rate was = listing _ _ was
+
+pub read-labels : (text : List ℕ) (rate : ℕ) (was : List ℕ) {a b : Listing} {x y : List ℕ}
+    → ReadLabelsPromise text rate was a x → ReadLabelsPromise text rate was b y → (a .number ≡ b .number) × (a .count ≡ b .count) × (x ≡ y)
+read-labels text rate was = listing _ _ was
+
+-- `labels_to_cues`, `cues_to_labels`
+pub labels-to-cues : (text : List ℕ) (rate : ℕ) (was : List ℕ) {a b : Listing} {x y : List ℕ}
+    → LabelsToCuesPromise text rate was a x → LabelsToCuesPromise text rate was b y → (a .number ≡ b .number) × (a .count ≡ b .count) × (x ≡ y)
+labels-to-cues text rate was = listing _ _ was
+
+pub cues-to-labels : (chunk : List ℕ) (rate : ℕ) (was : List ℕ) {a b : Listing} {x y : List ℕ}
+    → CuesToLabelsPromise chunk rate was a x → CuesToLabelsPromise chunk rate was b y → (a .number ≡ b .number) × (a .count ≡ b .count) × (x ≡ y)
+cues-to-labels chunk rate was = listing _ _ was
 
 -- `write_tempo_track`, `read_tempo_track`
 pub write-tempo-track : (beats : List ℕ) (rate : ℕ) (was : List ℕ) {a b : Listing} {x y : List ℕ}

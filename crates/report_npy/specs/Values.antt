@@ -4,10 +4,7 @@ use mathlib.Core.List.{List}
 use lib.ListN.{length, getD}
 use lib.Ieee.{Float, binary32, ofBits}
 use Rattle.numbers.specs.Lists.{filled}
-
--- four bytes as a number, the low byte first
-abbrev pub wordOf : (a b c d : ℕ) → ℕ
-wordOf a b c d = a + b * 256 + c * 65536 + d * 16777216
+use Rattle.words.specs.Words.{wordOf}
 
 -- the float that four bytes stand for; every pattern of a NaN is the one NaN
 abbrev pub singleOf : (a b c d : ℕ) → Float

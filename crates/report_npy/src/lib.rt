@@ -9,7 +9,7 @@ use texts::stands;
 ghost use mathlib.Core.Path.{_≡_};
 ghost use lib.ListN.{drop};
 ghost use Rattle.report_npy.specs.Header.{ended, headerOf, preambleOf};
-ghost use Rattle.report_npy.specs.Values.{wordOf, singleOf, rowRead};
+ghost use Rattle.report_npy.specs.Values.{singleOf, rowRead};
 
 // above every bound of document 01: a number is told as at most this
 const MOST_NUMBER: u64 = 4_294_967_295;
@@ -101,18 +101,11 @@ pub fn read_preamble(bytes: &[u8]) -> Preamble
     Preamble::Length((bytes[8] as usize) + (bytes[9] as usize) * 256)
 }
 
-// Four bytes as a number, the low byte first.
-fn word_of(a: u8, b: u8, c: u8, d: u8) -> u32
-    ensures { λ r. ⌜ r ≡ wordOf a b c d ⌝ }
-{
-    (a as u32) + (b as u32) * 256 + (c as u32) * 65536 + (d as u32) * 16777216
-}
-
 // Inner: the float that four bytes stand for, the low byte first. Every pattern has one: a NaN's gives a NaN.
 pub fn value_of(a: u8, b: u8, c: u8, d: u8) -> f32
     ensures { λ r. ⌜ r ≡ singleOf a b c d ⌝ }
 {
-    let word = word_of(a, b, c, d);
+    let word = words::word_of(a, b, c, d);
     if word % 2147483648 > 2139095040 {
         0.0 / 0.0
     } else {

@@ -193,7 +193,9 @@ one-digit n h = omega (arith, ap length (decimal-one n h))
 five-digits : (n : ℕ) → n < 100000 → length (decimal n) ≤ 5
 five-digits = tenfold 10000 4 (tenfold 1000 3 (tenfold 100 2 (tenfold 10 1 one-digit)))
 
+pub nine-digits : (n : ℕ) → n < 1000000000 → length (decimal n) ≤ 9
+nine-digits = tenfold 100000000 8 (tenfold 10000000 7 (tenfold 1000000 6 (tenfold 100000 5 five-digits)))
+
 -- ten digits are enough below 2 ^ 32
 pub ten-digits : (n : ℕ) → n < 4294967296 → length (decimal n) ≤ 10
-ten-digits n h =
-    tenfold 1000000000 9 (tenfold 100000000 8 (tenfold 10000000 7 (tenfold 1000000 6 (tenfold 100000 5 five-digits)))) n (omega arith)
+ten-digits n h = tenfold 1000000000 9 nine-digits n (omega arith)

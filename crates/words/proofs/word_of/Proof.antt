@@ -1,8 +1,8 @@
--- `report_npy::word_of` meets its contract: four bytes fit a word, and the code is the definition's own sum. Assumes nothing.
+-- `words::word_of` meets its contract: four bytes fit a word, and the code is the definition's own sum. Assumes nothing.
 use mathlib.Core.Path.{refl}
 use native.Mathlib.Omega.{arith}
-use Rattle.report_npy.proofs.word_of.Statement.{statement}
-use Rattle.report_npy.proofs.word_of.Tie as tie
+use Rattle.words.proofs.word_of.Statement.{statement}
+use Rattle.words.proofs.word_of.Tie as tie
 
 mul-result : tie.Need-mul-result
 mul-result c = omega arith
