@@ -9,8 +9,8 @@ to beat, the beats as a cue chunk for a WAV file, a picture. WAV of 8, 16, 24 or
 where one is on the path. Needs Python 3.8 or newer, NumPy, and the library, as python/prohunsev.py finds it. docs/USE.md says what the answers
 mean, and how far to trust them.
 
-What is proved begins at the magnitudes: flux, threshold, onsets, tempo, stability, beats, downbeats, times, similarity, novelty and
-boundaries are calls of the library, and so are the MIDI file's and the cue chunk's. Reading the file, the two transforms and the feature rows are NumPy's and are not proved.
+What is proved begins at the magnitudes: flux, threshold, onsets, tempo, stability, beats, downbeats, times, feature rows, similarity, novelty
+and boundaries are calls of the library, and so are the MIDI file's and the cue chunk's. Reading the file and the two transforms are NumPy's and are not proved.
 
 The exit is 0 with an answer ("no tempo" is one), 1 where the song can't be read or analysed or a file can't be written, 2 for wrong use,
 130 when interrupted. A file that is asked for is written whole or not at all."""
@@ -46,7 +46,7 @@ except ImportError as error:
     sys.exit("tag: %s" % error)
 
 FRAME, HOP, BINS = 1024, 256, 513                # what a magnitude row is: docs/src/onsets.rs
-WIDE_FRAME, WIDE_HOP = 4096, 1024                # the transform under the feature rows: docs/src/structure.rs
+WIDE_FRAME, WIDE_HOP, WIDE_BINS = 4096, 1024, 2049  # the transform under the feature rows: docs/src/structure.rs
 MOST_ROWS, MOST_FEATURE_ROWS, MOST_RATE = 1_048_576, 50_000, 192_000  # the library's limits
 MOST_SECTIONS = 12                               # the original's default
 BLOCK = 1 << 17                                  # samples read at a time: 512 rows, which stay in a processor's cache
@@ -274,48 +274,45 @@ class Flux:
 
 
 class Features:
-    """Feature rows, one a second, as docs/src/structure.rs `feature_vectors` makes them: twelve chroma, three band fractions, RMS.
+    """Feature rows, one a second, of a song that comes in blocks, bit for bit those of one call of `feature_rows` for the whole song.
 
-    Not proved, and not bit for bit the original's: NumPy adds in another order. What is made of the rows, from `similarity` on, is proved."""
+    A row of the transform belongs to the second that its centre lies in, and a sample to its own; each sum is that of one second, in ascending
+    order. So a second is lent alone, once it is whole, with its rows of the transform, which are all that lie in the one row of such a call."""
 
     def __init__(self, rate):
-        self.rate, self.samples, self.frames = rate, 0, 0
+        self.rate, self.samples, self.frames, self.made = rate, 0, 0, []
         self.transform = Transform(WIDE_FRAME, WIDE_HOP)
-        self.sums = np.zeros((MOST_FEATURE_ROWS, 16))  # zeros that are not touched take no memory
-        hz = np.arange(WIDE_FRAME // 2 + 1) * rate / WIDE_FRAME
-        self.pitched = np.flatnonzero((hz >= 55) & (hz <= 5000))
-        classes = np.floor(69 + 12 * np.log2(hz[self.pitched] / 440) + 0.5) % 12
-        self.classes = (classes[:, None] == np.arange(12)).astype(np.float64)
-        self.bands = np.searchsorted(hz, 250, "left"), np.searchsorted(hz, 4000, "right")
+        # of seconds that are not made yet: the samples, the rows of the transform, and the second of each row
+        self.heard, self.rows_left, self.second_of = np.zeros(0, np.float32), np.zeros((0, WIDE_BINS), np.float32), np.zeros(0, np.intp)
+
+    def centred(self, frames):
+        """The second in which the centre of each frame lies, by milliseconds, as the call has it."""
+        return np.floor((frames * WIDE_HOP + WIDE_FRAME / 2) / self.rate * 1000 / 1000).astype(np.intp)
 
     def push(self, samples):
-        # squares are summed second by second; a block may begin and end within one
-        first = self.samples // self.rate
-        starts = np.arange(first + 1, (self.samples + len(samples) - 1) // self.rate + 1) * self.rate - self.samples
-        squares = np.add.reduceat(samples.astype(np.float64) ** 2, np.concatenate([[0], starts]).astype(np.intp))
-        self.sums[first:first + len(squares), 15] += squares
-        self.samples += len(samples)
+        rows = self.transform.push(samples)
+        frames = np.arange(self.frames, self.frames + len(rows) + 1, dtype=np.float64)
+        seconds = self.centred(frames)
+        self.samples, self.frames = self.samples + len(samples), self.frames + len(rows)
+        self.heard = np.concatenate([self.heard, samples])
+        self.rows_left, self.second_of = np.concatenate([self.rows_left, rows]), np.concatenate([self.second_of, seconds[:-1]])
+        # a row that is still to come lies in the second of the next one, or later
+        self.make(min(self.samples // self.rate, int(seconds[-1])))
 
-        rows = self.transform.push(samples).astype(np.float64)
-        if not len(rows):
-            return
-        frames = self.frames + np.arange(len(rows), dtype=np.float64)
-        self.frames += len(rows)
-        second = np.floor((frames * WIDE_HOP + WIDE_FRAME / 2) / self.rate * 1000 / 1000).astype(np.intp)  # by milliseconds, as there
-        low, high = self.bands
-        energy = rows ** 2
-        bands = [energy[:, :low].sum(1), energy[:, low:high].sum(1), energy[:, high:].sum(1)]
-        np.add.at(self.sums, second, np.column_stack([rows[:, self.pitched] @ self.classes] + bands + [np.zeros(len(rows))]))
+    def make(self, past):
+        """The seconds from the first that is not made up to this one."""
+        row = start = 0
+        while len(self.made) < past:
+            last, end = int(np.searchsorted(self.second_of, len(self.made), "right")), min(start + self.rate, len(self.heard))
+            values = np.empty(16)
+            ph.feature_rows(self.rows_left[row:last], samples=self.heard[start:end], rate=self.rate, length=self.rate, features=values)
+            self.made.append(values)
+            row, start = last, end
+        self.heard, self.rows_left, self.second_of = self.heard[start:], self.rows_left[row:], self.second_of[row:]
 
     def rows(self):
-        count = -(-self.samples // self.rate)
-        rows = self.sums[:count].copy()
-        for part in slice(0, 12), slice(12, 15):
-            over = rows[:, part].max(1) if part.start == 0 else rows[:, part].sum(1)
-            rows[:, part] /= np.where(over > 0, over, 1)[:, None]
-        lengths = np.minimum(self.rate, self.samples - np.arange(count) * self.rate)
-        rows[:, 15] = np.sqrt(rows[:, 15] / lengths)
-        return np.ascontiguousarray(rows)
+        self.make(-(-self.samples // self.rate))
+        return np.array(self.made).reshape(-1, 16)
 
 
 # ---- the analysis

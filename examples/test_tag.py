@@ -371,11 +371,23 @@ class Parts(unittest.TestCase):
         rate, chance = 8000, np.random.RandomState(6)
         t = np.arange(27_500) / rate
         samples = (0.3 * np.sin(2 * np.pi * 330 * t) * (t > 1) + 0.05 * chance.standard_normal(len(t)) * (t < 2.5)).astype(np.float32)
-        for size in 27_500, 8000, 3001:
-            features = tag.Features(rate)
-            for k in range(0, len(samples), size):
-                features.push(samples[k:k + size])
-            np.testing.assert_allclose(features.rows(), self.by_definition(samples, rate), rtol=1e-9, atol=1e-12)
+        np.testing.assert_allclose(self.in_blocks(samples, rate, len(samples)), self.by_definition(samples, rate), rtol=1e-9, atol=1e-12)
+
+    def in_blocks(self, samples, rate, size):
+        features = tag.Features(rate)
+        for k in range(0, len(samples), size):
+            features.push(samples[k:k + size])
+        return features.rows()
+
+    def test_features_in_blocks_are_those_of_the_whole_song(self):
+        samples = np.random.RandomState(7).standard_normal(27_500).astype(np.float32)
+        rows = tag.Transform(4096, 1024).push(samples)
+        for rate in 8000, 1024, 999, 11_025, 27_500, 48_000:
+            whole = np.empty((ph.feature_count(len(samples), rate), 16))
+            ph.feature_rows(rows, samples=samples, rate=rate, length=rate, features=whole)
+            for size in 27_500, 8000, 3001, 1024:
+                self.assertEqual(self.in_blocks(samples, rate, size).tobytes(), whole.tobytes(), (rate, size))
+        self.assertEqual(tag.Features(8000).rows().shape, (0, 16))
 
     def by_definition(self, samples, rate):
         """docs/src/structure.rs `feature_vectors`, line by line."""
@@ -577,7 +589,7 @@ class Odd(Room):
         lifted = "import sys, tag; tag.MOST_RATE = 200_000; sys.exit(tag.main())"
         done = subprocess.run([sys.executable, "-B", "-c", lifted, high], cwd=HERE, stdout=subprocess.PIPE, stderr=subprocess.PIPE)
         self.assertEqual((done.returncode, done.stdout), (1, b""))
-        self.assertEqual(done.stderr.decode(), "tag: high.wav: pick_onsets refused with 1: rate 192,001, 1 to 192,000\n")
+        self.assertEqual(done.stderr.decode(), "tag: high.wav: feature_rows refused with 1: rate 192,001, 1 to 192,000\n")
 
     def test_cut_short(self):
         data = struct.pack("<h", 1000) * 44_100

@@ -8,14 +8,14 @@
  *   0  answered ("no tempo" and "no stability" are answers)
  *   1  a number is out of bounds: a rate outside 1 to 192,000, more than 1,048,576 magnitude rows or slots of an input that is an envelope,
  *      a flux or the curve of ph_suppress_close_peaks, bins outside 1 to 4,096, more than 50,000 feature rows or slots of ph_boundaries'
- *      novelty, a feature length outside 1 to 2^31, a period or whole lag above 45,000, a meter outside 1 to 16, a patch whose start is
- *      above its row count, a frame above 1,048,575, a listed row of 50,000 and above in ph_boundary_times, a peak list that doesn't ascend
- *      strictly or points past its curve, or the median of nothing
+ *      novelty, a feature length outside 1 to 2^31, a count of feature rows other than samples over length, rounded up, a period or whole lag
+ *      above 45,000, a meter outside 1 to 16, a patch whose start is above its row count, a frame above 1,048,575, a listed row of 50,000 and
+ *      above in ph_boundary_times, a peak list that doesn't ascend strictly or points past its curve, or the median of nothing
  *   2  the length of an input isn't rows times width, a threshold isn't as long as its flux, however long it is, or a patch isn't whole rows
  *      or runs past the end
  *   3  too little room: an output or a work slice is shorter than its formula
  *   4  a value isn't finite or is too large: above 2^126 in size for magnitudes, above 2^150 for envelopes, curves, medians and
- *      features, and outside -1 to 1 for a similarity
+ *      features, and outside -1 to 1 for a similarity; samples may have any finite size, and ph_feature_rows takes no magnitude below 0
  *   6  of a tempo track's beats there are fewer than two, or they don't ascend strictly
  *   7  from one beat to the next are more than 16,777,215 microseconds, the longest tempo that three bytes hold
  *   8  a file isn't of the one shape that ph_write_tempo_track writes, or has a tempo of 0
@@ -40,6 +40,7 @@
  * + 1 by ph_lag_range (338 at 48,000 samples a second and 30 to 300 bpm):
  *   N       flux, threshold, onset frames, score, back links, beats
  *   L       each lag curve, and the work slice beside it
+ *   16 F    features
  *   17 F    similarity (row i with row i + d stands in slot 17 i + d, for d from 0 to 16)
  *   F       novelty, boundary rows, and the work slice beside them
  *   one for each entry: suppressed peaks, times, downbeats; a median's work slice
@@ -59,7 +60,8 @@
  * seconds, nine at most. Measured on a thread's stack filled with a pattern, 34,112 bytes in ph_analyse_magnitudes, the most (docs/ROOM.md).
  *
  * Times. A magnitude row is a frame: 1,024 samples, 256 after the one before it. Frame t's centre is at (256 t + 512) / rate seconds.
- * A feature row has 16 values and is `length` samples long. Beats and lags are counted in frames.
+ * A feature row has 16 values and is `length` samples long. Beats and lags are counted in frames. The feature transform has rows of its own: 4,096
+ * samples, 1,024 after the one before it, centred at (1,024 t + 2,048) / rate seconds, and 2,049 bins, of which bin k stands at k rate / 4,096 Hz.
  *
  * Linking. `tools/library` makes lib/libprohunsev.a and lib/libprohunsev.so for this processor, `tools/library PREFIX` installs them with
  * this header and a file for pkg-config. The library needs memcpy and memset of libc, and nothing else. examples/c/tag.c has a command line.
@@ -101,6 +103,10 @@ extern "C" {
 /* samples of a frame, and from one frame to the next */
 #define PROHUNSEV_FRAME 1024u
 #define PROHUNSEV_HOP 256u
+/* samples of a row of the feature transform, from one to the next, and its bins */
+#define PROHUNSEV_FEATURE_FRAME 4096u
+#define PROHUNSEV_FEATURE_HOP 1024u
+#define PROHUNSEV_FEATURE_BINS 2049u
 /* values of a feature row, and similarity slots of one: a row with itself and with the sixteen after it */
 #define PROHUNSEV_FEATURE_WIDTH 16u
 #define PROHUNSEV_SIMILARITY_WIDTH 17u
@@ -225,6 +231,18 @@ uint32_t ph_bar_beat_at(double time, const double *downbeats, size_t downbeats_l
                         uint32_t *found, size_t *bar, size_t *beat);
 
 /* ---- sections */
+
+/* Feature rows from rows of the feature transform and the samples that it was made of, for ph_similarity: of each stretch of `length` samples, the last
+ * perhaps shorter, features[16 i] to features[16 i + 15]. Twelve are the sums of the magnitudes of each pitch class, C first, of the bins from 55 to
+ * 5,000 Hz, over the greatest of them; three are the parts of the energy below 250 Hz, to 4,000 Hz and above; the last is the root mean square of the
+ * samples. A row of the transform belongs to the feature row of its centre's time over a feature row's, rounded as floats are (a centre exactly on a
+ * border may fall to the row before), and past the last one to that. Where nothing sounds from 55 to 5,000 Hz the twelve are 0, and without magnitudes
+ * other than 0 the three too. No samples: a count of 0, and nothing is written.
+ * Room: 16 count slots of features. Every value is one that ph_similarity takes, the first fifteen 0 to 1.
+ * Refuses 1 for the rate, rows above 1,048,576, the length, and a count above 50,000 or other than samples over length, rounded up; 2 where there
+ * aren't 2,049 rows magnitudes; 3; and 4 for a magnitude below 0 (-0 isn't), above 2^126 or not finite, and a sample that isn't finite. */
+uint32_t ph_feature_rows(const float *magnitudes, size_t magnitudes_len, size_t rows, const float *samples, size_t samples_len, uint32_t rate,
+                         uint64_t length, size_t count, double *features, size_t features_len);
 
 /* How alike each feature row is to itself and to the sixteen rows after it, from -1 to 1; 0 past the last row and beside a row of zeros.
  * Room: 17 rows slots of similarity.

@@ -6,7 +6,7 @@
 use std::{env, fs, path::Path};
 
 // name, the file, the first words of the lines, and the words before which they end
-const CUTS: [(&str, &str, &str, &str); 10] = [
+const CUTS: [(&str, &str, &str, &str); 12] = [
     ("picking", "onsets", "    let min_gap_frames =\n", "    let times_ms: Vec<f64> = accepted"),
     ("lag range", "tempo", "    let (lo, hi) = if opts.min_bpm <= opts.max_bpm {", "    let n = flux.len();\n    if n <= max_lag + 1"),
     ("lag curves", "tempo", "    let n = flux.len();\n    // Mean-removed", "    // Winner: best weighted"),
@@ -15,6 +15,8 @@ const CUTS: [(&str, &str, &str, &str); 10] = [
     ("estimate", "tempo", "    if sample_rate == 0 || stft.magnitudes.len() < 3 {\n", "/// The beat-phase (`0..beats_per_bar`)"),
     ("downbeats", "tempo", "    let downbeat_phase = downbeat_phase(&flux,", "    let stability = stability_of("),
     ("frame length", "structure", "    let frame_ms = frame_len as f64", "    let features = feature_vectors"),
+    ("frame time", "structure", "    let frame_ms = frame_len as f64", "    if frame_count < 2 * KERNEL_HALF_WIDTH"),
+    ("feature rows", "structure", "    let mut chroma_acc = vec![", "/// Map a time in milliseconds"),
     ("boundaries", "structure", "    let min_gap_frames = ((MIN_BOUNDARY_GAP_S", "    if picked.is_empty()"),
     ("report", "structure", "    if picked.is_empty() {\n        return one_section_report();", "/// Per-frame 16-dim feature"),
 ];

@@ -4,19 +4,21 @@ Every call is a thin door to a function that is proved to meet its contract for 
 of the right kind (an array.array, a memoryview, a NumPy array, ..), contiguous, and large enough to write into; nothing is copied.
 
     float64 values   array('d'), numpy.float64     envelopes, curves, features, times, work
-    float32 values   array('f'), numpy.float32     magnitudes
+    float32 values   array('f'), numpy.float32     magnitudes, samples
     uint32 frames    array('I'), numpy.uint32      lists of frames and rows, back links, gaps
     uint8 bytes      bytes, bytearray, numpy.uint8 files
 
-A slice has one dimension. Rows may have two, and then the shape must be what the call is told: (rows, bins) magnitudes, (rows, 16)
-features, (rows, 17) similarities; new rows of a patch, and a similarity that is written, may be any number of rows. A call that isn't told
-rows and bins takes them from the shape: analyse_magnitudes(magnitudes, rate=48000), spectral_flux(magnitudes, flux=flux).
+A slice has one dimension. Rows may have two, and then the shape must be what the call is told: (rows, bins) magnitudes, (rows, 2049) of the
+feature transform, (rows, 16) features, (rows, 17) similarities; new rows of a patch, and features and a similarity that are written, may be any
+number of rows. A call that isn't told rows and bins takes them from the shape: analyse_magnitudes(magnitudes, rate=48000),
+spectral_flux(magnitudes, flux=flux).
 
 A call answers, or raises Refused with the number of the refusal and what it was refused for ("threshold: 4,095 slots lent, 4,096
 needed"), and then nothing that was lent has changed. A buffer of another kind, one that isn't contiguous, a masked array, or an output that
 can't be written raises TypeError; another shape, and an output that overlaps another slice, raises ValueError; a whole number that its C
 type cannot hold raises OverflowError; and none of these writes anything. A call that lists answers how many entries it listed: they stand
-first in the slice, and the slots behind them are unchanged. The calls of files make what they answer; those with _into behind their names don't.
+first in the slice, and the slots behind them are unchanged. The calls of files, sections_of and track_of make what they answer; those with
+_into behind their names don't.
 
 Calls hold no lock while they compute: threads run at the same time, each with outputs of its own, and may read the same inputs. A call
 that shares a slice with one of another thread that is still at work, where either writes it, raises ValueError. Only calls of this module
@@ -41,12 +43,14 @@ __version__ = "0.2.0"
 
 __all__ = [
     "Analysis", "BarBeat", "Buffers", "Candidate", "LagRange", "NO_LINK", "Patched", "PatchedFeatures", "Refused", "Room", "Sections",
-    "Stability", "Tempo", "TempoEstimate", "TempoOpts", "adaptive_threshold", "bar_beat_at", "beat_grid", "boundaries", "boundary_times",
-    "cue_frames_room", "cues_room", "cues_to_labels", "cues_to_labels_into", "downbeats", "estimate", "frame_times", "label_frames_room",
+    "Stability", "Structure", "Tempo", "TempoEstimate", "TempoOpts", "Track", "adaptive_threshold", "bar_beat_at", "beat_grid", "boundaries", "boundary_times",
+    "cue_frames_room", "cues_room", "cues_to_labels", "cues_to_labels_into", "downbeats", "estimate", "feature_count", "feature_rows",
+    "features_room", "frame_times", "label_frames_room",
     "labels_room", "labels_to_cues", "labels_to_cues_into", "lag_range", "mad_of", "median_of", "novelty", "patch_features", "patch_magnitudes",
     "pick_onsets", "read_cues", "read_cues_into", "read_labels", "read_labels_into", "read_tempo_track", "read_tempo_track_into", "room_of",
-    "similarity", "similarity_room", "spectral_flux", "stability_of", "suppress_close_peaks", "tempo_gaps_room", "tempo_track_room",
-    "threshold_room", "write_cues", "write_cues_into", "write_labels", "write_labels_into", "write_tempo_track", "write_tempo_track_into",
+    "sections_of", "similarity", "similarity_room", "spectral_flux", "stability_of", "suppress_close_peaks", "tempo_gaps_room", "tempo_track_room",
+    "threshold_room", "track_of", "write_cues", "write_cues_into", "write_labels", "write_labels_into", "write_tempo_track",
+    "write_tempo_track_into",
 ]
 
 # what beat_grid writes in `back` for a frame with no beat before it
@@ -65,6 +69,7 @@ _MOST_LISTED_ROW = 49_999
 _MOST_FEATURE_LENGTH = 2_147_483_648
 _MOST_MAGNITUDE = 85070591730234615865843651857942052864.0
 _MOST_VALUE = 1427247692705959881058285969449495136382746624.0
+_FEATURE_BINS = 2_049
 _FEATURE_WIDTH = 16
 _SIMILARITY_WIDTH = 17
 _MEDIAN_WINDOW = 21
@@ -84,11 +89,12 @@ class Refused(Exception):
     WHY = {
         1: "a number is out of bounds: sample rate 1 to 192,000, at most 1,048,576 rows or slots of 1 to 4,096 bins, period at most"
            " 45,000, meter 1 to 16, at most 50,000 feature rows of 1 to 2**31 samples, frames at most 1,048,575; or a patch starts past"
-           " its rows, a median's list is empty, or a peak list doesn't ascend or points past its curve",
+           " its rows, a median's list is empty, a peak list doesn't ascend or points past its curve, or a count of feature rows isn't that of"
+           " the samples",
         2: "an input's length isn't rows times width, or a patch isn't whole rows or runs past the end",
         3: "an output or work slice has fewer slots than its formula, which the call's help says under Room, and docs/ROOM.md",
         4: "a value isn't finite or is too large: magnitudes up to 2**126, envelopes, curves, medians and features up to 2**150,"
-           " similarities -1 to 1",
+           " similarities -1 to 1; or a magnitude of feature_rows is below 0",
         6: "a tempo track needs two beats at least, which ascend strictly",
         7: "from one beat to the next are more than 16,777,215 microseconds, the longest tempo of a track",
         8: "the file isn't of the shape that write_tempo_track writes: format 0, one track of Set Tempo events, division 96; or it has a"
@@ -173,6 +179,21 @@ class Sections(NamedTuple):
     confidence: float
 
 
+class Structure(NamedTuple):
+    """What sections_of answers: how many sections, how far their boundaries stand out, 0 to 1, and of each boundary the feature row, as uint32
+    values, and the time in milliseconds, as float64 values."""
+    sections: int
+    confidence: float
+    rows: array.array
+    ms: array.array
+
+
+class Track(NamedTuple):
+    """What track_of answers: the rhythm of a track and its sections."""
+    rhythm: "Analysis"
+    structure: Structure
+
+
 class Patched(NamedTuple):
     """The slots that were repaired, as ranges; both are empty for an empty patch."""
     flux: range
@@ -251,6 +272,7 @@ _EXPORTED = {
     "ph_beat_grid": "envelope: &[f64], period: usize, score: &mut [f64], back: &mut [u32], beats: &mut [u32], count: &mut usize",
     "ph_downbeats": "envelope: &[f64], beats: &[u32], meter: usize, frames: &mut [u32], count: &mut usize",
     "ph_bar_beat_at": "time: f64, downbeats: &[f64], beats: &[f64], found: &mut u32, bar: &mut usize, beat: &mut usize",
+    "ph_feature_rows": "magnitudes: &[f32], rows: usize, samples: &[f32], rate: u32, length: u64, count: usize, features: &mut [f64]",
     "ph_similarity": "features: &[f64], rows: usize, similarity: &mut [f64]",
     "ph_novelty": "similarity: &[f64], rows: usize, novelty: &mut [f64]",
     "ph_boundaries": (
@@ -505,6 +527,13 @@ def _features(call, name, lent, rows, width, written=False):
     return _Slice(name, lent, _FLOAT64, written, rows.value if told else None, width), rows
 
 
+def _feature_magnitudes(call, magnitudes, rows):
+    """The two parts that rows of the feature transform are; rows as given, or those of the shape."""
+    told = rows is not None
+    rows = _size("rows", rows if told else _shape(call, "magnitudes", magnitudes, "rows")[0], (0, _MOST_ROWS))
+    return _Slice("magnitudes", magnitudes, _FLOAT32, False, rows.value if told else None, _FEATURE_BINS), rows
+
+
 # the least and the greatest that calls take, of numbers that mean the same in every call
 _TAKEN = {"rate": (1, _MOST_RATE), "bins": (1, _MOST_BINS), "period": (0, _MOST_PERIOD), "whole_lag": (0, _MOST_PERIOD),
           "meter": (1, _MOST_METER), "length": (1, _MOST_FEATURE_LENGTH)}
@@ -692,6 +721,11 @@ def _entries(name, most):
     return 1, look
 
 
+def _stretches(n):
+    needed = feature_count(n.samples, n.length)
+    return "" if n.count == needed else f"count {n.count:,}, {needed:,} needed: {_many(n.samples, 'sample')}, {n.length:,} a row"
+
+
 def _peaks(name, curve):
     def look(n):
         before, past = -1, getattr(n, curve)
@@ -738,23 +772,23 @@ def _room(name, needed, whole=None):
     return 3, look
 
 
-def _first_outside(values, most):
-    """The first place of a value that isn't finite or has a size above most, or None. A piece whose sizes sum up to no more than it holds
-    none, which is soon seen; with NumPy, where it is loaded already, sooner."""
+def _first_outside(values, most, least=-math.inf):
+    """The first place of a value that isn't finite, has a size above most or is below least, or None. A piece whose sizes sum up to no more than
+    it holds none too large, which is soon seen; with NumPy, where it is loaded already, sooner."""
     numpy, step = sys.modules.get("numpy"), 65_536
     for begin in range(0, len(values), step):
         if numpy:
             # the ctypes array itself is the buffer
             count, kind = min(step, len(values) - begin), numpy.dtype(values._type_)
             piece = numpy.frombuffer(values, kind, count, begin * kind.itemsize)
-            fine = numpy.abs(piece) <= most
+            fine = (numpy.abs(piece) <= most) & (piece >= least)
             if not fine.all():
                 return begin + int(fine.argmin())
         else:
             piece = values[begin:begin + step]
-            if not sum(map(abs, piece)) <= most:
+            if not sum(map(abs, piece)) <= most or min(piece) < least:
                 for at, value in enumerate(piece):
-                    if not abs(value) <= most:
+                    if not (abs(value) <= most and value >= least):
                         return begin + at
     return None
 
@@ -762,12 +796,14 @@ def _first_outside(values, most):
 _MAGNITUDE = _MOST_MAGNITUDE, "a value is finite and at most 2**126 in size"
 _VALUE = _MOST_VALUE, "a value is finite and at most 2**150 in size"
 _SIMILARITY = 1.0, "a similarity is -1 to 1"
+_STRENGTH = _MOST_MAGNITUDE, "a magnitude is 0 to 2**126", 0.0
+_SAMPLE = 3.4028234663852886e38, "a sample is finite"
 
 
 def _values(name, taken=_VALUE, slots=None):
     def look(n):
         values = n.of(name, slots and slots(n))
-        at = _first_outside(values, taken[0])
+        at = _first_outside(values, taken[0], *taken[2:])
         return "" if at is None else f"{name}[{at}] is {values[at]}: {taken[1]}"
     return 4, look
 
@@ -962,6 +998,9 @@ _TAKES = {
     "beat_grid": (_frames_of("envelope"), _number("period", *_TAKEN["period"]),
                   *(_room(name, lambda n: n.envelope) for name in ("score", "back", "beats")), _values("envelope")),
     "downbeats": (_frames_of("envelope"), _entries("beats", _MOST_FRAME), _METER, _room("frames", lambda n: n.beats), _values("envelope")),
+    "feature_rows": (_number("rows", 0, _MOST_ROWS), _RATE, _LENGTH, _number("count", 0, _MOST_FEATURE_ROWS), (1, _stretches),
+                     _table("magnitudes", _FEATURE_BINS), _room("features", lambda n: features_room(n.count)), _values("magnitudes", _STRENGTH),
+                     _values("samples", _SAMPLE)),
     "similarity": (_FEATURE_ROWS, _table("features", _FEATURE_WIDTH), _room("similarity", lambda n: similarity_room(n.rows)), _values("features")),
     "novelty": (_FEATURE_ROWS, _table("similarity", _SIMILARITY_WIDTH), _room("novelty", lambda n: n.rows), _values("similarity", _SIMILARITY)),
     "boundaries": (_at_most("novelty", _MOST_FEATURE_ROWS), _LENGTH, _RATE, _room("rows", lambda n: n.novelty), _room("work", lambda n: n.novelty),
@@ -1115,6 +1154,63 @@ def bar_beat_at(time: float, downbeats: Lent, beats: Lent) -> Optional[BarBeat]:
 
 
 # ---- sections
+
+
+def feature_count(samples: int, length: int) -> int:
+    """How many feature rows so many samples have, of length samples each, the last perhaps shorter. A length of 0, which no call takes, is a
+    ZeroDivisionError."""
+    return -(-samples // length)
+
+
+def features_room(rows: int) -> int:
+    """Slots of features for so many feature rows."""
+    return _FEATURE_WIDTH * rows
+
+
+def feature_rows(magnitudes: Lent, rows: Optional[int] = None, samples: Lent = None, rate: Optional[int] = None, length: Optional[int] = None,
+                 count: Optional[int] = None, features: Lent = None) -> None:
+    """Sixteen values for each stretch of length samples: twelve pitch classes, C first, over the greatest of them, the parts of the energy below
+    250 Hz, to 4,000 Hz and above, and the root mean square of the samples.
+
+    The magnitudes are float32 rows of 2,049 bins, of a transform of 4,096 samples every 1,024, and the samples float32, of any size. A row belongs
+    to the stretch that its centre's time falls in (exactly on a border, by rounding, perhaps to the one before), and past the last one to that.
+    count is feature_count(len(samples), length), also where it isn't said. Room: features_room(count). Without samples nothing is written.
+    Refused with 4 is also a magnitude below 0, which -0 isn't."""
+    call = "feature_rows"
+    _given(call, samples=samples, rate=rate, length=length, features=features)
+    lent, long = _Slice("samples", samples, _FLOAT32, False), _whole("length", length, ctypes.c_uint64)
+    if count is None:
+        # of a length of 0, which is refused, any count will do
+        count = feature_count(_count(samples, 4), max(long.value, 1))
+    _call(call, *_feature_magnitudes(call, magnitudes, rows), lent, _small("rate", rate), long, _size("count", count, (0, _MOST_FEATURE_ROWS)),
+          _Slice("features", features, _FLOAT64, True, None, _FEATURE_WIDTH))
+
+
+def sections_of(magnitudes: Lent, rows: Optional[int] = None, samples: Lent = None, rate: Optional[int] = None, length: Optional[int] = None,
+                max_sections: int = 12) -> Structure:
+    """The sections of a track, from the rows of the feature transform and the samples that it was made of: feature_rows, similarity, novelty,
+    boundaries and boundary_times, one after the other, in room that is made for them. A feature row is length samples long, one second of them
+    where nothing is said. Refused as feature_rows refuses; what it writes, the others never refuse."""
+    call = "sections_of"
+    _given(call, samples=samples, rate=rate)
+    hertz, length = _small("rate", rate), rate if length is None else length
+    long = _whole("length", length, ctypes.c_uint64)
+    count = feature_count(_count(samples, 4), max(long.value, 1))
+    slots = min(count, _MOST_FEATURE_ROWS)
+
+    def made(code, size, many):
+        return array.array(code, bytes(size * many))
+    features = made("d", 8, features_room(slots))
+    _call(call, *_feature_magnitudes(call, magnitudes, rows), _Slice("samples", samples, _FLOAT32, False), hertz, long, _size("count", count),
+          _reals_out("features", features), of="feature_rows")
+    band, novel, listed = made("d", 8, similarity_room(slots)), made("d", 8, slots), made("I", 4, slots)
+    similarity(features, count, band)
+    novelty(band, count, novel)
+    found = boundaries(novel, length, rate, max_sections, listed, made("d", 8, slots))
+    listed = listed[:found.count]
+    ms = made("d", 8, found.count)
+    boundary_times(listed, length, rate, ms)
+    return Structure(found.sections, found.confidence, listed, ms)
 
 
 def similarity_room(rows: int) -> int:
@@ -1582,3 +1678,13 @@ class Buffers:
         """The weight of each lag, by which the tempo was chosen. Empty where clarity is."""
         last = self._last
         return self._weight[:last.lags if last else 0].toreadonly()
+
+
+def track_of(magnitudes: Lent, wide: Lent, samples: Lent, rate: int, opts: Bounds = TempoOpts(), length: Optional[int] = None,
+             max_sections: int = 12, rows: Optional[int] = None, bins: Optional[int] = None, wide_rows: Optional[int] = None) -> Track:
+    """The rhythm and the sections of a track, from the rows of both transforms, the one with a row every 256 samples and the wide one of 4,096
+    samples every 1,024, and the samples that both were made of: analyse_magnitudes in Buffers of its own, then sections_of. Slabs of two
+    dimensions need no rows and bins told. Refused as those calls refuse, under their names."""
+    _, many, _ = _magnitudes("track_of", magnitudes, rows, bins)
+    structure = sections_of(wide, wide_rows, samples, rate, length, max_sections)
+    return Track(Buffers(many.value, rate, opts).analyse_magnitudes(magnitudes, rows, bins, rate, opts), structure)

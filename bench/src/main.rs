@@ -1,8 +1,10 @@
 //! The speed of each stage beside the Rust of docs/src: the same inputs, one process, bits compared before anything is timed.
 //!
-//!   bench          every size, and how cost grows
-//!   bench quick    tracks up to three minutes and feature rows up to an hour, and no growth
+//!   bench            every size, and how cost grows
+//!   bench quick      tracks up to three minutes and feature rows up to an hour, from magnitudes up to three minutes, and no growth
+//!   bench features   feature rows from magnitudes alone
 mod clock;
+mod features;
 mod growth;
 mod medians;
 mod music;
@@ -54,8 +56,9 @@ fn main() {
     let quick = match std::env::args().nth(1).as_deref() {
         None => false,
         Some("quick") => true,
+        Some("features") => return features::tell(false),
         Some(_) => {
-            eprintln!("bench [quick]");
+            eprintln!("bench [quick | features]");
             std::process::exit(2)
         }
     };
@@ -96,6 +99,8 @@ fn main() {
     medians::tell(quick, 25);
     println!();
     thresholds::tell(quick);
+    println!();
+    features::tell(quick);
     if !quick {
         println!();
         growth::tell(7);

@@ -89,7 +89,7 @@ pub fn version() -> u32 {
     unsafe { ph_version() }
 }
 
-pub const CALLS: [Call; 31] = [
+pub const CALLS: [Call; 32] = [
     call!(median_of, ph_median_of, median, [1, 3, 4], s s p),
     call!(mad_of, ph_mad_of, mad, [1, 3, 4], s f s p),
     call!(spectral_flux, ph_spectral_flux, flux, [1, 2, 3, 4], s n n s),
@@ -103,6 +103,7 @@ pub const CALLS: [Call; 31] = [
     call!(beat_grid, ph_beat_grid, grid, [1, 3, 4], s n s s s p),
     call!(downbeats, ph_downbeats, bars, [1, 3, 4], s s n s p; [3, 4]),
     call!(bar_beat_at, ph_bar_beat_at, places, [], f s s p p p),
+    call!(feature_rows, ph_feature_rows, track_features, [1, 2, 3, 4], s n s u l n s),
     call!(similarity, ph_similarity, similarity, [1, 2, 3, 4], s n s),
     call!(novelty, ph_novelty, novelty, [1, 2, 3, 4], s n s),
     call!(boundaries, ph_boundaries, sections, [1, 3, 4], s l u n s s p p p),
@@ -656,6 +657,9 @@ mod places {
         Ok((3..=5).map(all).collect())
     }
 }
+
+#[path = "features.rs"]
+mod track_features;
 
 // rows of a track's features, few enough to be quick
 fn feature_rows(r: &mut Numbers) -> usize {

@@ -40,7 +40,7 @@ fn room(slots: usize, formula: usize, number: u32) -> Slots {
 }
 
 // the slots of an output: entries first, the rest as it was
-fn listed<T: Slot>(slots: usize, entries: &[T]) -> Slots {
+pub fn listed<T: Slot>(slots: usize, entries: &[T]) -> Slots {
     let mut bits = poisoned::<T>(slots);
     for (slot, x) in bits.iter_mut().zip(entries) {
         *slot = x.bits();

@@ -8,6 +8,7 @@
 mod cases;
 mod differences;
 mod expected;
+mod features;
 // one that is not called is not judged
 #[deny(dead_code)]
 #[path = "../../rust/src/ffi.rs"]
@@ -95,6 +96,7 @@ pub const CALLS: &[Call] = &[
         all_slabs,
         15_000
     ),
+    features::CALL,
     call!(similarity, "features rows similarity", [1, 2, 3, 4], all_similarities, 30_000),
     call!(novelty, "similarity rows novelty", [1, 2, 3, 4], all_novelties, 12_000),
     call!(boundaries, "novelty length rate max_sections rows work", [1, 3, 4], all_boundaries, 60_000),
@@ -342,16 +344,18 @@ fn together(seed: u64) -> Vec<(&'static str, Tally)> {
         ("whole tracks", 3_000),
         ("tracks in other bars", 3_000),
         ("sections of rows", 3_000),
+        ("sections of tracks", 500),
         ("runs on magnitudes", 3_000),
         ("runs on features", 600),
     ] {
         let (mut tally, mut r) = (Tally::default(), seed_of(seed, name));
         for _ in 0..runs {
             let wrong = match name {
-                "whole tracks" | "tracks in other bars" | "sections of rows" => {
+                "whole tracks" | "tracks in other bars" | "sections of rows" | "sections of tracks" => {
                     let (calls, wrong) = match name {
                         "whole tracks" => tracks::track(&mut r, 4),
                         "sections of rows" => tracks::sections(&mut r),
+                        "sections of tracks" => features::sections(&mut r),
                         _ => {
                             let meter = r.of(&[1, 2, 3, 3, 5, 6, 7, 8, 9, 10, 11, 12, 13, 14, 15, 16]);
                             let (calls, wrong) = tracks::track(&mut r, meter);

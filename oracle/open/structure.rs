@@ -24,6 +24,17 @@ pub mod open {
         }
     }
 
+    /// The rows of the feature transform, which are given.
+    pub fn stft(magnitudes: Vec<Vec<f32>>, sample_rate: u32) -> Stft {
+        Stft { magnitudes, sample_rate, fft_size: FFT_SIZE }
+    }
+
+    /// What `feature_vectors` makes of a transform that is given: its own lines behind the transform. They end with the function's own brace.
+    pub fn feature_vectors(stft: &Stft, mono: &[f32], frame_len: usize, frame_count: usize) -> Vec<[f64; FEATURE_DIMS]> {
+        let sample_rate = stft.sample_rate;
+        {{frame time}}
+        {{feature rows}}
+
     /// What `detect_structure` reports of a novelty curve that is given, for frames of so many samples, and the rows of its boundaries: its
     /// own lines. They end with the function's own brace.
     pub fn sections(novelty: &[f64], frame_len: usize, sample_rate: u32, opts: &StructureOpts, rows: &mut Vec<usize>) -> StructureReport {

@@ -137,6 +137,18 @@ unsafe extern "C" {
         bar: *mut usize,
         beat: *mut usize,
     ) -> u32;
+    pub fn ph_feature_rows(
+        magnitudes: *const f32,
+        magnitudes_len: usize,
+        rows: usize,
+        samples: *const f32,
+        samples_len: usize,
+        rate: u32,
+        length: u64,
+        count: usize,
+        features: *mut f64,
+        features_len: usize,
+    ) -> u32;
     pub fn ph_similarity(
         features: *const f64,
         features_len: usize,

@@ -42,6 +42,7 @@
 #![deny(unsafe_op_in_unsafe_fn)]
 
 mod beats;
+mod features;
 mod ffi;
 mod formats;
 mod labels;
@@ -58,6 +59,7 @@ mod track;
 mod why;
 
 pub use beats::{bar_beat_at, beat_grid, downbeats, BarBeat};
+pub use features::feature_rows;
 pub use formats::{read_tempo_track, read_tempo_track_into, write_tempo_track, write_tempo_track_into};
 pub use labels::{cues_to_labels, cues_to_labels_into, labels_to_cues, labels_to_cues_into};
 pub use labels::{labels_room, read_labels, read_labels_into, write_labels, write_labels_into};

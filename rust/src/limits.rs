@@ -21,6 +21,12 @@ pub const MOST_TEMPO: u32 = 16_777_215;
 pub const MOST_FEATURE_ROWS: usize = 50_000;
 /// The most samples that a feature row stands for, 2^31; the least is 1.
 pub const MOST_FEATURE_LENGTH: u64 = 2_147_483_648;
+/// Samples of a row of the feature transform.
+pub const FEATURE_FRAME: usize = 4_096;
+/// Samples from one row of the feature transform to the next.
+pub const FEATURE_HOP: usize = 1_024;
+/// Bins of a row of the feature transform.
+pub const FEATURE_BINS: usize = 2_049;
 /// Values of a feature row.
 pub const FEATURE_WIDTH: usize = 16;
 /// Similarity slots of a feature row: a row with itself and with the sixteen after it.

@@ -20,13 +20,14 @@ use std::fmt;
 #[non_exhaustive]
 pub enum Refusal {
     /// Number 1: a number is outside its bounds (see [`limits`](crate::limits)), a patch's start is above its row count, a median's
-    /// list is empty, or a peak list doesn't ascend or points past its curve.
+    /// list is empty, a peak list doesn't ascend or points past its curve, or a count of feature rows isn't that of the samples.
     OutOfBounds = 1,
     /// Number 2: an input's length isn't rows times width, or a patch isn't whole rows or runs past the end.
     WrongLength = 2,
     /// Number 3: an output or work slice has fewer slots than its formula (see [`rooms`](crate::rooms)).
     TooLittleRoom = 3,
-    /// Number 4: a value isn't finite, or is too large: magnitudes 2^126, envelopes, curves, medians and features 2^150, a similarity 1.
+    /// Number 4: a value isn't finite, or is too large: magnitudes 2^126, envelopes, curves, medians and features 2^150, a similarity 1; or a
+    /// magnitude of [`feature_rows`](crate::feature_rows) is below 0.
     WrongValue = 4,
     /// Number 6: of a tempo track's beats there are fewer than two, or they don't ascend strictly. (5 is of the reporting program alone.)
     WrongGrid = 6,
@@ -54,7 +55,7 @@ impl Refusal {
             Refusal::OutOfBounds => {
                 "a number is out of bounds: sample rate 1 to 192,000, at most 1,048,576 rows or slots of 1 to 4,096 bins, period at most \
                  45,000, meter 1 to 16, at most 50,000 feature rows of 1 to 2^31 samples, frames at most 1,048,575; or a patch starts past its rows, \
-                 a median's list is empty, or a peak list doesn't ascend or points past its curve"
+                 a median's list is empty, a peak list doesn't ascend or points past its curve, or a count of feature rows isn't that of the samples"
             }
             Refusal::WrongLength => {
                 "an input's length isn't rows times width, or a patch isn't whole rows or runs past the end"
@@ -64,7 +65,7 @@ impl Refusal {
             }
             Refusal::WrongValue => {
                 "a value isn't finite or is too large: magnitudes up to 2^126, envelopes, curves, medians and features up to 2^150, \
-                 similarities -1 to 1"
+                 similarities -1 to 1; or a magnitude of feature_rows is below 0"
             }
             Refusal::WrongGrid => "a tempo track needs two beats at least, which ascend strictly",
             Refusal::GapTooLong => "from one beat to the next are more than 16,777,215 microseconds, the longest tempo of a track",

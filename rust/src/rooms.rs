@@ -43,6 +43,26 @@ pub const fn beats(slots: usize) -> usize {
     slots
 }
 
+/// How many feature rows so many samples have, of `length` samples each, the last perhaps shorter: samples over length, rounded up, and `usize::MAX`
+/// for a length of 0, which no call takes.
+///
+/// ```
+/// # use prohunsev::*;
+/// assert_eq!((rooms::feature_count(96_000, 48_000), rooms::feature_count(96_001, 48_000)), (2, 3));
+/// ```
+pub const fn feature_count(samples: usize, length: u64) -> usize {
+    match (samples as u64).checked_div(length) {
+        Some(whole) if (samples as u64) % length > 0 => whole as usize + 1,
+        Some(whole) => whole as usize,
+        None => usize::MAX,
+    }
+}
+
+/// Slots of `features` for so many feature rows: 16 each.
+pub const fn features(rows: usize) -> usize {
+    rows.saturating_mul(limits::FEATURE_WIDTH)
+}
+
 /// Slots of `similarity` for so many feature rows: 17 each.
 pub const fn similarity(rows: usize) -> usize {
     rows.saturating_mul(limits::SIMILARITY_WIDTH)

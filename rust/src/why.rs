@@ -132,6 +132,13 @@ pub enum Detail {
         needed: usize,
         other: &'static str,
     },
+    /// A count of feature rows that the samples don't have.
+    Stretches {
+        is: usize,
+        needed: usize,
+        samples: usize,
+        length: u64,
+    },
     /// New rows that aren't whole.
     Broken {
         slice: &'static str,
@@ -179,6 +186,9 @@ pub enum Detail {
 #[derive(Clone, Copy)]
 pub enum Taken {
     Magnitudes,
+    /// Magnitudes of which none is below 0.
+    Strengths,
+    Samples,
     Values,
     Similarities,
 }
@@ -187,6 +197,8 @@ impl Taken {
     fn takes(self, value: f64) -> bool {
         let most = match self {
             Taken::Magnitudes => f64::from(limits::MOST_MAGNITUDE),
+            Taken::Strengths => return (0.0..=f64::from(limits::MOST_MAGNITUDE)).contains(&value),
+            Taken::Samples => f64::MAX,
             Taken::Values => limits::MOST_VALUE,
             Taken::Similarities => 1.0,
         };
@@ -351,7 +363,16 @@ impl Why {
         self.number("rows", rows as u64, 0, limits::MOST_FEATURE_ROWS as u64).table(slice, lent, rows, width)
     }
 
-    fn table(self, slice: &'static str, lent: usize, rows: usize, width: usize) -> Why {
+    // as many as the samples have
+    pub fn feature_count(self, count: usize, samples: usize, length: u64) -> Why {
+        let needed = rooms::feature_count(samples, length);
+        let why = self.number("count", count as u64, 0, limits::MOST_FEATURE_ROWS as u64);
+        why.or(Refusal::OutOfBounds, || {
+            (count != needed).then_some(Detail::Stretches { is: count, needed, samples, length })
+        })
+    }
+
+    pub fn table(self, slice: &'static str, lent: usize, rows: usize, width: usize) -> Why {
         let whole = rows.checked_mul(width) == Some(lent);
         self.or(Refusal::WrongLength, || (!whole).then_some(Detail::Rows { slice, lent, rows, width }))
     }
@@ -413,6 +434,14 @@ impl Why {
 
     pub fn magnitudes(self, slice: &'static str, lent: &[f32]) -> Why {
         self.first(slice, lent.iter().map(|&x| f64::from(x)), Taken::Magnitudes)
+    }
+
+    pub fn strengths(self, slice: &'static str, lent: &[f32]) -> Why {
+        self.first(slice, lent.iter().map(|&x| f64::from(x)), Taken::Strengths)
+    }
+
+    pub fn samples(self, slice: &'static str, lent: &[f32]) -> Why {
+        self.first(slice, lent.iter().map(|&x| f64::from(x)), Taken::Samples)
     }
 
     pub fn similarities(self, slice: &'static str, lent: &[f64]) -> Why {
@@ -481,6 +510,8 @@ impl fmt::Display for Taken {
     fn fmt(&self, f: &mut fmt::Formatter<'_>) -> fmt::Result {
         f.write_str(match self {
             Taken::Magnitudes => "a value is finite and at most 2^126 in size",
+            Taken::Strengths => "a magnitude is 0 to 2^126",
+            Taken::Samples => "a sample is finite",
             Taken::Values => "a value is finite and at most 2^150 in size",
             Taken::Similarities => "a similarity is -1 to 1",
         })
@@ -552,6 +583,10 @@ impl fmt::Display for Detail {
             }
             Detail::Unlike { slice, lent, needed, other } => {
                 write!(f, "{slice}: {} lent, {} needed, as many as {other} has", Many(lent, "slot"), count(needed))
+            }
+            Detail::Stretches { is, needed, samples, length } => {
+                let (is, needed, length) = (count(is), count(needed), Count(length));
+                write!(f, "count {is}, {needed} needed: {}, {length} a row", Many(samples, "sample"))
             }
             Detail::Broken { slice, lent, width } => {
                 write!(f, "{slice}: {} lent, whole rows of {} needed", Many(lent, "value"), count(width))

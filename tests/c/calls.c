@@ -390,6 +390,44 @@ static void bars(struct run *run)
     CHECK(found == 0); /* refuses nothing */
 }
 
+/* at 20,480 samples a second bin k is at 5 k Hz: 88 is an A, 26 a C, both below 4,000 Hz */
+static void feature_rows(struct run *run)
+{
+    enum { BINS = PROHUNSEV_FEATURE_BINS, RATE = 20480, LENGTH = 3072 };
+    static const float none[1] = {0.0f};
+    float *magnitudes = calloc(2 * BINS, sizeof *magnitudes), *samples = malloc((LENGTH + 1) * sizeof *samples);
+    double features[34], similarity[34];
+
+    CHECK(magnitudes && samples);
+    for (size_t i = 0; i <= LENGTH; i++)
+        samples[i] = i < LENGTH ? -0.5f : 3.0f;
+    magnitudes[88] = 2.0f, magnitudes[BINS + 26] = 1.0f, magnitudes[BINS + 1200] = 2.0f;
+    poison(features, 34);
+    CHECK(ph_feature_rows(magnitudes, 2 * BINS, 2, samples, LENGTH + 1, 0, LENGTH, 2, features, 34) == 1);
+    CHECK(ph_feature_rows(magnitudes, 2 * BINS, PROHUNSEV_MOST_ROWS + 1, samples, LENGTH + 1, RATE, LENGTH, 2, features, 34) == 1);
+    CHECK(ph_feature_rows(magnitudes, 2 * BINS, 2, samples, LENGTH + 1, RATE, 0, 2, features, 34) == 1);
+    CHECK(ph_feature_rows(magnitudes, 2 * BINS, 2, samples, LENGTH + 1, RATE, LENGTH, 1, features, 34) == 1);
+    CHECK(ph_feature_rows(magnitudes, 2 * BINS, 2, samples, LENGTH, RATE, LENGTH, 2, features, 34) == 1);
+    CHECK(ph_feature_rows(magnitudes, 2 * BINS - 1, 2, samples, LENGTH + 1, RATE, LENGTH, 2, features, 31) == 2);
+    magnitudes[2 * BINS - 1] = -1.0f;
+    CHECK(ph_feature_rows(magnitudes, 2 * BINS, 2, samples, LENGTH + 1, RATE, LENGTH, 2, features, 31) == 3);
+    CHECK(ph_feature_rows(magnitudes, 2 * BINS, 2, samples, LENGTH + 1, RATE, LENGTH, 2, features, 34) == 4);
+    magnitudes[2 * BINS - 1] = -0.0f; /* is not below 0 */
+    samples[LENGTH] = (float)INFINITY;
+    CHECK(ph_feature_rows(magnitudes, 2 * BINS, 2, samples, LENGTH + 1, RATE, LENGTH, 2, features, 34) == 4);
+    samples[LENGTH] = 3.0f;
+    CHECK(ph_feature_rows(none, 0, 0, none, 0, RATE, LENGTH, 0, features, 34) == 0); /* no samples: nothing is written */
+    CHECK(kept(features, 0, 34));
+    CHECK(ph_feature_rows(magnitudes, 2 * BINS, 2, samples, LENGTH + 1, RATE, LENGTH, 2, features, 34) == 0);
+    for (size_t k = 0; k < 15; k++) {
+        CHECK(features[k] == (k == 9 || k == 13 ? 1.0 : 0.0));
+        CHECK(features[16 + k] == (k == 0 ? 1.0 : k == 12 ? 1.0 / 5.0 : k == 14 ? 4.0 / 5.0 : 0.0));
+    }
+    CHECK(features[15] == 0.5 && features[31] == 3.0 && kept(features, 32, 34));
+    CHECK(ph_similarity(features, 32, 2, similarity, 34) == 0); /* every value is one that it takes */
+    free(magnitudes), free(samples);
+}
+
 static void sections(struct run *run)
 {
     double features[32] = {0.0}, similarity[36], novelty[34], work[34], ms[3], confidence = POISON;
@@ -814,6 +852,7 @@ static void *all(void *given)
         beats(run);
         meters(run);
         bars(run);
+        feature_rows(run);
         sections(run);
         row_patches(run);
         feature_patches(run);

@@ -13,7 +13,7 @@ static const uint32_t RATE = 2560; /* ten frames a second, so that the lag curve
 
 /* all that calls are lent: one block, which is compared whole */
 static struct {
-    float magnitudes[N * BINS], rows[2 * BINS];
+    float magnitudes[N * BINS], rows[2 * BINS], wide[2049], samples[N];
     double a[SLOTS], b[SLOTS], c[SLOTS], d[SLOTS], e[SLOTS], f[SLOTS], g[SLOTS], work[SLOTS], reals[3], saliences[3];
     uint32_t p[SLOTS], q[SLOTS], r[SLOTS], s[SLOTS], small[2];
     size_t sizes[8], lags[3];
@@ -33,8 +33,11 @@ static void reset(void)
         lent.b[k] = 0.25;
         lent.p[k] = (uint32_t)k;
     }
-    for (size_t k = 0; k < N; k++)
+    for (size_t k = 0; k < N; k++) {
         lent.magnitudes[k * BINS] = k % 8 == 3 ? 1.0f : 0.0f;
+        lent.samples[k] = (float)k;
+    }
+    lent.wide[100] = lent.wide[1000] = 1.0f;
     memcpy(lent.track, "MThd\0\0\0\6\0\0\0\1\0\140MTrk\0\0\0\13\0\377\121\3\0\0\1\140\377\57\0", sizeof lent.track);
     memcpy(lent.text, "0.200000\t0.200000\tbeat\n0.300000\t0.300000\tbeat\n", sizeof lent.text);
     memcpy(lent.chunk, "cue \64\0\0\0\2\0\0\0\1\0\0\0\0\2\0\0data\0\0\0\0\0\0\0\0\0\2\0\0"
@@ -69,6 +72,10 @@ static uint32_t beat_grid(void)
 }
 static uint32_t downbeats(void) { return ph_downbeats(S(0, lent.a, N), S(1, lent.p, N), 4, S(2, lent.q, N), lent.sizes); }
 static uint32_t bar_beat_at(void) { return ph_bar_beat_at(0.5, S(0, lent.a, N), S(1, lent.b, N), lent.small, lent.sizes, lent.sizes + 1); }
+static uint32_t feature_rows(void)
+{
+    return ph_feature_rows(S(0, lent.wide, 2049), chosen & 1 ? 0 : 1, S(1, lent.samples, N), RATE, 16, chosen & 2 ? 0 : FEATURES, S(2, lent.c, 16 * FEATURES));
+}
 static uint32_t similarity(void) { return ph_similarity(S(0, lent.a, 16 * FEATURES), chosen & 1 ? 0 : FEATURES, S(1, lent.c, 17 * FEATURES)); }
 static uint32_t novelty(void) { return ph_novelty(S(0, lent.a, 17 * FEATURES), chosen & 1 ? 0 : FEATURES, S(1, lent.c, FEATURES)); }
 static uint32_t boundaries(void)
@@ -131,8 +138,8 @@ static const struct {
     {"adaptive_threshold", adaptive_threshold, 3, 0}, {"pick_onsets", pick_onsets, 3, 0},
     {"suppress_close_peaks", suppress_close_peaks, 3, 0}, {"frame_times", frame_times, 2, 0}, {"lag_range", lag_range, 0, 0},
     {"estimate", estimate, 4, 3}, {"stability_of", stability_of, 4, 3}, {"beat_grid", beat_grid, 4, 0}, {"downbeats", downbeats, 3, 0},
-    {"bar_beat_at", bar_beat_at, 2, 0}, {"similarity", similarity, 2, 0}, {"novelty", novelty, 2, 0}, {"boundaries", boundaries, 3, 0},
-    {"boundary_times", boundary_times, 2, 0}, {"patch_magnitudes", patch_magnitudes, 5, 0}, {"patch_features", patch_features, 4, 0},
+    {"bar_beat_at", bar_beat_at, 2, 0}, {"feature_rows", feature_rows, 3, 0}, {"similarity", similarity, 2, 0}, {"novelty", novelty, 2, 0},
+    {"boundaries", boundaries, 3, 0}, {"boundary_times", boundary_times, 2, 0}, {"patch_magnitudes", patch_magnitudes, 5, 0}, {"patch_features", patch_features, 4, 0},
     {"room_of", room_of, 0, 0}, {"analyse_envelope", analyse_envelope, 12, 3}, {"analyse_magnitudes", analyse_magnitudes, 13, 3},
     {"write_tempo_track", write_tempo_track, 2, 6}, {"read_tempo_track", read_tempo_track, 2, 8}, {"labels_room", labels_room, 1, 0},
     {"write_labels", write_labels, 2, 0}, {"read_labels", read_labels, 2, 0}, {"write_cues", write_cues, 2, 3}, {"read_cues", read_cues, 2, 9},

@@ -1,4 +1,4 @@
--- The C interface to `boundaries`. That to `similarity`, `novelty` and `boundary_times` is their own promise.
+-- The C interface to `boundaries`. That to `feature_rows`, `similarity`, `novelty` and `boundary_times` is their own promise.
 use Prim.Native.Nat.{ℕ}
 use mathlib.Core.Path.{_≡_}
 use mathlib.Core.List.{List}

@@ -9,6 +9,7 @@ pub mod medians; // medians.rt: median and median of distances
 pub mod rhythm; // rhythm.rt: flux, threshold, onsets and times
 pub mod tempos; // tempos.rt: lags, tempo and stability
 pub mod grids; // grids.rt: beats, downbeats, bars
+pub mod rows; // rows.rt: feature rows
 pub mod forms; // forms.rt: similarity, novelty, sections
 pub mod repairs; // repairs.rt: patches
 pub mod tracks; // tracks.rt: one whole track in one call

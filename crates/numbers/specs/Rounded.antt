@@ -23,6 +23,10 @@ x ⊗ y = mul binary64 x y
 abbrev pub _⊘_ : Float → Float → Float
 x ⊘ y = div binary64 x y
 
+-- the square, rounded once
+abbrev pub squared : Float → Float
+squared x = x ⊗ x
+
 -- the float with these sixty-four bits
 abbrev pub bits : ℕ → Float
 bits n = ofBits binary64 n

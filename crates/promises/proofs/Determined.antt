@@ -45,6 +45,8 @@ use Rattle.bars.specs.Downbeats.{DownbeatsPromise}
 use Rattle.bars.specs.declared.BarBeat.{BarBeat}
 use Rattle.bars.proofs.BarBeats.{says-one}
 use Rattle.midi.specs.Tracks.{TempoTrackPromise, TempoGapsPromise}
+use Rattle.feature_places.specs.declared.FeatureGrid.{FeatureGrid}
+use Rattle.features.specs.Features.{FeatureRowsPromise}
 use Rattle.similarities.specs.Similarity.{SimilarityPromise}
 use Rattle.novelties.specs.Novelty.{NoveltyPromise}
 use Rattle.sections.specs.Outcomes.{workedIn, Found, BoundaryTimesPromise}
@@ -233,6 +235,11 @@ pub downbeats : (envelope : List Float) (beats : List ℕ) (o : TempoOpts) (fram
     → DownbeatsPromise envelope beats o frames a x → DownbeatsPromise envelope beats o frames b y
     → (a .number ≡ b .number) × (a .count ≡ b .count) × (x ≡ y)
 downbeats envelope beats o frames = listing _ _ frames
+
+-- `feature_rows`
+pub feature-rows : (magnitudes : List Float) (rows : ℕ) (samples : List Float) (grid : FeatureGrid) (was : List Float) {a b : ℕ} {x y : List Float}
+    → FeatureRowsPromise magnitudes rows samples grid was a x → FeatureRowsPromise magnitudes rows samples grid was b y → (a ≡ b) × (x ≡ y)
+feature-rows magnitudes rows samples grid was = written _ _ was
 
 -- `similarity`, `novelty`
 pub similarity : {features : List Float} {rows : ℕ} {was : List Float} {m n : ℕ} {x y : List Float}

@@ -1,0 +1,2 @@
+pub mod Features
+pub mod Groups
