@@ -27,6 +27,7 @@ fn looked_at(values: &[f32]) -> [u32; 8] {
 
 /// Prints the table: at a feature row a second, with the transform's rows of so many seconds.
 pub fn tell(quick: bool) {
+    crate::place();
     println!(
         "| feature rows | of rows x 2,049, and samples | original ms | ours ms | original / ours | asked | | looked at ms |"
     );

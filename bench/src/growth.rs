@@ -144,6 +144,7 @@ fn of_features(rounds: usize, tell: Tell) {
 
 /// Every stage, by each count that it depends on, as rows of a table.
 pub fn tell(rounds: usize) {
+    crate::place();
     println!("| stage | count | from | once | twice | four times | eight times | last doubling |");
     println!("|---|---|---|---|---|---|---|---|");
     let mut tell = |stage: &str, count: &str, first: usize, [a, b, c, d]: [f64; 4]| {

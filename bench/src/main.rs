@@ -45,6 +45,13 @@ fn tell(line: &Line, feature_rows: usize) {
     );
 }
 
+/// What a table was measured on, as tools/speed tells it: a line before the table.
+pub fn place() {
+    if let Ok(place) = std::env::var("SPEED_PLACE") {
+        println!("{place}\n");
+    }
+}
+
 // A patch stands beside the full runs that it saves: the port's own, and the Rust's, which has no patch.
 fn tell_patch(line: &Line) {
     let full = line.full.unwrap_or(line.rust);
@@ -65,6 +72,7 @@ fn main() {
     // Rows, bins, rounds: what the aims were set on, three minutes, an hour, and the most rows. Of the magnitudes there are two copies, the
     // Rust's in rows of their own and ours; the last has half the bins so that they stay below 4 GB.
     let tracks = [(8_000, 513, 40), (33_750, 513, 25), (675_000, 513, 5), (1_048_576, 257, 5)];
+    place();
     println!("| stage | size | original ms | ours ms | original / ours | aim | |");
     println!("|---|---|---|---|---|---|---|");
     let mut patches = Vec::new();
@@ -92,7 +100,9 @@ fn main() {
     for &rows in &[180, 3_600, 50_000][..if quick { 2 } else { 3 }] {
         stages::sections(rows, 40, &mut |line| take(line, rows));
     }
-    println!("\n| patch | of | ours ms | our full run ms | part | original's full run ms |");
+    println!();
+    place();
+    println!("| patch | of | ours ms | our full run ms | part | original's full run ms |");
     println!("|---|---|---|---|---|---|");
     patches.iter().for_each(tell_patch);
     println!();

@@ -116,6 +116,7 @@ pub fn tell(quick: bool, rounds: usize) {
         "against the guess",
         "against each guess",
     ];
+    crate::place();
     println!(
         "| median of | entries | original us | ours us | original / ours | asked | | half a heapsort us | heapsort / ours |"
     );

@@ -28,6 +28,7 @@ fn curve(shape: &str, slots: usize) -> Vec<f64> {
 
 /// The table of thresholds.
 pub fn tell(quick: bool) {
+    crate::place();
     println!("| threshold of | slots | original ms | ours ms | original / ours | aim | |");
     println!("|---|---|---|---|---|---|---|");
     let sizes = [(8_000, 40), (33_750, 25), (675_000, 5), (1_048_576, 5)];
