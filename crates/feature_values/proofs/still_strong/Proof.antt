@@ -1,4 +1,4 @@
--- `feature_values::still_strong` meets its contract: where the value is fine, what was found before it stands. Assumes nothing.
+-- `feature_values::still_strong` meets its contract: where the magnitude is fine, what was found before it stands. Assumes nothing.
 use mathlib.Core.Path.{sym, _∙_}
 use borrow.Author.Needs.{needs}
 use Rattle.numbers.proofs.Tests.{and-held, and-failed}

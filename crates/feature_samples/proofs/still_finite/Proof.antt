@@ -1,9 +1,9 @@
--- `feature_values::still_finite` meets its contract: where the value is fine, what was found before it stands. Assumes nothing.
+-- `feature_samples::still_finite` meets its contract: where the magnitude is fine, what was found before it stands. Assumes nothing.
 use mathlib.Core.Path.{sym, _∙_}
 use borrow.Author.Needs.{needs}
 use Rattle.numbers.proofs.Tests.{and-held, and-failed}
-use Rattle.feature_values.proofs.still_finite.Statement.{statement}
-use Rattle.feature_values.proofs.still_finite.Tie as tie
+use Rattle.feature_samples.proofs.still_finite.Statement.{statement}
+use Rattle.feature_samples.proofs.still_finite.Tie as tie
 
 sample-fine-requires : tie.Need-sample-fine-requires
 sample-fine-requires c κs = search needs

@@ -1,8 +1,8 @@
--- `feature_values::sample_fine` meets its contract: `&&` answers its right side where its left holds. Assumes nothing.
+-- `feature_samples::sample_fine` meets its contract: `&&` answers its right side where its left holds. Assumes nothing.
 use Rattle.feature_levels.specs.Levels.{sampleFine}
 use Rattle.numbers.proofs.Tests.{and-held, and-failed}
-use Rattle.feature_values.proofs.sample_fine.Statement.{statement}
-use Rattle.feature_values.proofs.sample_fine.Tie as tie
+use Rattle.feature_samples.proofs.sample_fine.Statement.{statement}
+use Rattle.feature_samples.proofs.sample_fine.Tie as tie
 
 returns : tie.Need-returns
 unfolding sampleFine

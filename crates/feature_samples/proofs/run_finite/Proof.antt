@@ -1,4 +1,4 @@
--- `feature_values::samples_fine` meets its contract. The invariant: the test of the whole list is the test of what is left and what was found
+-- `feature_samples::run_finite` meets its contract. The invariant: the test of the whole list is the test of what is left and what was found
 -- so far. The measure is what is left of the length. Assumes nothing.
 use mathlib.Core.Path.{_≡_, sym, ap, _∙_}
 use mathlib.Core.Bool.{Bool, _&&_}
@@ -12,8 +12,8 @@ use Rattle.feature_levels.specs.Levels.{sampleFine}
 use Rattle.numbers.specs.Lists.{every}
 use Rattle.numbers.proofs.Tests.{and-true}
 use Rattle.numbers.proofs.Everys.{every-step-1, every-end}
-use Rattle.feature_values.proofs.samples_fine.Statement.{statement}
-use Rattle.feature_values.proofs.samples_fine.Tie as tie
+use Rattle.feature_samples.proofs.run_finite.Statement.{statement}
+use Rattle.feature_samples.proofs.run_finite.Tie as tie
 
 abbrev Inv-loop : tie.InvT-loop
 Inv-loop s fine₀ i₀ fine i = (i ≤ length s) × (every sampleFine s ≡ (every sampleFine (drop i s) && fine))
@@ -52,8 +52,8 @@ returns c =
     let l = c .before in
     sym (l .loop .inv .1 ∙ ap (λ (b : Bool). b && l .loop .fine) (every-end sampleFine _ _ (c .loop-test .left)))
 
-pub samples-fine-spec : {M : Type 1} → statement M
-samples-fine-spec =
+pub run-finite-spec : {M : Type 1} → statement M
+run-finite-spec =
     tie.close
     (tie.spec
     Inv-loop
