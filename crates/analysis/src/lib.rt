@@ -2,6 +2,8 @@
 //
 // Document 01, Onsets, Tempo and candidates, Beats and bars, and its room. The Rust: onsets.rs `analyze_stft` and tempo.rs `estimate_from_parts`.
 // The parts are called in turn over slices that are lent; every refusal of an analysis is decided before any part is called.
+#![tactic(auto)]
+
 ghost use Rattle.numbers.specs.Limits.{slab_of};
 ghost use Rattle.rooms.specs.Rooms.{results, spare};
 ghost use Rattle.analysis.specs.Analyses.{EnvelopePromise, MagnitudesPromise};

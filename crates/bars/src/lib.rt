@@ -1,6 +1,8 @@
 // Bars: which of the beats are downbeats, and which bar and beat a time lies in.
 //
 // Document 01, "Beats and bars"; request No. 4, the meter. The Rust: tempo.rs `downbeat_phase`, whose bars have four beats, and `bar_beat_at`.
+#![tactic(auto)]
+
 ghost use Rattle.std.specs.Prelude.{◌≡◌, ◌<◌, ◌≤◌, length};
 ghost use Rattle.numbers.specs.Lists.{listed, filled};
 ghost use Rattle.options.specs.Options.{most_meter};

@@ -1,6 +1,8 @@
 // The link of a frame: which of the earlier beats it may follow extends best, and by how much.
 //
 // Document 01, "Beats and bars". The Rust: tempo.rs `beat_grid`, the inner loop.
+#![tactic(auto)]
+
 mod bests;
 pub mod penalties;
 

@@ -1,6 +1,8 @@
 // The beat grid: the chain of frames, about a period apart, that carries the most flux.
 //
 // Document 01, "Beats and bars". The Rust: tempo.rs `beat_grid`.
+#![tactic(auto)]
+
 mod envelopes;
 mod grids;
 mod scores;

@@ -1,6 +1,8 @@
 // The parts of a RIFF WAVE cue chunk, as bytes: its head and its points, written and read.
 //
 // Document 02, No. 6. Inner calls all; crate cues has the library's. Each call that writes answers the place behind what it wrote; every other byte stays.
+#![tactic(auto)]
+
 ghost use Rattle.std.specs.Prelude.{◌≡◌, ◌+◌, ◌*◌, ◌≤◌, ◌<◌, length};
 ghost use Rattle.numbers.specs.Limits.{most_frame};
 ghost use Rattle.texts.specs.Texts.{Put};

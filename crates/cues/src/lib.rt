@@ -1,6 +1,8 @@
 // Cue chunks: frames to the bytes of a RIFF WAVE cue chunk and back.
 //
 // Document 02, No. 6. It is the chunk alone; a WAV file around it is the caller's.
+#![tactic(auto)]
+
 ghost use Rattle.std.specs.Prelude.{◌≡◌, true, ◌+◌, ◌*◌, ◌≤◌, length};
 ghost use Rattle.numbers.specs.Limits.{most_frame, frame_fine};
 ghost use Rattle.numbers.specs.Lists.{every};

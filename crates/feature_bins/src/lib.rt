@@ -2,6 +2,8 @@
 //
 // Document 02, No. 7. The Rust: structure.rs `feature_vectors`, which takes a logarithm for each row and bin; the table takes one for each bin. Inner
 // calls: no caller of the library needs them.
+#![tactic(auto)]
+
 ghost use Rattle.std.specs.Prelude.{◌≡◌, ◌+◌, ◌<◌, length};
 ghost use Rattle.feature_bins.specs.Bins.{bin_count, hz_of, class_of, class_slot, band_of, Codes, Stretch, Pasts};
 

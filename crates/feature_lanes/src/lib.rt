@@ -3,6 +3,8 @@
 // Document 02, No. 7. The Rust: structure.rs `feature_vectors`. A sum is one chain of additions, in ascending order of rows, then of bins, so the rows of four
 // feature rows go side by side, each in its lane; neighbouring bins that add to the same two sums go together (crate feature_bins), so that those stay in
 // registers. Inner calls: no caller of the library needs them.
+#![tactic(auto)]
+
 ghost use Rattle.std.specs.Prelude.{◌≡◌, true, ◌+◌, ◌≤◌, ◌<◌, length, get_or};
 ghost use Rattle.std.specs.Float.{nan};
 ghost use Rattle.numbers.specs.Rounded.{sum_from, squared};

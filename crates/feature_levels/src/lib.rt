@@ -2,6 +2,8 @@
 //
 // Document 02, No. 7. The Rust: structure.rs `feature_vectors`. A sum of squares is one chain of additions; four rows of one length run side by side, each in
 // its own ascending order. Inner calls: no caller of the library needs them.
+#![tactic(auto)]
+
 ghost use Rattle.std.specs.Prelude.{◌≡◌, true, map, ◌+◌, ◌≤◌, ◌<◌, length, get_or};
 ghost use Rattle.std.specs.Float.{nan};
 ghost use Rattle.numbers.specs.Rounded.{◌⊘◌, real, sum_of, squared};

@@ -1,6 +1,8 @@
 // A feature row's sixteen values from its sums: pitch classes over the greatest, bands over their total, and the RMS.
 //
 // Document 02, No. 7. The Rust: structure.rs `feature_vectors`. Inner calls: no caller of the library needs them.
+#![tactic(auto)]
+
 ghost use Rattle.std.specs.Prelude.{◌≡◌, ◌+◌, ◌*◌, ◌≤◌, ◌<◌, length};
 ghost use Rattle.std.specs.Float.Ieee.{lt};
 ghost use Rattle.numbers.specs.Rounded.{pick};

@@ -1,6 +1,8 @@
 // Which feature row a row of the feature transform belongs to.
 //
 // Document 02, No. 7. The Rust: structure.rs `bucket_index`. Inner calls: no caller of the library needs them.
+#![tactic(auto)]
+
 ghost use Rattle.std.specs.Prelude.{◌≡◌, ℕ, ◌≤◌, ◌<◌};
 ghost use Rattle.feature_places.specs.Places.{centre_ms, feature_row_of};
 

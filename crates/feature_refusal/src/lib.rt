@@ -1,6 +1,8 @@
 // The number that feature rows are refused with.
 //
 // Document 02, No. 7. Inner calls: no caller of the library needs them.
+#![tactic(auto)]
+
 ghost use Rattle.std.specs.Prelude.{◌≡◌, ◌<◌};
 ghost use Rattle.floats.specs.Wholes.{ceiling_over};
 ghost use Rattle.feature_refusal.specs.Refusal.{feature_bounds, features_number};

@@ -1,6 +1,8 @@
 // Whether samples are what number 4 asks: finite.
 //
 // Document 02, No. 7. As numbers' `magnitudes_fine`, with another bound. Inner calls: no caller of the library needs them.
+#![tactic(auto)]
+
 ghost use Rattle.std.specs.Prelude.{◌≡◌, ◌&&◌, length};
 ghost use Rattle.numbers.specs.Lists.{every};
 ghost use Rattle.feature_levels.specs.Levels.{sample_fine};

@@ -2,6 +2,8 @@
 //
 // Document 02, No. 7. The Rust: structure.rs `feature_vectors`. The lanes of four feature rows have more or fewer rows; a lane that has no more is lent a row
 // of zeros, which adds nothing. Inner calls: no caller of the library needs them.
+#![tactic(auto)]
+
 ghost use Rattle.std.specs.Prelude.{◌≡◌, true, ◌+◌, ◌*◌, ◌≤◌, length};
 ghost use Rattle.numbers.specs.Limits.{most_rows};
 ghost use Rattle.numbers.specs.Lists.{every};

@@ -1,6 +1,8 @@
 // Whether magnitudes of the feature transform are what number 4 asks: finite, at most 2^126 and not negative.
 //
 // Document 02, No. 7. As numbers' `magnitudes_fine`, which lets negative ones pass. Inner calls: no caller of the library needs them.
+#![tactic(auto)]
+
 ghost use Rattle.std.specs.Prelude.{◌≡◌, ◌&&◌, length};
 ghost use Rattle.numbers.specs.Lists.{every};
 ghost use Rattle.feature_lanes.specs.Addends.{strength_fine};

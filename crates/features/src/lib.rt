@@ -2,6 +2,8 @@
 //
 // Document 02, No. 7. The Rust: structure.rs `feature_vectors`. A table of the bins' pitch classes and bands stands for a logarithm for each row and bin, and
 // four feature rows go side by side, each sum in its own ascending order, so that the bits are those of one row after the other.
+#![tactic(auto)]
+
 ghost use Rattle.std.specs.Prelude.{◌≡◌, ◌+◌, ◌*◌, ◌<◌, min, length};
 ghost use Rattle.numbers.specs.Limits.{feature_width};
 ghost use Rattle.numbers.specs.Lists.{filled};

@@ -3,6 +3,8 @@
 // Document 01, Onsets. The Rust: onsets.rs `spectral_flux`. Four rows go side by side, a part of each at a time (crate flux_rows). The four lie a
 // quarter of the rows apart, so that each is read on from where the row before it ended. That takes less time; each row's sum still runs in its own
 // ascending order, so the bits are those of one row after the other.
+#![tactic(auto)]
+
 ghost use Rattle.std.specs.Prelude.{◌≡◌, true, ◌+◌, ◌*◌, ◌≤◌, ◌<◌, length, set};
 ghost use Rattle.numbers.specs.Limits.{magnitude_fine, slab_of, slab_slots};
 ghost use Rattle.numbers.specs.Lists.{filled, every};

@@ -2,6 +2,8 @@
 //
 // Document 01, Onsets: what crate flux sums. The positive parts of thirty-two bins come first, where no bin waits for another, then the sums. Inner
 // calls: no caller of the library needs them.
+#![tactic(auto)]
+
 ghost use Rattle.std.specs.Prelude.{◌≡◌, true, ◌+◌, ◌-◌, ◌*◌, ◌≤◌, ◌<◌, length, get_or, drop};
 ghost use Rattle.std.specs.Float.{nan};
 ghost use Rattle.numbers.specs.Rounded.{positive_part, sum_from};

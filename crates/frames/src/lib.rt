@@ -1,6 +1,8 @@
 // The frame reader: a slab of magnitude rows with its bin count, read row by row without a copy.
 //
 // Document 01, Patching. Added to the Rust, whose rows are vectors of their own.
+#![tactic(auto)]
+
 ghost use Rattle.std.specs.Prelude.{◌≡◌};
 ghost use Rattle.frames.specs.Frames.{RowOf};
 

@@ -1,6 +1,8 @@
 // The kernel: how much a pair of rows on either side of a row counts towards its novelty.
 //
 // Document 01, Sections. The Rust: structure.rs `novelty_curve`, its sign and gaussian.
+#![tactic(auto)]
+
 ghost use Rattle.std.specs.Prelude.{◌≡◌};
 ghost use Rattle.kernels.specs.Kernel.{kernel_table};
 

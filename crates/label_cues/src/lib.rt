@@ -1,6 +1,8 @@
 // From label tracks to cue points and back, at a given rate.
 //
 // Document 02, No. 6. No list of frames is lent: one pass over the input judges it, and a second one writes on what it reads.
+#![tactic(auto)]
+
 ghost use Rattle.std.specs.Prelude.{◌≡◌, true, ◌+◌, ◌≤◌, length};
 ghost use Rattle.numbers.specs.Limits.{most_frame, rate_fine};
 ghost use Rattle.numbers.specs.Lists.{every, listed};

@@ -1,6 +1,8 @@
 // A line of a label track, as bytes: written and read.
 //
 // Document 02, No. 6. Inner calls all; crate labels has the library's. A reader may be given any bytes, and seconds of any number of digits.
+#![tactic(auto)]
+
 ghost use Rattle.std.specs.Prelude.{◌≡◌, true, ◌+◌, ◌≤◌, min, length, drop};
 ghost use Rattle.texts.specs.Texts.{Put};
 ghost use Rattle.label_lines.specs.Lines.{label_line, line_fine, line_length, time_of};

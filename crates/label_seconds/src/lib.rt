@@ -1,6 +1,8 @@
 // Microseconds as seconds with six decimals, written as bytes.
 //
 // Document 02, No. 6. Inner calls all. Each call that writes does so from `at` on and answers the place behind what it wrote; every other byte stays.
+#![tactic(auto)]
+
 ghost use Rattle.std.specs.Prelude.{◌≡◌, [], ◌∷◌, ◌+◌, ◌/◌, ◌%◌, ◌≤◌, length};
 ghost use Rattle.texts.specs.Texts.{Put};
 ghost use Rattle.texts.specs.Decimals.{digit_of, decimal};

@@ -1,6 +1,8 @@
 // The frame of a time: which listed frame has it, if any.
 //
 // Document 02, No. 6. Inner calls all: crate label_tracks judges the rate before it asks.
+#![tactic(auto)]
+
 ghost use Rattle.std.specs.Prelude.{◌≡◌, true, ◌≤◌};
 ghost use Rattle.numbers.specs.Limits.{most_frame, rate_fine};
 ghost use Rattle.times.specs.Micros.{microseconds};

@@ -1,6 +1,8 @@
 // A label track as a whole: whether its lines are of the form, its times those of listed frames, and these in order.
 //
 // Document 02, No. 6. Inner calls all: crates labels and label_cues read tracks with them. Any bytes will do, of any length.
+#![tactic(auto)]
+
 ghost use Rattle.std.specs.Prelude.{◌≡◌, true, ◌≤◌, length, drop};
 ghost use Rattle.numbers.specs.Limits.{rate_fine, most_frame};
 ghost use Rattle.numbers.specs.Refusals.{first_of};

@@ -1,6 +1,8 @@
 // Label tracks: frames to the bytes of an Audacity label track and back, at a given rate.
 //
 // Document 02, No. 6. A label's length is a formula in its time's digits: two times of d digits of seconds each, which is 2d + 21 bytes.
+#![tactic(auto)]
+
 ghost use Rattle.std.specs.Prelude.{◌≡◌, true, ◌+◌, ◌≤◌, length};
 ghost use Rattle.numbers.specs.Limits.{most_frame, rate_fine, frame_fine};
 ghost use Rattle.numbers.specs.Lists.{every, listed};

@@ -2,6 +2,8 @@
 //
 // Document 01, Tempo and candidates. The Rust: tempo.rs `pick_tempo_peaks`. The Rust sorts the local maxima and accepts the first that
 // stand apart; here each is chosen as the greatest that does, in a pass of its own, so nothing is sorted.
+#![tactic(auto)]
+
 ghost use Rattle.std.specs.Prelude.{◌≡◌, List, [], ◌∷◌, ℕ, ◌+◌, ◌≤◌, ◌<◌, length};
 ghost use Rattle.numbers.specs.Limits.{most_period};
 ghost use Rattle.lag_candidates.specs.Candidates.{

@@ -1,6 +1,8 @@
 // Tempo, the lag curves: how much an envelope resembles itself a lag later, and that weighted by how likely the tempo is.
 //
 // Document 01, Tempo and candidates. The Rust: tempo.rs `pick_tempo_peaks` and `tempo_prior_weight`.
+#![tactic(auto)]
+
 ghost use Rattle.std.specs.Prelude.{◌≡◌, ◌+◌, ◌≤◌, ◌<◌, length};
 ghost use Rattle.numbers.specs.Rounded.{nought, held, one};
 ghost use Rattle.numbers.specs.Limits.{most_period};

@@ -1,6 +1,8 @@
 // The search of an envelope for the lag that wins.
 //
 // Document 01, Tempo and candidates. The Rust: tempo.rs `pick_tempo_peaks`, as far as the winner.
+#![tactic(auto)]
+
 ghost use Rattle.std.specs.Prelude.{◌≡◌, ℕ, ◌+◌, ◌≤◌, ◌<◌, length};
 ghost use Rattle.numbers.specs.Limits.{most_period};
 ghost use Rattle.lags.specs.Lags.{lag_room};

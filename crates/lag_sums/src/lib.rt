@@ -2,6 +2,8 @@
 //
 // Document 01, Tempo and candidates. The Rust: tempo.rs `pick_tempo_peaks`. A centred value has no room of its own: it is computed again
 // where it is used.
+#![tactic(auto)]
+
 ghost use Rattle.std.specs.Prelude.{◌≡◌, ◌+◌, ◌≤◌, length};
 ghost use Rattle.numbers.specs.Rounded.{sum_of};
 ghost use Rattle.numbers.specs.Lists.{curve};

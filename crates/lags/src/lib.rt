@@ -1,6 +1,8 @@
 // Tempo, the lags: those that two bounds in beats a minute stand for, and which lags are distinct or agree.
 //
 // Document 01, Tempo and candidates. The Rust: tempo.rs, what `pick_tempo_peaks` and `stability_of` are made of.
+#![tactic(auto)]
+
 ghost use Rattle.std.specs.Prelude.{◌≡◌, ◌≤◌};
 ghost use Rattle.numbers.specs.Rounded.{real};
 ghost use Rattle.numbers.specs.Limits.{most_period};

@@ -2,6 +2,8 @@
 // number of frames that are lent as a grid, and of frames that are read one by one.
 //
 // docs/RULES.md, L7 (sums) and L11 (first greatest). Inner calls all: the crates above share them, and no caller of the library needs them.
+#![tactic(auto)]
+
 ghost use Rattle.std.specs.Prelude.{◌≡◌, ◌<◌, ◌≤◌, true, [], length};
 ghost use Rattle.numbers.specs.Rounded.{real, sum_of};
 ghost use Rattle.numbers.specs.Limits.{at_most};

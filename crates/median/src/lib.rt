@@ -3,6 +3,8 @@
 // Document 01, Leaves. The Rust: onsets.rs `median_of`, `mad_of`. A median is the entry of the middle rank, chosen without a sort (choice.rt),
 // in place in a slice that the caller lends. One written sort, a heapsort over bit order, is for those who need the whole order: at worst
 // n log n steps.
+#![tactic(auto)]
+
 mod choice;
 
 ghost use Rattle.std.specs.Prelude.{◌+◌, ◌*◌, ◌<◌, ◌≤◌, ◌≡◌, map, length};

@@ -1,6 +1,8 @@
 // A grid of beats as a Standard MIDI File of tempos, and back to its gaps.
 //
 // Document 02, No. 3.
+#![tactic(auto)]
+
 ghost use Rattle.std.specs.Prelude.{◌≡◌, true, ◌+◌, ◌-◌, ◌*◌, ◌≤◌, ◌<◌, length};
 ghost use Rattle.numbers.specs.Lists.{filled};
 ghost use Rattle.texts.specs.Texts.{Put};

@@ -1,6 +1,8 @@
 // The bytes of a Standard MIDI File of tempos, and whether a file has exactly their shape.
 //
 // Document 02, No. 3. Inner calls all: a tempo track is written and read by them. No call refuses anything: another shape is an answer.
+#![tactic(auto)]
+
 ghost use Rattle.std.specs.Prelude.{◌≡◌, ◌&&◌, ◌+◌, ◌*◌, ◌≤◌, ◌<◌, length, drop};
 ghost use Rattle.numbers.specs.Lists.{every};
 ghost use Rattle.texts.specs.Texts.{starts, Put};

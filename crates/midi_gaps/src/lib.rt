@@ -1,6 +1,8 @@
 // The gaps of a grid of beats in microseconds, and which grids have them.
 //
 // Document 02, No. 3. Inner calls all: a tempo track is written by them.
+#![tactic(auto)]
+
 ghost use Rattle.std.specs.Prelude.{◌≡◌, [], ◌∷◌, ◌+◌, ◌-◌, ◌<◌, length};
 ghost use Rattle.numbers.specs.Refusals.{first_of, out_of_bounds, wrong_grid, gap_too_long};
 ghost use Rattle.times.specs.Micros.{microseconds};

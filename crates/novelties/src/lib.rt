@@ -1,6 +1,8 @@
 // Novelty: where the rows before a row are alike, the rows after it are alike, and the two sides differ.
 //
 // Document 01, Sections. The Rust: structure.rs `novelty_curve`.
+#![tactic(auto)]
+
 ghost use Rattle.std.specs.Prelude.{◌≡◌, ℕ, ◌+◌, ◌-◌, ◌*◌, ◌^◌, ◌≤◌, ◌<◌, min, max, length, get_or};
 ghost use Rattle.std.specs.Float.{nan};
 ghost use Rattle.numbers.specs.Lists.{filled};

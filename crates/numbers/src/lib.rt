@@ -1,6 +1,8 @@
 // The limits of document 01, the numbers of its refusals, and the tests of lent values that every call makes.
 //
 // Inner calls: the crates above share them, and no caller of the library needs them. None refuses anything.
+#![tactic(auto)]
+
 ghost use Rattle.std.specs.Prelude.{◌≡◌, true, ◌&&◌, ◌-◌, min, max, length};
 ghost use Rattle.numbers.specs.Limits.{sized, magnitude_fine, value_fine, similarity_fine, rate_fine, slab_fine, slab_whole};
 ghost use Rattle.numbers.specs.Refusals.{unless};

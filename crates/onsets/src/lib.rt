@@ -1,6 +1,8 @@
 // Onsets: peaks of a flux above its threshold, with those close together suppressed, and times.
 //
 // Document 01, Onsets. The Rust: onsets.rs; here its `analyze_stft`, which picks the onsets and gives their times.
+#![tactic(auto)]
+
 pub mod peaks; // peaks.rt: peaks of a curve, and the best of each group of close ones
 
 ghost use Rattle.std.specs.Prelude.{◌≡◌, map, ◌≤◌, length};

@@ -1,6 +1,8 @@
 // The options of a tempo search, which the lags, the bars and every call above them take.
 //
 // Document 01, Tempo and candidates; request No. 4, the meter. The Rust: tempo.rs `TempoOpts`, which has no meter.
+#![tactic(auto)]
+
 ghost use Rattle.std.specs.Prelude.{◌≡◌};
 ghost use Rattle.options.specs.Options.{
   default_options,

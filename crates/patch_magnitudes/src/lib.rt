@@ -1,6 +1,8 @@
 // A repair of a track: some magnitude rows are replaced, and the flux and threshold curves are mended where that can change them.
 //
 // Document 01, Patching (added). The curves are then, bit for bit, those of a full run on the edited rows: proofs/Repairs.antt.
+#![tactic(auto)]
+
 mod mending; // mending.rt: what a patch writes
 mod refusal; // refusal.rt: which patches are refused
 

@@ -1,6 +1,8 @@
 // What a patch of magnitude rows and a patch of feature rows have in common: the lengths that are lent, and the copy.
 //
 // Document 01, Patching (added). Inner calls: no caller of the library needs them.
+#![tactic(auto)]
+
 ghost use Rattle.std.specs.Prelude.{◌≡◌, ◌+◌, ◌*◌, ◌^◌, ◌≤◌, ◌<◌, length};
 ghost use Rattle.numbers.specs.Lists.{over};
 ghost use Rattle.patches.specs.Patches.{new_rows, whole_rows};

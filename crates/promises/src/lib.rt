@@ -3,3 +3,4 @@
 // is read back.
 //
 // No code: specs/ says it, proofs/ proves it from the promises of the calls.
+#![tactic(auto)]

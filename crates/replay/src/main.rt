@@ -1,6 +1,8 @@
 // A fixed sample of the original's answers, replayed: every call but `room_of` and the whole analyses, on inputs made by a small sequence of whole
 // numbers, a line for each answer; of long slices a part. The file stdout was printed by the Rust side, from docs/src, by `tools/judge sample`, which
 // makes the same inputs.
+#![tactic(auto)]
+
 mod inputs; // inputs.rt: the sequence, and the curves and rows made of it
 mod lines; // lines.rt: how an answer is written
 mod curves; // curves.rt: medians, thresholds, onsets

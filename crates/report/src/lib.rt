@@ -1,6 +1,8 @@
 // The reporting program's work, apart from its reading and writing: rows that come one after the other, and the number of refusal.
 //
 // Document 01, The reporting program. Inner calls all: report_head and report_feed call them, and the crates above share the bound.
+#![tactic(auto)]
+
 pub mod stream; // stream.rt: the flux of rows that come one after the other, with two of them kept
 
 ghost use Rattle.std.specs.Prelude.{◌≡◌, true};

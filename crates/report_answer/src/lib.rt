@@ -2,6 +2,8 @@
 //
 // Document 01, The reporting program: rate 48,000, the default options, at most 8,000 rows. Inner calls all. The analysis is lent room from one
 // function to the next: its curves first, then its lists.
+#![tactic(auto)]
+
 ghost use Rattle.std.specs.Prelude.{◌≡◌, true, ◌≤◌, length};
 ghost use Rattle.numbers.specs.Limits.{value_fine};
 ghost use Rattle.numbers.specs.Lists.{every};

@@ -3,6 +3,8 @@
 // Document 01, The reporting program. Nothing is read here: report_read passes on what comes; its head is taken in crate report_head. Each promise holds
 // for every input and for every way in which it is cut into parts, so what an input is told to be doesn't depend on how it came. Inner calls all:
 // report_read calls them.
+#![tactic(auto)]
+
 ghost use Rattle.std.specs.Prelude.{◌∷◌, []};
 ghost use Rattle.report_feed.specs.Feeds.{FeedReady, Step, Begins, Decides, Closes};
 

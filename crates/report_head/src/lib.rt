@@ -1,6 +1,8 @@
 // The head of an input of the reporting program that comes byte by byte: its first ten bytes, and the header's text behind them.
 //
 // Document 01, The reporting program. Inner calls all: report_feed calls them, which takes the rows too.
+#![tactic(auto)]
+
 ghost use Rattle.std.specs.Prelude.{◌≡◌, ℕ, ◌≤◌, ◌<◌, length};
 ghost use Rattle.report_npy.specs.Header.{preamble_of};
 ghost use Rattle.report.specs.Input.{preamble_length};

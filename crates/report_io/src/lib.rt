@@ -2,6 +2,8 @@
 //
 // Document 01, The reporting program. What is put is proved to be the text of an input; that this input is the one on standard input, and that the
 // text is then written, is not proved: runs show it.
+#![tactic(auto)]
+
 ghost use Rattle.std.specs.Prelude.{◌≡◌, ◌≤◌, length};
 ghost use Rattle.report.specs.Input.{most_reported};
 ghost use Rattle.report_text.specs.Text.{PutWithin};

@@ -1,6 +1,8 @@
 // The six lines of an analysis, for the reporting program.
 //
 // Document 01, The reporting program: "Lines list frames or lags with one space between, or `none`, and stability as agreeing/windows." Inner calls all.
+#![tactic(auto)]
+
 ghost use Rattle.std.specs.Prelude.{◌≡◌, ◌≤◌, length};
 ghost use Rattle.stability.specs.Answers.{agreeing_in, windows_in};
 ghost use Rattle.report_text.specs.Text.{PutWithin};

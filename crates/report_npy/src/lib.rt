@@ -2,6 +2,8 @@
 //
 // Document 01, The reporting program. Inner calls all: the reporting program is their only caller.
 // No call refuses anything or prints: a malformed header is an answer.
+#![tactic(auto)]
+
 ghost use Rattle.std.specs.Prelude.{◌≡◌, drop};
 ghost use Rattle.report_npy.specs.Header.{ended, header_of, preamble_of};
 ghost use Rattle.report_npy.specs.Values.{single_of, row_read};

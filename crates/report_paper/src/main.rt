@@ -1,4 +1,6 @@
 // The reporting program on document 01's example.
+#![tactic(auto)]
+
 fn main() {
     report_io::report();
 }

@@ -6,6 +6,8 @@
 // that a wrong header is refused without the gigabyte behind it. What is proved here is that there is an input of which the number and the flux are right.
 // That this input is standard input, read that far, is what the lines of `read_all` say; the kit's contract of `read` says nothing of the bytes, so it is
 // not proved: runs show it. A read that fails is taken for the end of the input.
+#![tactic(auto)]
+
 ghost use Rattle.std.specs.Prelude.{◌≡◌, true, ◌*◌, ◌≤◌, length, take};
 ghost use Rattle.numbers.specs.Limits.{magnitude_fine, most_bins};
 ghost use Rattle.numbers.specs.Lists.{every};

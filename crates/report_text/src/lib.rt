@@ -1,6 +1,8 @@
 // The lines that the reporting program writes, into lent bytes.
 //
 // Document 01, The reporting program. Inner calls all. Each call writes from `at` on and answers the place behind what it wrote; every other byte stays.
+#![tactic(auto)]
+
 ghost use Rattle.std.specs.Prelude.{◌+◌, ◌*◌, ◌≤◌, length};
 ghost use Rattle.texts.specs.Decimals.{decimal};
 ghost use Rattle.report_text.specs.Text.{spaced, numbers_text, list_text, line_text, share_text, stability_text, report_text, refusal_text};

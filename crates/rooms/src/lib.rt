@@ -1,6 +1,8 @@
 // The room of one whole analysis, and the number that one is refused with.
 //
 // Document 01, its room and its numbers. Every refusal of an analysis is decided here, before any part of it is called.
+#![tactic(auto)]
+
 ghost use Rattle.std.specs.Prelude.{◌≡◌, leb};
 ghost use Rattle.numbers.specs.Lists.{every};
 ghost use Rattle.rooms.specs.Rooms.{room_of, suffices, envelope_refusal, magnitudes_refusal};

@@ -4,6 +4,8 @@
 //
 // The root is guessed with a few rounded operations, and one test with whole numbers tells whether the guess is the nearest.
 // Where it isn't, the root is taken digit by digit. So nothing need be known of the guess.
+#![tactic(auto)]
+
 ghost use Rattle.std.specs.Prelude.{◌≡◌, true, ◌+◌, ◌*◌, ◌^◌, ◌≤◌, ◌<◌};
 ghost use Rattle.roots.specs.Roots.{nearest_whole, root_bits, sqrt_of, infinite};
 

@@ -1,6 +1,8 @@
 // One slot of the similarity: how alike two rows of features are.
 //
 // Document 01, Sections. The Rust: structure.rs `BandedSimilarity`.
+#![tactic(auto)]
+
 ghost use Rattle.std.specs.Prelude.{◌≡◌, ◌+◌, ◌-◌, ◌*◌, ◌<◌, length};
 ghost use Rattle.std.specs.Float.Ieee.{neg, lt};
 ghost use Rattle.numbers.specs.Rounded.{nought, pick, held};

@@ -8,6 +8,8 @@
 //
 // The cases stand in tables, one to a line, with bars between the columns: the label, then the numbers that the function
 // of that name takes, where (1) is column 1.
+#![tactic(auto)]
+
 ghost use Rattle.std.specs.Prelude.{◌≤◌, length};
 
 use options::TempoOpts;

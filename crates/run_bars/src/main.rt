@@ -1,4 +1,6 @@
 // Runs the calls of `bars` on both sides of each boundary and prints what they answer; the file stdout holds what must come out.
+#![tactic(auto)]
+
 ghost use Rattle.std.specs.Prelude.{◌≤◌};
 
 use bars::BarBeat;

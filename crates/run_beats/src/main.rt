@@ -1,4 +1,6 @@
 // Runs `beats::beat_grid` on both sides of each boundary and prints what it answers; the file stdout holds what must come out.
+#![tactic(auto)]
+
 ghost use Rattle.std.specs.Prelude.{◌≤◌};
 
 // The cases, one to a line: the envelope, by its letter, and the frames of it from one number up to the next; so many slots lent of score, of

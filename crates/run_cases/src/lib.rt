@@ -1,5 +1,7 @@
 // What the programs behind `rt check` read their cases with: parts of a text between marks, and the numbers and the curves that they spell; and how
 // many slots of two curves differ.
+#![tactic(auto)]
+
 ghost use Rattle.std.specs.Prelude.{◌≡◌, ◌≤◌, ◌%◌, min, length, drop};
 ghost use Rattle.run_cases.specs.Texts.{marks_of, parts_from, case_part, case_number, case_column, case_digit, most_small};
 ghost use Rattle.run_cases.specs.Curves.{case_value, spelled_in, differs, differing};

@@ -2,6 +2,8 @@
 // and not by the call's; the grid is one of them, and its rivals are held to the score of its own walk. The penalty of an interval, mean, count as a float
 // and root are the library's (`penalty_of`, `mean_of`, `float_of`, `sqrt`), proved where they stand; window, scores and search are written here anew.
 // The file stdout holds what must come out: 0 chains are better, and the first frame at which one as good ends is the grid's last.
+#![tactic(auto)]
+
 ghost use Rattle.std.specs.Prelude.{◌<◌, ◌≤◌};
 
 use beat_links::penalties::penalty_of;

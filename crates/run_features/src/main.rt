@@ -4,6 +4,8 @@
 // The cases stand in a table, one to a line, with bars between the columns: the label; rate, length and count; rows, how many slots of magnitudes are lent
 // and how many samples, how many slots of features; what the magnitudes are, 0 for silence and 1 for a pattern of thirteenths; and the slot that gets another
 // value, with that value: 0 for none, 1 to 6 for a magnitude and 7 to 10 for a sample.
+#![tactic(auto)]
+
 ghost use Rattle.std.specs.Prelude.{◌<◌};
 
 use numbers::least;

@@ -3,6 +3,8 @@
 //
 // The cases stand in tables, each up to its dollar sign, with a bar behind the label: no input has one of these two bytes. What is
 // printed is proved to be right of the input; the program shows that it is run so.
+#![tactic(auto)]
+
 ghost use Rattle.std.specs.Prelude.{◌≡◌, true, ◌*◌, ◌≤◌, length};
 ghost use Rattle.numbers.specs.Limits.{magnitude_fine, most_bins};
 ghost use Rattle.numbers.specs.Lists.{every};

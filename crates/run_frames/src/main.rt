@@ -1,6 +1,8 @@
 // Runs the frame reader on both sides of each boundary: the first row, the last whole one and those past it, no bins, bins above the
 // slab, and a slab that ends with a part of a row. A line has how many magnitudes the row holds and which, by the reader and then by the
 // call on a plain slice. The file stdout holds what must come out, by document 01.
+#![tactic(auto)]
+
 fn main() {
     rows();
     bins();

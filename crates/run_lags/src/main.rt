@@ -3,6 +3,8 @@
 //
 // The cases of the first two stand in tables, one to a line, with bars between the columns: the label, then what the function of that name takes, where
 // (1) is column 1.
+#![tactic(auto)]
+
 use options::TempoOpts;
 
 const DEFAULTS: usize = 1;

@@ -3,6 +3,8 @@
 // Reads lines of sixteen hexadecimal digits, the bits of an f64. Writes for each a line: the input, the bits of log, log2, exp and
 // sqrt, round and ceil as whole numbers, and the place in the total order, all in hexadecimal.
 // The file stdout was written by Rust's libm and std (tools/leaves.d), not by this program.
+#![tactic(auto)]
+
 ghost use Rattle.std.specs.Prelude.{◌<◌};
 
 use libc::{STDIN_FILENO, STDOUT_FILENO};

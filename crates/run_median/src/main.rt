@@ -1,5 +1,7 @@
 // Runs median_of and mad_of on both sides of each boundary of document 01 and prints what they answer, and the slots of the work slice
 // that must not have changed: all five at a refusal, else those past the values. The file stdout holds what must come out.
+#![tactic(auto)]
+
 ghost use Rattle.std.specs.Prelude.{◌≤◌};
 
 use median::Answer;

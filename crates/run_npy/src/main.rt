@@ -3,6 +3,8 @@
 //
 // The cases stand in tables, each up to its dollar sign, with bars between the columns: the label, then what the function of that name takes, where (1)
 // is column 1.
+#![tactic(auto)]
+
 ghost use Rattle.std.specs.Prelude.{◌≤◌};
 
 use report_npy::{Header, Preamble};

@@ -4,6 +4,8 @@
 //
 // The cases stand in tables, one to a line, with bars between the columns: the label, the numbers and values that the function of that name takes, where
 // (1) is column 1, and what they are about.
+#![tactic(auto)]
+
 ghost use Rattle.std.specs.Prelude.{◌≤◌, ◌<◌, length};
 
 use patch_features::PatchedFeatures;

@@ -4,6 +4,8 @@
 //
 // The cases stand in tables, one to a line, with bars between the columns: the label, for boundaries the curve, and the numbers that the function
 // of that name takes, where (1) is column 1.
+#![tactic(auto)]
+
 ghost use Rattle.std.specs.Prelude.{◌≤◌};
 
 use sections::Sections;

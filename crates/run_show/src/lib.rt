@@ -1,6 +1,8 @@
 // What the programs behind `rt check` print with: each answer as words and numbers on standard output, to be compared with the file stdout.
 //
 // A write that fails is not told: the comparison then does.
+#![tactic(auto)]
+
 use libc::STDOUT_FILENO;
 
 pub fn words(text: &[u8]) {

@@ -1,6 +1,8 @@
 // Runs `stability::stability_of` on both sides of each boundary and prints what it answers; the file stdout holds what must come out.
 //
 // The cases stand in tables, one to a line, with bars between the columns: the label, then the numbers that `run` takes, where (1) is column 1.
+#![tactic(auto)]
+
 ghost use Rattle.std.specs.Prelude.{◌≤◌};
 
 use options::TempoOpts;

@@ -1,5 +1,7 @@
 // Runs similarity and novelty on both sides of each boundary of document 01, and prints what they answer and the slots afterwards: those past the
 // formula, and all of them at a refusal, must be as they were (9). The file stdout holds what must come out.
+#![tactic(auto)]
+
 ghost use Rattle.std.specs.Prelude.{◌≤◌};
 
 // The cases of the refusals, one to a line: s for similarity or n for novelty; what is lent to it, which is the first digit in every slot,

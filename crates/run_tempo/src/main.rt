@@ -1,6 +1,8 @@
 // Runs `tempo::estimate` on both sides of each boundary and prints what it answers; the file stdout holds what must come out.
 //
 // The cases stand in tables, one to a line, with bars between the columns: the label, then what `run` takes, where (1) is column 1.
+#![tactic(auto)]
+
 ghost use Rattle.std.specs.Prelude.{◌≤◌, length};
 
 use options::TempoOpts;

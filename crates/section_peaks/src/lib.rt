@@ -2,6 +2,8 @@
 //
 // Document 01, Sections. The Rust: structure.rs `pick_boundaries`. Where there are too many, their values are sorted to find the level
 // of the last that is taken, and a second walk lists them: a list lent for the answer has no slot written that isn't an entry.
+#![tactic(auto)]
+
 ghost use Rattle.std.specs.Prelude.{◌≡◌, true, map, suc, ◌+◌, ◌-◌, ◌≤◌, ◌<◌, length};
 ghost use Rattle.numbers.specs.Limits.{most_features};
 ghost use Rattle.floats.specs.TotalOrder.{key};

@@ -1,6 +1,8 @@
 // Sections: the boundaries of a novelty curve, how sure they are, and their times.
 //
 // Document 01, Sections. The Rust: structure.rs `confidence_of`, and the end of `detect_structure`.
+#![tactic(auto)]
+
 mod confidence; // confidence.rt: how far they stand out
 
 ghost use Rattle.std.specs.Prelude.{◌≡◌, ◌≤◌, map, length};

@@ -1,6 +1,8 @@
 // Similarity: how alike two rows of features are, for rows at most sixteen apart.
 //
 // Document 01, Sections. The Rust: structure.rs `BandedSimilarity`.
+#![tactic(auto)]
+
 ghost use Rattle.std.specs.Prelude.{◌≡◌, ℕ, ◌+◌, ◌-◌, ◌*◌, ◌≤◌, ◌<◌, min, length, get_or};
 ghost use Rattle.std.specs.Float.{nan};
 ghost use Rattle.numbers.specs.Limits.{feature_width};

@@ -1,6 +1,8 @@
 // Stability: in how many parts of an envelope its tempo is heard again.
 //
 // Document 01, Tempo and candidates, "Stability". The Rust: tempo.rs `stability_of`.
+#![tactic(auto)]
+
 ghost use Rattle.std.specs.Prelude.{◌≡◌, ◌≤◌, length};
 ghost use Rattle.numbers.specs.Limits.{most_period, most_rows};
 ghost use Rattle.lags.specs.Lags.{lag_room};

@@ -1,6 +1,8 @@
 // Tempo: how fast the pulse of an envelope is, and which other tempos it may be heard at.
 //
 // Document 01, Tempo and candidates. The Rust: tempo.rs `pick_tempo_peaks`.
+#![tactic(auto)]
+
 ghost use Rattle.std.specs.Prelude.{◌≡◌, true, ℕ, ◌+◌, ◌≤◌, ◌<◌, length};
 ghost use Rattle.numbers.specs.Limits.{most_period};
 ghost use Rattle.lags.specs.Lags.{lag_room, bounds_fine};

@@ -2,6 +2,8 @@
 // bytes.
 //
 // Document 01, The reporting program, "N and B without needless zeros". Inner calls all. No call refuses anything: a text that is no number is an answer.
+#![tactic(auto)]
+
 ghost use Rattle.std.specs.Prelude.{◌≡◌, ◌+◌, ◌-◌, ◌*◌, ◌≤◌, min, [], ◌∷◌, length, drop};
 ghost use Rattle.texts.specs.Texts.{starts, Put};
 ghost use Rattle.texts.specs.Decimals.{decimal, leading, plain, number_from};

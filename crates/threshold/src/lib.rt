@@ -1,6 +1,8 @@
 // What a flux must exceed to be an onset: the median of the slots around it, and eight times how far they lie from it.
 //
 // Document 01, Onsets. The Rust: onsets.rs `adaptive_threshold`.
+#![tactic(auto)]
+
 ghost use Rattle.std.specs.Prelude.{◌≡◌, ◌+◌, ◌-◌, ◌≤◌, ◌<◌, length, drop};
 ghost use Rattle.numbers.specs.Lists.{filled};
 ghost use Rattle.numbers.specs.Outcomes.{Open};

@@ -1,6 +1,8 @@
 // A frame's time in whole microseconds: exact, rounded half up once, in whole numbers.
 //
 // Document 02, No. 3 and No. 6. Inner: the crates that write times share it. It refuses nothing: its callers judge the rate first.
+#![tactic(auto)]
+
 ghost use Rattle.std.specs.Prelude.{◌≡◌, ◌<◌};
 ghost use Rattle.times.specs.Micros.{microseconds};
 

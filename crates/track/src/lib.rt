@@ -1,6 +1,8 @@
 // One whole track where nothing is refused: onsets, tempo, stability, beats and downbeats, each part called in turn.
 //
 // Document 01, Onsets, Tempo and candidates, Beats and bars. Inner: the calls of crate analysis have looked at what is lent.
+#![tactic(auto)]
+
 ghost use Rattle.std.specs.Prelude.{◌≡◌};
 ghost use Rattle.rooms.specs.Rooms.{results, spare};
 ghost use Rattle.rooms.specs.Inner.{Ready};

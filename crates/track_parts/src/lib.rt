@@ -1,6 +1,8 @@
 // The parts of one whole analysis that follow from the lag of a tempo: how steady it is, its beats and its downbeats.
 //
 // Document 01, Tempo and candidates, Beats and bars. Inner: the calls of crate analysis have looked at what is lent.
+#![tactic(auto)]
+
 ghost use Rattle.std.specs.Prelude.{◌≡◌, true, ◌≤◌, length};
 ghost use Rattle.numbers.specs.Limits.{most_rows, most_period, between, value_fine};
 ghost use Rattle.numbers.specs.Lists.{every};

@@ -2,6 +2,8 @@
 //
 // Inner calls, for the threshold; none refuses anything. A window holds +0 for either zero. Then no two of its values differ and compare as
 // equal, so that a comparison of floats decides their order, and a step has no branch that depends on the values.
+#![tactic(auto)]
+
 ghost use Rattle.std.specs.Prelude.{◌≡◌, map, ◌<◌, length, get_or};
 ghost use Rattle.std.specs.Float.{nan};
 ghost use Rattle.std.specs.Float.Ieee.{lt};

@@ -1,6 +1,8 @@
 // Thirty-two bits as four bytes, the low byte first: written and read.
 //
 // NumPy arrays and RIFF chunks hold numbers so. Inner calls all; none refuses anything.
+#![tactic(auto)]
+
 ghost use Rattle.std.specs.Prelude.{◌≡◌, ◌+◌, ◌≤◌, length};
 ghost use Rattle.texts.specs.Texts.{Put};
 ghost use Rattle.words.specs.Words.{word, word_of, word_at};
