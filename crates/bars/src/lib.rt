@@ -13,7 +13,7 @@ use numbers::Listing;
 use options::TempoOpts;
 
 // Where a time lies: in no bar, where it reaches no downbeat, or in a bar and at a beat of it, both counted from 1.
-#[derive(Drop)]
+#[derive(Clone, Copy)]
 pub enum BarBeat {
     Nowhere,
     At { bar: usize, beat: usize },

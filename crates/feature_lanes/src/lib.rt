@@ -15,7 +15,7 @@ use feature_bins::BINS;
 use flux_rows::Four;
 
 // The sums of a pitch class and of a band, of four feature rows each.
-#[derive(Drop)]
+#[derive(Clone, Copy)]
 struct Pair {
     class: Four,
     band: Four,

@@ -12,7 +12,7 @@ use numbers::THOUSAND;
 use sections::frame_ms;
 
 // Inner: samples a second, samples of a feature row, and how many feature rows.
-#[derive(Drop)]
+#[derive(Clone, Copy)]
 pub struct FeatureGrid {
     pub rate: u32,
     pub length: u64,

@@ -30,7 +30,7 @@ const IVLN2HI: f64 = 1.44269504072144627571e+00;
 const IVLN2LO: f64 = 1.67517131648865118353e-10;
 
 // What both logarithms of x go on with, x being 2 ^ k * (1 + f).
-#[derive(Drop)]
+#[derive(Clone, Copy)]
 struct Parts {
     k: f64,
     f: f64,

@@ -17,7 +17,7 @@ use numbers::Slab;
 pub const PART: usize = 32;
 
 // Inner: the sums of four rows.
-#[derive(Drop)]
+#[derive(Clone, Copy)]
 pub struct Four {
     pub a: f64,
     pub b: f64,

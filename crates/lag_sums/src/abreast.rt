@@ -9,7 +9,7 @@ ghost use Rattle.lag_sums.specs.Sums.{centred};
 ghost use Rattle.lag_sums.specs.Lanes.{eight_by, eight_sums, thirty_two_sums, eight_more, centred_from, entry, eight_run, thirty_two_run};
 
 // Inner: eight sums, at as many lags side by side.
-#[derive(Drop)]
+#[derive(Clone, Copy)]
 pub struct Eight {
     pub a: f64,
     pub b: f64,
@@ -22,14 +22,14 @@ pub struct Eight {
 }
 
 // two times eight, one behind the other
-#[derive(Drop)]
+#[derive(Clone, Copy)]
 struct Sixteen {
     a: Eight,
     b: Eight,
 }
 
 // Inner: four times eight, one behind the other.
-#[derive(Drop)]
+#[derive(Clone, Copy)]
 pub struct ThirtyTwo {
     pub a: Eight,
     pub b: Eight,

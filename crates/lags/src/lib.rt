@@ -29,7 +29,7 @@ pub mod pairs;
 const SIXTY: f64 = 60.0;
 
 // The answer of `lag_range`: its number, and the least and the greatest lag, in frames (0 where it refuses).
-#[derive(Drop)]
+#[derive(Clone, Copy)]
 pub struct LagRange {
     pub number: u32,
     pub min_lag: usize,

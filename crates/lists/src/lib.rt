@@ -15,7 +15,7 @@ ghost use Rattle.lists.specs.Means.{mean_of};
 
 // Inner: what is found of frames that are read one by one: whether each was a listed frame's, whether they strictly ascend, and the least that the next
 // may be.
-#[derive(Drop)]
+#[derive(Clone, Copy)]
 pub struct Reading {
     pub listed: bool,
     pub rises: bool,
@@ -23,7 +23,7 @@ pub struct Reading {
 }
 
 // Inner: a value, and the place that has it.
-#[derive(Drop)]
+#[derive(Clone, Copy)]
 pub struct Best {
     pub value: f64,
     pub at: u32,

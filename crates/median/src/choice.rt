@@ -31,21 +31,21 @@ const LEAST_KEY: u64 = 0x000f_ffff_ffff_ffff;
 const MOST_KEY: u64 = 0xfff0_0000_0000_0000;
 
 // How many entries lie below one value, and how many up to another.
-#[derive(Drop)]
+#[derive(Clone, Copy)]
 struct Counts {
     low: usize,
     high: usize,
 }
 
 // Two values to narrow by.
-#[derive(Drop)]
+#[derive(Clone, Copy)]
 struct Fence {
     low: f64,
     high: f64,
 }
 
 // The side of a fence that has the wanted entry: 0 below it, 1 between its values, 2 above it. So many entries lie before it, and in it.
-#[derive(Drop)]
+#[derive(Clone, Copy)]
 struct Part {
     side: u32,
     before: usize,

@@ -15,7 +15,7 @@ ghost use Rattle.median.specs.Heaps.{swapped, Heap, Sifted, Greater, Arranged};
 ghost use Rattle.median.specs.Answers.{refusal_of, MedianPromise, MadPromise, Chosen};
 
 // A median, or the number of a refusal.
-#[derive(Drop)]
+#[derive(Clone, Copy)]
 pub enum Answer {
     Value(f64),
     Refused(u32),

@@ -61,14 +61,14 @@ pub const NO_LISTED_FRAME: u32 = 10;
 pub const NOT_ASCENDING: u32 = 11;
 
 // The shape of a slab of magnitudes: so many rows of so many bins, one row behind the other.
-#[derive(Drop)]
+#[derive(Clone, Copy)]
 pub struct Slab {
     pub rows: usize,
     pub bins: usize,
 }
 
 // What a call that lists frames or rows, or writes the bytes of a file, answers: its number, and how many entries it listed (0 where it refuses).
-#[derive(Drop)]
+#[derive(Clone, Copy)]
 pub struct Listing {
     pub number: u32,
     pub count: usize,

@@ -123,7 +123,7 @@ pub fn pick_above(curve: &[f64], level: f64, gap: usize, frames: &mut [u32]) -> 
 }
 
 // Whether a group is open and its best peak; and how many bests of closed groups are listed.
-#[derive(Drop)]
+#[derive(Clone, Copy)]
 struct Group {
     opened: bool,
     best: usize,

@@ -14,7 +14,7 @@ ghost use Rattle.options.specs.Options.{
 };
 
 // The bounds of the tempo search, in beats a minute, and the beats of a bar.
-#[derive(Drop)]
+#[derive(Clone, Copy)]
 pub struct TempoOpts {
     pub min_bpm: f64,
     pub max_bpm: f64,

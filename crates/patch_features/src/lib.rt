@@ -24,7 +24,7 @@ const ON: usize = 7;
 
 // What a patch did: the number of its refusal, or the slots that it wrote of each curve, first and past-last. Of the similarity's slots it
 // wrote those of pairs that touch a replaced row.
-#[derive(Drop)]
+#[derive(Clone, Copy)]
 pub enum PatchedFeatures {
     Refused(u32),
     Wrote {

@@ -14,7 +14,7 @@ ghost use Rattle.patch_magnitudes.specs.Magnitudes.{PatchMagnitudesPromise};
 use numbers::Slab;
 
 // What a patch did: the number of its refusal, or the slots that it wrote of each curve, first and past-last.
-#[derive(Drop)]
+#[derive(Clone, Copy)]
 pub enum Patched {
     Refused(u32),
     Wrote {

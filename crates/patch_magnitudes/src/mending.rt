@@ -12,7 +12,7 @@ use numbers::Slab;
 use threshold::REACH;
 
 // Slots of a curve, the first and the past-last.
-#[derive(Drop)]
+#[derive(Clone, Copy)]
 pub struct Slots {
     pub first: usize,
     pub past: usize,

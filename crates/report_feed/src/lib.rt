@@ -12,7 +12,7 @@ use numbers::{MALFORMED, WRONG_LENGTH};
 use report_head::{Feed, take_first, take_text};
 
 // The number of an input, and how many rows it has where that is 0.
-#[derive(Drop)]
+#[derive(Clone, Copy)]
 pub struct Reading {
     pub number: u32,
     pub rows: usize,

@@ -16,7 +16,7 @@ const FIRST: usize = 10;
 
 // How far an input has come. `have` bytes of what is coming are held: of the ten bytes, of the header's text, which is `size` long, or of row t.
 // Rows before row t have come whole, and `fine` tells whether each of their values is fine. An input that is refused stays so, whatever comes.
-#[derive(Drop)]
+#[derive(Clone, Copy)]
 pub enum Feed {
     First {
         have: usize,

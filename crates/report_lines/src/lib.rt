@@ -14,7 +14,7 @@ use tempo::Candidate;
 use track::Analysis;
 
 // The counts of a stability, as the text has them.
-#[derive(Drop)]
+#[derive(Clone, Copy)]
 struct Counts {
     agreeing: u32,
     windows: u32,

@@ -24,14 +24,14 @@ const CLOSING: usize = 4;
 const FIRST: usize = 10;
 
 // What the first ten bytes say.
-#[derive(Drop)]
+#[derive(Clone, Copy)]
 pub enum Preamble {
     Malformed,
     Length(usize),
 }
 
 // What the header's text says: N and B, each held to 4,294,967,295, which is above every bound.
-#[derive(Drop)]
+#[derive(Clone, Copy)]
 pub enum Header {
     Malformed,
     Shape(u64, u64),

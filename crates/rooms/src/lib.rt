@@ -15,7 +15,7 @@ use options::TempoOpts;
 use threshold::MEDIAN_WINDOW;
 
 // The room of an analysis, in slots: `rows` for each slice with a slot a frame, `lags` for each of the four lag curves, `sorting` for work.
-#[derive(Drop)]
+#[derive(Clone, Copy)]
 pub struct Room {
     pub number: u32,
     pub rows: usize,

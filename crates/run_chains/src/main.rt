@@ -61,7 +61,7 @@ const LONG: [f64; 13] = [
 const POWERS: [u32; 13] = [1, 2, 4, 8, 16, 32, 64, 128, 256, 512, 1024, 2048, 4096];
 
 // A chain, frame by frame: whether it has begun and each step was allowed, what it scores, its last frame.
-#[derive(Drop)]
+#[derive(Clone, Copy)]
 struct Chained {
     begun: bool,
     allowed: bool,
@@ -120,7 +120,7 @@ fn walk(envelope: &[f64], scale: f64, period: u32, set: usize) -> Chained {
 }
 
 // How many chains there are, how many score more than the grid and how many as much, and the first frame at which one of these ends.
-#[derive(Drop)]
+#[derive(Clone, Copy)]
 struct Tally {
     chains: u32,
     better: u32,

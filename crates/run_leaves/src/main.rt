@@ -7,7 +7,7 @@
 
 ghost use Rattle.std.specs.Prelude.{◌<◌};
 
-use libc::{STDIN_FILENO, STDOUT_FILENO};
+use std::io::Read;
 
 // The value of a hexadecimal digit in lower case.
 fn digit(b: u8) -> u64
@@ -38,34 +38,39 @@ fn number(line: &[u8; 17]) -> u64 {
     n
 }
 
-fn column(n: u64) {
-    io::write_all(STDOUT_FILENO, b" ");
-    io::print_hex(STDOUT_FILENO, n, 16);
+fn digits(rt: &impl Print, n: u64) {
+    let _ = print!(rt; "{n:016x}");
 }
 
-fn answer(n: u64) {
+fn column(rt: &impl Print, n: u64) {
+    let _ = rt.write_all(b" ");
+    digits(rt, n);
+}
+
+fn answer(rt: &impl Print, n: u64) {
     let x = floats::bits::float_of(n);
-    io::print_hex(STDOUT_FILENO, n, 16);
-    column(floats::bits::bits_of(floats::logs::log(x)));
-    column(floats::bits::bits_of(floats::logs::log2(x)));
-    column(floats::bits::bits_of(floats::exps::exp(x)));
-    column(floats::bits::bits_of(roots::sqrt(x)));
-    column(floats::wholes::round_of(x));
-    column(floats::wholes::ceil_of(x));
-    column(floats::bits::key_of(x));
-    io::write_all(STDOUT_FILENO, b"\n");
+    digits(rt, n);
+    column(rt, floats::bits::bits_of(floats::logs::log(x)));
+    column(rt, floats::bits::bits_of(floats::logs::log2(x)));
+    column(rt, floats::bits::bits_of(floats::exps::exp(x)));
+    column(rt, floats::bits::bits_of(roots::sqrt(x)));
+    column(rt, floats::wholes::round_of(x));
+    column(rt, floats::wholes::ceil_of(x));
+    column(rt, floats::bits::key_of(x));
+    let _ = rt.write_all(b"\n");
 }
 
 // Whether there is a further line.
-fn next(line: &mut [u8; 17]) -> bool {
-    io::read_full(STDIN_FILENO, line) == 17
+fn next(input: &mut impl Read, line: &mut [u8; 17]) -> bool {
+    input.read_exact(line).is_ok()
 }
 
-fn main() {
+fn main(rt: HostRuntime) {
+    let mut input = rt.reader();
     let mut line = [0u8; 17];
     let mut most = 1_000_000u64;
-    while most > 0 && next(&mut line) {
-        answer(number(&line));
+    while most > 0 && next(&mut input, &mut line) {
+        answer(&rt, number(&line));
         most -= 1;
     }
 }

@@ -87,7 +87,7 @@ fn list_chosen(curve: &[f64], level: f64, gap: usize, cut: Cut, rows: &mut [u32]
 // ---- the walk
 
 // The best of a group of close peaks, and the peak that opens the next group, or the last slot.
-#[derive(Drop)]
+#[derive(Clone, Copy)]
 struct Group {
     best: usize,
     next: usize,
@@ -142,7 +142,7 @@ fn next_peak(curve: &[f64], level: f64, from: usize) -> usize
 // ---- the cut
 
 // The least value that is taken, and how many are taken of those that equal it.
-#[derive(Drop)]
+#[derive(Clone, Copy)]
 struct Cut {
     level: f64,
     spare: usize,
@@ -178,7 +178,7 @@ fn at_most(values: &[f64], level: f64) -> usize
 }
 
 // Whether a value is taken, and how many of those at the level may be afterwards.
-#[derive(Drop)]
+#[derive(Clone, Copy)]
 struct Verdict {
     taken: bool,
     spare: usize,

@@ -18,7 +18,7 @@ use numbers::THOUSAND;
 
 // What `boundaries` answers: its number, how many sections there are, how many boundaries are listed (one less, or none), and how far
 // they stand out, from 0 to 1. All are 0 at a refusal, but the number.
-#[derive(Drop)]
+#[derive(Clone, Copy)]
 pub struct Sections {
     pub number: u32,
     pub sections: usize,

@@ -40,12 +40,12 @@ module _ {A : Type 0} {P : A → Type 0} where
   pub each_take : {xs : List A} (n : ℕ) → Each P xs → Each P (take n xs)
   each_take zero h = none
   each_take (suc n) none = none
-  each_take (suc n) (more h k) = more h (each_take n k)
+  each_take (suc n) (more {xs = xs} h k) = more h (each_take {xs = xs} n k)
 
   pub each_drop : {xs : List A} (n : ℕ) → Each P xs → Each P (drop n xs)
   each_drop zero h = h
   each_drop (suc n) none = none
-  each_drop (suc n) (more h k) = each_drop n k
+  each_drop (suc n) (more {xs = xs} h k) = each_drop {xs = xs} n k
 
   pub each_row : {s : List A} (b t : ℕ) → Each P s → Each P (row s b t)
   unfolding row

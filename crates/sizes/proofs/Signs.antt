@@ -93,7 +93,7 @@ div_plus {x} f y X h k = div_of f x y X h.sign (subst (λ (z : Float). T (lt z y
 pub sum_from_plus : {acc : Float} {xs : List Float} → Plus acc → Each Plus xs → Plus (sum_from acc xs)
 unfolding sum_from
 sum_from_plus h none = h
-sum_from_plus h (more a k) = sum_from_plus (add_plus binary64 h a) k
+sum_from_plus {acc} h (more {x = x} {xs = xs} a k) = sum_from_plus {acc = add binary64 acc x} {xs = xs} (add_plus binary64 h a) k
 
 pub nought_plus : Plus nought
 unfolding of_bits is_plus

@@ -22,7 +22,7 @@ sum_from_most {N} {acc} n H h (more {x = x} {xs = xs} a k) =
     let e : n + length (x ∷ xs) ≡ suc n + length xs = omega arith in
     let s : n * N + N ≡ suc n * N = sym (suc-mul n N) in
     subst (λ (k : ℕ). AtMost (k * N) (sum_from (acc ⊕ x) xs)) (sym e)
-    (sum_from_most (suc n) (λ i l. H i (omega (arith, e))) (subst (λ (k : ℕ). AtMost k (acc ⊕ x)) s
+    (sum_from_most {acc = acc ⊕ x} {xs = xs} (suc n) (λ i l. H i (omega (arith, e))) (subst (λ (k : ℕ). AtMost k (acc ⊕ x)) s
     (add_most (subst (λ (k : ℕ). Held binary64 k) (sym s) (H (suc n) (omega (arith, e)))) h a)) k)
 
 -- a whole sum

@@ -19,7 +19,7 @@ use tempo::search_refusal;
 mod windows;
 
 // No stability, or the share of windows whose tempo agrees with the whole envelope's, with both counts.
-#[derive(Drop)]
+#[derive(Clone, Copy)]
 pub enum Stability {
     None,
     Share {
@@ -30,7 +30,7 @@ pub enum Stability {
 }
 
 // The answer of `stability_of`: its number, and the stability.
-#[derive(Drop)]
+#[derive(Clone, Copy)]
 pub struct Steadiness {
     pub number: u32,
     pub stability: Stability,

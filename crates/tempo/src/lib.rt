@@ -25,21 +25,21 @@ use numbers::{MOST_ROWS, OUT_OF_BOUNDS, TOO_LITTLE_ROOM, WRONG_VALUE, values_fin
 use options::TempoOpts;
 
 // A tempo that the envelope may be heard at: its lag in frames, and its clarity, 0 to 1.
-#[derive(Drop)]
+#[derive(Clone, Copy)]
 pub struct Candidate {
     pub lag: usize,
     pub salience: f64,
 }
 
 // No tempo, or a tempo in beats a minute with its clarity, 0 to 1.
-#[derive(Drop)]
+#[derive(Clone, Copy)]
 pub enum Tempo {
     None,
     Found { bpm: f64, clarity: f64 },
 }
 
 // The answer of `estimate`: its number, the tempo, and `count` candidates, the winner first; unused ones hold zeros.
-#[derive(Drop)]
+#[derive(Clone, Copy)]
 pub struct TempoEstimate {
     pub number: u32,
     pub tempo: Tempo,

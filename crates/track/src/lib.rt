@@ -16,7 +16,7 @@ use track_parts::follow;
 
 // The answer of an analysis: how many onsets, beats and downbeats are listed, the tempo with `count` candidates, the winner first, and how
 // steady it is. On refusal the number, and else nothing.
-#[derive(Drop)]
+#[derive(Clone, Copy)]
 pub struct Analysis {
     pub number: u32,
     pub onsets: usize,

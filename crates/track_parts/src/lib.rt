@@ -16,14 +16,14 @@ use options::TempoOpts;
 use stability::{Stability, stability_of};
 
 // How many beats and downbeats are listed.
-#[derive(Drop)]
+#[derive(Clone, Copy)]
 pub struct Laid {
     pub beats: usize,
     pub downbeats: usize,
 }
 
 // What follows from a tempo: how steady it is, and how many beats and downbeats are listed.
-#[derive(Drop)]
+#[derive(Clone, Copy)]
 pub struct Following {
     pub stability: Stability,
     pub beats: usize,

@@ -1,0 +1,15 @@
+-- `lag_curves::fill_eights` meets its contract. The invariant: the slots from `from` up to i are written by the rule. The measure is
+-- the slots that are left; each call's slots join those before them. Assumes nothing.
+use mathlib.Core.Path.{◌≡◌}
+use Prim.Native.Nat.{◌≤◌, ◌-◌}
+use lib.ListN.{length}
+use Rattle.numbers.specs.Lists.{filled}
+use Rattle.lag_curves.specs.Curves.{clarity_from}
+use Rattle.lag_curves.proofs.fill_eights.Given as goal
+
+abbrev pub invariant-loop-i : goal.invariant-loop-i
+invariant-loop-i l =
+    (l.from ≤ l.i) × (l.i ≤ l.past) × (length l.clarity ≡ length l.initial.clarity) × (l.clarity ≡ filled (clarity_from l.envelope l.mean l.ac0 l.min_lag) l.initial.clarity l.from l.i)
+
+abbrev pub decreases-loop-i : goal.decreases-loop-i
+decreases-loop-i l = l.past - l.i

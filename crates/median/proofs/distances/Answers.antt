@@ -1,0 +1,41 @@
+use Prim.Native.Nat.{◌<◌}
+use mathlib.Core.Path.{refl, sym, ◌∙◌}
+use native.Mathlib.Omega.{arith}
+use lib.ListN.{length, get_or, length-set, length-map}
+use lib.Ieee.{nan}
+use Rattle.numbers.proofs.Tabs.{filled_none, filled_more}
+use Rattle.median.specs.Median.{distance}
+use Rattle.median.proofs.Lent.{filled_by, map_at}
+use Rattle.median.proofs.distances.Goals as goal
+
+pub loop-i-init : goal.loop-i-init
+loop-i-init c = (omega arith, sym (filled_none _ _ 0), refl)
+
+pub offset_bounds-src-i : goal.offset_bounds-src-i
+offset_bounds-src-i c = omega (arith, c.well_formed.0.1)
+
+pub absolute_of-requires : goal.absolute_of-requires
+absolute_of-requires c = tt
+
+pub offset_bounds-dst-i : goal.offset_bounds-dst-i
+offset_bounds-dst-i c = omega (arith, c.well_formed.0.1)
+
+pub loop-i-preserved : goal.loop-i-preserved
+unfolding distance
+loop-i-preserved c =
+    let v = c.loop-i.invariant in
+    let l : c.loop-i.i < length c.args.dst.now = omega (arith, c.requires) in (
+      omega arith,
+      rw (v.1, c.absolute_of.ensures) (filled_more (λ k. distance c.args.median (get_or c.args.src.now k nan)) _ 0
+          c.loop-i.i (omega arith) nan l),
+      simp length-set v.2,
+    )
+
+pub shape_of-dst : goal.shape_of-dst
+shape_of-dst c = c.loop-i.invariant.2
+
+pub returns : goal.returns
+returns c =
+    let v = c.loop-i.invariant in
+    let n = length-map c.args.src.now (distance c.args.median) in
+    v.1 ∙ filled_by _ _ _ _ (omega (arith, v.0, c.loop-i-test.false)) (λ k l. map_at (distance c.args.median) c.args.src.now k (omega arith))

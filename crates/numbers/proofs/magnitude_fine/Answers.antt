@@ -1,0 +1,12 @@
+-- `numbers::magnitude_fine` meets its contract: `&&` answers its right side where its left holds. Assumes nothing.
+use Rattle.numbers.specs.Limits.{magnitude_fine}
+use Rattle.numbers.proofs.Tests.{and-held, and_failed}
+use Rattle.numbers.proofs.magnitude_fine.Goals as goal
+
+pub returns-then-x : goal.returns-then-x
+unfolding magnitude_fine
+returns-then-x c = and-held _ _ c.if-x.true
+
+pub returns-else-x : goal.returns-else-x
+unfolding magnitude_fine
+returns-else-x c = and_failed _ _ c.if-x.false

@@ -1,0 +1,7 @@
+-- `numbers::value_fine` meets its contract: value_fine is `sized` with its top. Assumes nothing.
+use Rattle.numbers.specs.Limits.{value_fine}
+use Rattle.numbers.proofs.value_fine.Goals as goal
+
+pub returns : goal.returns
+unfolding value_fine
+returns c = c.size_fine.ensures

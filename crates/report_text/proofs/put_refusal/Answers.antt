@@ -1,0 +1,9 @@
+-- `report_text::put_refusal` meets its contract: three pieces, one behind the other. Assumes nothing.
+use Rattle.report_text.specs.Text.{refusal_text}
+use Rattle.report_text.proofs.Puts.{put_whole, put_then}
+use Rattle.report_text.proofs.put_refusal.Goals as goal
+
+pub returns : goal.returns
+unfolding refusal_text
+returns c =     put_then (put_then (put_whole c.put_words-words_end.ensures)
+    c.put_spaced-number_end.ensures) (put_whole c.put_byte.ensures)

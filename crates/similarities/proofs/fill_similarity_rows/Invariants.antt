@@ -1,0 +1,18 @@
+-- `similarities::fill_similarity_rows` meets its contract. The invariant: the slots of the rows before i are written by the rule, the others are as they
+-- were. The measure is what is left of the rows. Assumes nothing.
+use mathlib.Core.Path.{◌≡◌}
+use Prim.Native.Nat.{◌-◌, ◌*◌, ◌≤◌}
+use lib.ListN.{length}
+use Rattle.numbers.specs.Lists.{filled}
+use Rattle.row_pairs.specs.Pairs.{similarity_at}
+use Rattle.similarities.proofs.fill_similarity_rows.Given as goal
+
+abbrev pub invariant-loop-i : goal.invariant-loop-i
+invariant-loop-i l =
+    (l.from ≤ l.i)
+    × (l.i ≤ l.past)
+    × (length l.similarity ≡ length l.initial.similarity)
+    × (l.similarity ≡ filled (similarity_at l.features l.rows) l.initial.similarity (l.from * 17) (l.i * 17))
+
+abbrev pub decreases-loop-i : goal.decreases-loop-i
+decreases-loop-i l = l.past - l.i
