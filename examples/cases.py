@@ -9,6 +9,7 @@ import fcntl
 import os
 import platform
 import pty
+import re
 import shutil
 import signal
 import struct
@@ -20,7 +21,7 @@ import time
 
 HERE = os.path.dirname(os.path.abspath(__file__))
 REPORT = os.path.join(HERE, "..", "report")
-PROGRAM = os.path.join(HERE, "..", "target", "bin", "report_paper")
+PROGRAM = os.path.join(HERE, "..", "crates", "report_paper", "out", "report_paper")
 LONG = os.path.join(HERE, "..", "crates", "report_long")
 NOTHING = "onsets none\nlag none\ncandidates none\nbeats none\ndownbeats none\nstability none\n"
 PAPER = NOTHING.replace("onsets none", "onsets 2")
@@ -344,22 +345,36 @@ for name, words_ in [
 
 # ---- the first run, with an rt that only speaks
 place = os.path.join(room, "a clone")
-LOG = os.path.join(os.path.realpath(place), "target", "report.log")
-os.makedirs(os.path.join(place, "crates"))
+CRATE = os.path.join(os.path.realpath(place), "crates", "report_paper")
+OUT = os.path.join(CRATE, "out")
+LOG = os.path.join(OUT, "report.log")
+os.makedirs(CRATE)
+with open(os.path.join(CRATE, "stdin"), "wb") as f:
+    f.write(paper)
+with open(os.path.join(CRATE, "stdout"), "w") as f:
+    f.write(PAPER)
 os.mkdir(os.path.join(room, "bin"))
 shutil.copy(REPORT, place)
 with open(os.path.join(place, "crates.txt"), "w") as f:
     f.write("# level 0\nnumbers:\nfloats: numbers\nlags: numbers floats\nreport_paper: lags numbers io\nother: numbers\n")
 feigned = os.path.join(room, "bin", "rt")
-SAYS = "rt: numbers proved (unchanged since it was last proved)\na note: x proved (y)\nrt: floats proved (7 s)\nrt: lags proved (12 s)\n"
-BUILT = SAYS + "rt: report_paper proved (3 s)\nrt: report_paper ran, and wrote what its file 'stdout' has (0 s)\nrt: ok, 4 crates proved\n"
+
+
+def proved(crate, now):
+    words = "fn %s::any: proved\nlibrary below: modules loaded=5 checked=0\ncrate %s: modules loaded=7 checked=%d\nlogic=proved functions=1 sum=0\n"
+    return words % (crate, crate, now)
+
+
+SAYS = proved("numbers", 0) + "a note: x proved (y)\n" + proved("floats", 7) + proved("lags", 12)
+BUILT = SAYS + proved("report_paper", 3) + "rt: running out/report_paper; to give it other input, run that file yourself\n"
+BUILDS = 'mkdir -p out && cp "$BUILT" out/ && cat stdout'
 
 
 def feign(says, then):
     with open(feigned, "w") as f:
-        f.write("#!/bin/sh\ncat <<'SAYS'\n%sSAYS\n%s\n" % (says, then))
+        f.write("#!/bin/sh\n[ \"$*\" = run ] || exit 2\ncat >&2 <<'SAYS'\n%sSAYS\n%s\n" % (says, then))
     os.chmod(feigned, 0o755)
-    shutil.rmtree(os.path.join(place, "target"), ignore_errors=True)
+    shutil.rmtree(OUT, ignore_errors=True)
 
 
 def first_run(**more):
@@ -367,13 +382,18 @@ def first_run(**more):
     return subprocess.Popen([os.path.join(place, "report"), held], stdout=subprocess.PIPE, cwd="/", env=feigned_path, **more)
 
 
-FIRST = "report: proving and building report_paper first: 4 crates, which take some minutes once\n"
-PROVED = ["1 of 4: numbers proved before", "2 of 4: floats proved, 7 s", "3 of 4: lags proved, 12 s", "4 of 4: report_paper proved, 3 s"]
+def at_once(said):
+    # how long a crate took is measured
+    return re.sub(r"proved, \d+ s\b", "proved, 0 s", said)
+
+
+FIRST = "report: proving and building report_paper first: 4 crates, which take long once\n"
+PROVED = ["1 of 4: numbers proved before", "2 of 4: floats proved, 0 s", "3 of 4: lags proved, 0 s", "4 of 4: report_paper proved, 0 s"]
 LINES = ["report: " + line for line in PROVED]
-feign(BUILT, 'mkdir -p target/bin && cp "$BUILT" target/bin/')
+feign(BUILT, BUILDS)
 child = first_run(stderr=subprocess.PIPE)
 out, said = (x.decode() for x in child.communicate())
-check("progress", out == PAPER and child.returncode == 0 and said.startswith(FIRST + "\n".join(LINES) + "\nreport: proved and built, "), said)
+check("progress", out == PAPER and child.returncode == 0 and at_once(said).startswith(FIRST + "\n".join(LINES) + "\nreport: proved and built, "), said)
 check("what rt says is kept", kept(LOG, "r") == BUILT)
 child = first_run(stderr=subprocess.PIPE)
 check("the second run is silent", child.communicate() == (PAPER.encode(), b"") and child.returncode == 0)
@@ -381,7 +401,7 @@ check("the second run is silent", child.communicate() == (PAPER.encode(), b"") a
 # a terminal of thirty-eight columns: one line, whose parts are cut to it, with the time so far between them
 master, slave = pty.openpty()
 fcntl.ioctl(slave, termios.TIOCSWINSZ, struct.pack("HHHH", 24, 38, 0, 0))
-feign(BUILT, 'mkdir -p target/bin && cp "$BUILT" target/bin/')
+feign(BUILT, BUILDS)
 child = first_run(stderr=slave)
 out = child.communicate()[0].decode()
 os.close(slave)
@@ -390,16 +410,16 @@ with contextlib.suppress(OSError):
     while True:
         seen += os.read(master, 4096)
 os.close(master)
-moved = seen.decode().replace("\r\n", "\n").split("\n")[1].split("\r")
+moved = [at_once(line) for line in seen.decode().replace("\r\n", "\n").split("\n")[1].split("\r")]
 cut = [line[:37].ljust(37) for line in LINES]
 check("progress on a terminal", out == PAPER and [x for x in dict.fromkeys(moved) if x in cut] == cut and {len(x) for x in moved[1:]} == {37}, moved)
 
-feign("rt: numbers proved (2 s)\nrt: lags NOT PROVED (exit 1, 4 s)\n", "exit 1")
+feign(proved("numbers", 9) + proved("floats", 0).replace("logic=proved functions=1 sum=0", "logic=not-proved"), "exit 1")
 child = first_run(stderr=subprocess.PIPE)
 out, said = (x.decode() for x in child.communicate())
-refusal = "report: 1 of 4: numbers proved, 2 s\nreport: lags NOT PROVED (exit 1, 4 s)\n"
+refusal = "report: 1 of 4: numbers proved, 0 s\nreport: floats is not proved\n"
 refusal += "report: the program could not be built (rt ended with status 1); %s says why\n" % LOG
-check("a crate that isn't proved", (out, child.returncode, said) == ("", 2, FIRST + refusal), said)
+check("a crate that isn't proved", (out, child.returncode, at_once(said)) == ("", 2, FIRST + refusal), said)
 
 
 def alive(pid):
@@ -411,9 +431,9 @@ def alive(pid):
 
 # rt's own crates run in the background, where a Ctrl-C doesn't reach them
 for number, expected in [(signal.SIGINT, 130), (signal.SIGTERM, 143)]:
-    feign(SAYS, "sleep 60 & echo $! >target/sleeper\nwait")
+    feign(SAYS, "sleep 60 & echo $! >out/sleeper\nwait")
     child = first_run(stderr=subprocess.PIPE, start_new_session=True)
-    sleeper = os.path.join(place, "target", "sleeper")
+    sleeper = os.path.join(OUT, "sleeper")
     until = time.monotonic() + 20
     while time.monotonic() < until and not (os.path.exists(sleeper) and kept(sleeper, "r").strip()):
         time.sleep(0.05)
@@ -430,8 +450,12 @@ feign(BUILT, "exit 0")
 child = first_run(stderr=subprocess.PIPE)
 said = child.communicate()[1].decode()
 check("nothing was built", said.endswith("report: the program was not built; %s says why\n" % LOG) and child.returncode == 2, said)
+feign(BUILT, 'mkdir -p out && cp "$BUILT" out/ && echo other')
+child = first_run(stderr=subprocess.PIPE)
+said = child.communicate()[1].decode()
+check("another answer", said.endswith("report: the program was built, and doesn't write what crates/report_paper/stdout has\n") and child.returncode == 2, said)
 feign(BUILT, "exit 0")
-with open(os.path.join(place, "target"), "w"):
+with open(OUT, "w"):
     pass
 child = first_run(stderr=subprocess.PIPE)
 said = child.communicate()[1].decode()

@@ -253,7 +253,7 @@ class Transform:
 class Flux:
     """The onset strength of rows that come in chunks, bit for bit that of all rows at once.
 
-    Slot t depends on rows t - 1 and t alone (law `flux-local`, crates/flux/proofs/Fluxes.antt), and the first slot of a call is 0, since no
+    Slot t depends on rows t - 1 and t alone (law `flux_local`, crates/flux/proofs/Fluxes.antt), and the first slot of a call is 0, since no
     row stands before it. So each chunk after the first is lent with the row before it, and its first slot is dropped. The magnitudes of an
     hour are 1.3 GB; this keeps a few megabytes of them at a time."""
 

@@ -1,5 +1,5 @@
 //! Links the proved functions. PROHUNSEV names the object or the archive that holds them; without it they are looked for where
-//! `tools/library` leaves them, and then where `rt staticlib capi` does.
+//! `tools/library` leaves them, and then where `rt lib` in crates/capi does.
 //!
 //! What is found is asked for its version, by a program of three lines that links it, and must be of this crate's: a library of another
 //! version may have other parameters under the same names, and would link all the same. Where nothing is found the crate can be checked
@@ -36,9 +36,9 @@ fn library() -> Option<PathBuf> {
     }
     let root = Path::new(env!("CARGO_MANIFEST_DIR")).join("..");
     let mut places = vec![root.join("lib/libprohunsev.a"), root.join("target/native/capi.o")];
-    // `rt staticlib` compiles for x86-64 on every machine
+    // `rt lib` compiles for x86-64
     if variable("CARGO_CFG_TARGET_ARCH") == "x86_64" {
-        places.push(root.join("target/staticlib/libcapi.a"));
+        places.push(root.join("crates/capi/out/libcapi.a"));
     }
     // one that is missing makes cargo look again at every build, until it is there
     let found = places.iter().position(|place| place.is_file());

@@ -4,43 +4,43 @@ ghost use Rattle.std.specs.Prelude.{◌≤◌};
 use crate::{inputs, lines};
 use median::Answer;
 
-fn answer(label: &[u8], a: Answer) {
-    run_show::words(label);
+fn answer(rt: &impl Print, label: &[u8], a: Answer) {
+    run_show::words(rt, label);
     match a {
-        Answer::Refused(number) => run_show::small(number),
+        Answer::Refused(number) => run_show::small(rt, number),
         Answer::Value(value) => {
-            run_show::small(0);
-            run_show::float(value);
+            run_show::small(rt, 0);
+            run_show::float(rt, value);
         }
     }
-    run_show::end();
+    run_show::end(rt);
 }
 
-fn medians(curve: &[f64], s: u64) {
+fn medians(rt: &impl Print, curve: &[f64], s: u64) {
     let mut work = [0.0f64; 40];
-    answer(b"median", median::median_of(curve, &mut work));
+    answer(rt, b"median", median::median_of(curve, &mut work));
     let from = inputs::level(2, 0, s);
-    answer(b"mad", median::mad_of(curve, from, &mut work));
+    answer(rt, b"mad", median::mad_of(curve, from, &mut work));
 }
 
 // The threshold of a curve of n slots, and its onsets.
-fn onsets_of(curve: &[f64], n: usize, rate: u32)
+fn onsets_of(rt: &impl Print, curve: &[f64], n: usize, rate: u32)
     requires { n ≤ 40 }
 {
     let mut threshold = [0.0f64; 40];
     let mut work = [0.0f64; 21];
     let number = threshold::adaptive_threshold(curve, &mut threshold, &mut work);
-    lines::floats(b"threshold", number, &threshold[0..n]);
-    picked(curve, &threshold[0..n], rate);
+    lines::floats(rt, b"threshold", number, &threshold[0..n]);
+    picked(rt, curve, &threshold[0..n], rate);
 }
 
-fn picked(curve: &[f64], threshold: &[f64], rate: u32) {
+fn picked(rt: &impl Print, curve: &[f64], threshold: &[f64], rate: u32) {
     let mut frames = [9u32; 60];
     let r = onsets::pick_onsets(curve, threshold, rate, &mut frames);
-    lines::frames(b"onsets", r.number, &frames, lines::first(r.count));
+    lines::frames(rt, b"onsets", r.number, &frames, lines::first(r.count));
 }
 
-fn suppressed(curve: &[f64], s: u64) {
+fn suppressed(rt: &impl Print, curve: &[f64], s: u64) {
     let mut peaks = [0u32; 12];
     inputs::fill_peaks(&mut peaks, s);
     let mut frames = [9u32; 60];
@@ -50,24 +50,24 @@ fn suppressed(curve: &[f64], s: u64) {
         inputs::up_to_twenty(s) / 2,
         &mut frames,
     );
-    lines::frames(b"suppressed", r.number, &frames, lines::first(r.count));
+    lines::frames(rt, b"suppressed", r.number, &frames, lines::first(r.count));
 }
 
-fn times(s: u64, rate: u32) {
+fn times(rt: &impl Print, s: u64, rate: u32) {
     let mut peaks = [0u32; 12];
     let mut ms = [0.0f64; 12];
     inputs::fill_peaks(&mut peaks, s);
     let number = onsets::frame_times(&peaks, rate, &mut ms);
-    lines::floats(b"times", number, &ms);
+    lines::floats(rt, b"times", number, &ms);
 }
 
-fn fluxes(s: u64) {
+fn fluxes(rt: &impl Print, s: u64) {
     let slab = inputs::slab(s);
     let mut flux = [0.0f64; 40];
     let number = flux::spectral_flux(&slab, 40, 1, &mut flux);
-    lines::floats(b"flux of one bin", number, &flux);
+    lines::floats(rt, b"flux of one bin", number, &flux);
     let number = flux::spectral_flux(&slab, 8, 5, &mut flux);
-    lines::floats(b"flux of five bins", number, &flux[0..8]);
+    lines::floats(rt, b"flux of five bins", number, &flux[0..8]);
 }
 
 // A rate from 1 to 192,000.
@@ -75,14 +75,14 @@ fn rate_of(s: u64) -> u32 {
     (s % 192000) as u32 + 1
 }
 
-pub fn round(s: u64) {
+pub fn round(rt: &impl Print, s: u64) {
     let mut curve = [0.0f64; 40];
     inputs::fill(&mut curve, s);
     let n = inputs::up_to_forty(inputs::next(s));
     let rate = rate_of(s);
-    medians(&curve[0..n], s);
-    onsets_of(&curve[0..n], n, rate);
-    suppressed(&curve, s);
-    times(s, rate);
-    fluxes(s);
+    medians(rt, &curve[0..n], s);
+    onsets_of(rt, &curve[0..n], n, rate);
+    suppressed(rt, &curve, s);
+    times(rt, s, rate);
+    fluxes(rt, s);
 }

@@ -10,19 +10,19 @@ mod tempos; // tempos.rt: lags, tempo, stability, beats and bars
 mod forms; // forms.rt: similarity, novelty, sections
 mod repairs; // repairs.rt: patches
 
-fn round(s: u64) {
-    curves::round(s);
-    tempos::round(s);
-    forms::round(s);
-    repairs::round(s);
+fn round(rt: &impl Print, s: u64) {
+    curves::round(rt, s);
+    tempos::round(rt, s);
+    forms::round(rt, s);
+    repairs::round(rt, s);
 }
 
-fn main() {
+fn main(rt: HostRuntime) {
     let mut s = 1;
     let mut k: u64 = 0;
     while k < 100 {
         s = inputs::next(s);
-        round(s);
+        round(&rt, s);
         k += 1;
     }
 }

@@ -3,28 +3,28 @@ use crate::{inputs, lines};
 use patch_features::PatchedFeatures;
 use patch_magnitudes::Patched;
 
-fn named(a: usize, b: usize, c: usize, d: usize) {
-    run_show::count(a);
-    run_show::count(b);
-    run_show::count(c);
-    run_show::count(d);
+fn named(rt: &impl Print, a: usize, b: usize, c: usize, d: usize) {
+    run_show::count(rt, a);
+    run_show::count(rt, b);
+    run_show::count(rt, c);
+    run_show::count(rt, d);
 }
 
-fn wrote(p: Patched) {
-    run_show::words(b"patch");
+fn wrote(rt: &impl Print, p: Patched) {
+    run_show::words(rt, b"patch");
     match p {
-        Patched::Refused(number) => run_show::small(number),
+        Patched::Refused(number) => run_show::small(rt, number),
         Patched::Wrote {
             flux_first,
             flux_past,
             threshold_first,
             threshold_past,
         } => {
-            run_show::small(0);
-            named(flux_first, flux_past, threshold_first, threshold_past);
+            run_show::small(rt, 0);
+            named(rt, flux_first, flux_past, threshold_first, threshold_past);
         }
     }
-    run_show::end();
+    run_show::end(rt);
 }
 
 fn flux_of(slab: &[f32; 40]) -> [f64; 40] {
@@ -41,42 +41,46 @@ fn threshold_of(flux: &[f64; 40]) -> [f64; 40] {
 }
 
 // Rows from start on are replaced by up to twenty others; the curves were those of the rows before.
-fn magnitudes(s: u64, start: usize) {
+fn magnitudes(rt: &impl Print, s: u64, start: usize) {
     let mut slab = inputs::slab(s);
     let new = inputs::slab(inputs::next(s));
     let mut flux = flux_of(&slab);
     let mut threshold = threshold_of(&flux);
     let mut work = [0.0f64; 21];
-    wrote(patch_magnitudes::patch_magnitudes(
-        &mut slab,
-        40,
-        1,
-        start,
-        &new[0..20],
-        &mut flux,
-        &mut threshold,
-        &mut work,
-    ));
-    patched(&flux, &threshold);
+    wrote(
+        rt,
+        patch_magnitudes::patch_magnitudes(
+            &mut slab,
+            40,
+            1,
+            start,
+            &new[0..20],
+            &mut flux,
+            &mut threshold,
+            &mut work,
+        ),
+    );
+    patched(rt, &flux, &threshold);
 }
 
-fn patched(flux: &[f64; 40], threshold: &[f64; 40]) {
-    lines::slots(b"patched flux", flux);
-    lines::slots(b"patched threshold", threshold);
+fn patched(rt: &impl Print, flux: &[f64; 40], threshold: &[f64; 40]) {
+    lines::slots(rt, b"patched flux", flux);
+    lines::slots(rt, b"patched threshold", threshold);
 }
 
-fn wrote_features(p: PatchedFeatures) {
-    run_show::words(b"feature patch");
+fn wrote_features(rt: &impl Print, p: PatchedFeatures) {
+    run_show::words(rt, b"feature patch");
     match p {
-        PatchedFeatures::Refused(number) => run_show::small(number),
+        PatchedFeatures::Refused(number) => run_show::small(rt, number),
         PatchedFeatures::Wrote {
             similarity_first,
             similarity_past,
             novelty_first,
             novelty_past,
         } => {
-            run_show::small(0);
+            run_show::small(rt, 0);
             named(
+                rt,
                 similarity_first,
                 similarity_past,
                 novelty_first,
@@ -84,7 +88,7 @@ fn wrote_features(p: PatchedFeatures) {
             );
         }
     }
-    run_show::end();
+    run_show::end(rt);
 }
 
 fn similarity_of(features: &[f64; 320]) -> [f64; 340] {
@@ -99,23 +103,26 @@ fn novelty_of(similarity: &[f64; 340]) -> [f64; 20] {
     novelty
 }
 
-fn features(s: u64, start: usize) {
+fn features(rt: &impl Print, s: u64, start: usize) {
     let mut lent = inputs::features(s);
     let new = inputs::features(inputs::next(s));
     let mut similarity = similarity_of(&lent);
     let mut novelty = novelty_of(&similarity);
-    wrote_features(patch_features::patch_features(
-        &mut lent,
-        20,
-        start,
-        &new[0..48],
-        &mut similarity,
-        &mut novelty,
-    ));
-    lines::slots(b"patched novelty", &novelty);
+    wrote_features(
+        rt,
+        patch_features::patch_features(
+            &mut lent,
+            20,
+            start,
+            &new[0..48],
+            &mut similarity,
+            &mut novelty,
+        ),
+    );
+    lines::slots(rt, b"patched novelty", &novelty);
 }
 
-pub fn round(s: u64) {
-    magnitudes(s, inputs::up_to_forty(s));
-    features(s, inputs::up_to_twenty(s));
+pub fn round(rt: &impl Print, s: u64) {
+    magnitudes(rt, s, inputs::up_to_forty(s));
+    features(rt, s, inputs::up_to_twenty(s));
 }

@@ -7,40 +7,40 @@ use options::TempoOpts;
 use stability::Stability;
 use tempo::{Candidate, Tempo, TempoEstimate};
 
-fn range(rate: u32, opts: TempoOpts) {
+fn range(rt: &impl Print, rate: u32, opts: TempoOpts) {
     let r = lags::lag_range(rate, opts);
-    run_show::words(b"lags");
-    run_show::small(r.number);
-    run_show::count(r.min_lag);
-    run_show::count(r.max_lag);
-    run_show::end();
+    run_show::words(rt, b"lags");
+    run_show::small(rt, r.number);
+    run_show::count(rt, r.min_lag);
+    run_show::count(rt, r.max_lag);
+    run_show::end(rt);
 }
 
-fn candidate(c: Candidate) {
-    run_show::count(c.lag);
-    run_show::float(c.salience);
+fn candidate(rt: &impl Print, c: Candidate) {
+    run_show::count(rt, c.lag);
+    run_show::float(rt, c.salience);
 }
 
-fn found(t: Tempo) {
+fn found(rt: &impl Print, t: Tempo) {
     match t {
-        Tempo::None => run_show::words(b" none"),
+        Tempo::None => run_show::words(rt, b" none"),
         Tempo::Found { bpm, clarity } => {
-            run_show::float(bpm);
-            run_show::float(clarity);
+            run_show::float(rt, bpm);
+            run_show::float(rt, clarity);
         }
     }
 }
 
-fn told(e: TempoEstimate) {
-    run_show::words(b"tempo");
-    run_show::small(e.number);
+fn told(rt: &impl Print, e: TempoEstimate) {
+    run_show::words(rt, b"tempo");
+    run_show::small(rt, e.number);
     let t = e.tempo;
-    found(t);
-    run_show::count(e.count);
-    candidate(e.candidates[0]);
-    candidate(e.candidates[1]);
-    candidate(e.candidates[2]);
-    run_show::end();
+    found(rt, t);
+    run_show::count(rt, e.count);
+    candidate(rt, e.candidates[0]);
+    candidate(rt, e.candidates[1]);
+    candidate(rt, e.candidates[2]);
+    run_show::end(rt);
 }
 
 // The lag of a tempo, or a period without one.
@@ -50,7 +50,7 @@ fn lag_of(e: TempoEstimate, period: usize) -> usize {
 }
 
 // The tempo, and the lag to go on with.
-fn searched(envelope: &[f64], rate: u32, opts: TempoOpts, s: u64) -> usize {
+fn searched(rt: &impl Print, envelope: &[f64], rate: u32, opts: TempoOpts, s: u64) -> usize {
     let mut clarity = [0.0f64; 60];
     let mut weight = [0.0f64; 60];
     let mut work = [0.0f64; 60];
@@ -63,11 +63,11 @@ fn searched(envelope: &[f64], rate: u32, opts: TempoOpts, s: u64) -> usize {
         &mut weight,
         &mut work,
     );
-    told(e);
+    told(rt, e);
     lag_of(e, inputs::up_to_twenty(s))
 }
 
-fn windows(envelope: &[f64], rate: u32, opts: TempoOpts, lag: usize) {
+fn windows(rt: &impl Print, envelope: &[f64], rate: u32, opts: TempoOpts, lag: usize) {
     let mut clarity = [0.0f64; 60];
     let mut weight = [0.0f64; 60];
     let mut work = [0.0f64; 60];
@@ -81,81 +81,100 @@ fn windows(envelope: &[f64], rate: u32, opts: TempoOpts, lag: usize) {
         &mut work,
     );
     let share = w.stability;
-    steady(share);
+    steady(rt, share);
 }
 
-fn steady(stability: Stability) {
-    run_show::words(b"stability");
+fn steady(rt: &impl Print, stability: Stability) {
+    run_show::words(rt, b"stability");
     match stability {
-        Stability::None => run_show::words(b" none"),
+        Stability::None => run_show::words(rt, b" none"),
         Stability::Share {
             fraction,
             agreeing,
             windows,
         } => {
-            run_show::float(fraction);
-            run_show::count(agreeing);
-            run_show::count(windows);
+            run_show::float(rt, fraction);
+            run_show::count(rt, agreeing);
+            run_show::count(rt, windows);
         }
     }
-    run_show::end();
+    run_show::end(rt);
 }
 
-fn beats_of(envelope: &[f64], period: usize) {
+fn beats_of(rt: &impl Print, envelope: &[f64], period: usize) {
     let mut score = [0.0f64; 60];
     let mut back = [0u32; 60];
     let mut beats = [0u32; 60];
     let r = beats::beat_grid(envelope, period, &mut score, &mut back, &mut beats);
-    grid_told(envelope, r.number, lines::first(r.count), &beats, score[59]);
+    grid_told(
+        rt,
+        envelope,
+        r.number,
+        lines::first(r.count),
+        &beats,
+        score[59],
+    );
 }
 
 // The beats, the last score, and the bars of the beats.
-fn grid_told(envelope: &[f64], number: u32, count: usize, beats: &[u32; 60], score: f64)
+fn grid_told(
+    rt: &impl Print,
+    envelope: &[f64],
+    number: u32,
+    count: usize,
+    beats: &[u32; 60],
+    score: f64,
+)
     requires { count ≤ 60 }
 {
     let frames = &beats[..];
-    lines::frames(b"beats", number, frames, count);
-    run_show::words(b"last score");
-    run_show::float(score);
-    run_show::end();
-    bars_of(envelope, &frames[0..count]);
+    lines::frames(rt, b"beats", number, frames, count);
+    run_show::words(rt, b"last score");
+    run_show::float(rt, score);
+    run_show::end(rt);
+    bars_of(rt, envelope, &frames[0..count]);
 }
 
-fn bars_of(envelope: &[f64], beats: &[u32]) {
+fn bars_of(rt: &impl Print, envelope: &[f64], beats: &[u32]) {
     let mut frames = [0u32; 60];
     let r = bars::downbeats(envelope, beats, TempoOpts::new(), &mut frames);
-    lines::frames(b"downbeats", r.number, &frames, lines::first(r.count));
+    lines::frames(rt, b"downbeats", r.number, &frames, lines::first(r.count));
 }
 
-fn at(time: f64, downbeats: &[f64], beats: &[f64]) {
-    run_show::words(b"at");
+fn at(rt: &impl Print, time: f64, downbeats: &[f64], beats: &[f64]) {
+    run_show::words(rt, b"at");
     let a = bars::bar_beat_at(time, downbeats, beats);
     match a {
-        BarBeat::Nowhere => run_show::words(b" nowhere"),
+        BarBeat::Nowhere => run_show::words(rt, b" nowhere"),
         BarBeat::At { bar, beat } => {
-            run_show::count(bar);
-            run_show::count(beat);
+            run_show::count(rt, bar);
+            run_show::count(rt, beat);
         }
     }
-    run_show::end();
+    run_show::end(rt);
 }
 
-fn places(s: u64) {
+fn places(rt: &impl Print, s: u64) {
     let mut beats = [0.0f64; 30];
     let mut downbeats = [0.0f64; 7];
     inputs::fill(&mut beats, s);
     inputs::fill(&mut downbeats, s);
-    at(inputs::level(s % 4, 1, inputs::next(s)), &downbeats, &beats);
+    at(
+        rt,
+        inputs::level(s % 4, 1, inputs::next(s)),
+        &downbeats,
+        &beats,
+    );
 }
 
-pub fn round(s: u64) {
+pub fn round(rt: &impl Print, s: u64) {
     let mut envelope = [0.0f64; 60];
     inputs::fill(&mut envelope, s);
     let rate = (s % 5000) as u32 + 1;
     let opts = TempoOpts::between(30.0 + inputs::level(2, 0, s), 300.0);
-    range(rate, opts);
-    let lag = searched(&envelope, rate, opts, s);
-    windows(&envelope, rate, opts, lag);
-    beats_of(&envelope, lag);
-    places(s);
+    range(rt, rate, opts);
+    let lag = searched(rt, &envelope, rate, opts, s);
+    windows(rt, &envelope, rate, opts, lag);
+    beats_of(rt, &envelope, lag);
+    places(rt, s);
 }

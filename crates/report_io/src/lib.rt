@@ -10,7 +10,6 @@ ghost use Rattle.report_text.specs.Text.{PutWithin};
 ghost use Rattle.report_lines.specs.Lines.{text_room};
 ghost use Rattle.report_io.specs.Answers.{text_of, Putable, TextAnswered};
 
-use libc::{STDERR_FILENO, STDOUT_FILENO};
 use report::MOST_REPORTED;
 use report_answer::curve_room;
 use report_feed::Reading;
@@ -43,21 +42,21 @@ fn put_answer(reading: Reading, flux: &[f64], bytes: &mut [u8]) -> usize
 }
 
 // Reads standard input, to its end or until it is refused, and puts what is to be written of it.
-fn answer(flux: &mut [f64], bytes: &mut [u8]) -> usize
+fn answer(rt: &impl Input, flux: &mut [f64], bytes: &mut [u8]) -> usize
     requires { (most_reported ≤ length flux.old) × (text_room ≤ length bytes.old) }
     ensures { TextAnswered bytes.old result bytes.new }
 {
-    let reading = report_read::read_input(flux);
+    let reading = report_read::read_input(rt, flux);
     put_answer(reading, flux, bytes)
 }
 
 // Reads standard input, to its end or until it is refused, and writes the report of it, or its refusal. A program has no status: what was not written
 // whole is told on standard error, and ./report, which writes the text itself, ends with a status.
-pub fn report() {
+pub fn report(rt: &(impl Input + Print + Eprint)) {
     let mut flux = curve_room();
     let mut text = text_room();
-    let end = answer(&mut flux, &mut text);
-    if !io::write_all(STDOUT_FILENO, &text[0..end]) {
-        io::write_all(STDERR_FILENO, b"report: the answer was not written whole\n");
+    let end = answer(rt, &mut flux, &mut text);
+    if rt.write_all(&text[0..end]).is_err() {
+        let _ = eprintln!(rt; "report: the answer was not written whole");
     }
 }

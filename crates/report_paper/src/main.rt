@@ -1,6 +1,6 @@
 // The reporting program on document 01's example.
 #![tactic(auto)]
 
-fn main() {
-    report_io::report();
+fn main(rt: HostRuntime) {
+    report_io::report(&rt);
 }

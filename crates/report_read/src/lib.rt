@@ -15,17 +15,36 @@ ghost use Rattle.report.specs.Input.{most_reported};
 ghost use Rattle.report_feed.specs.Feeds.{held_room, FeedReady, Step};
 ghost use Rattle.report_read.specs.Reads.{InputRead};
 
-use libc::STDIN_FILENO;
 use report_feed::Reading;
 use report_head::Feed;
+use std::io::Read;
+
+// room for what a read gives, and for what is held of an input
+const LARGE: usize = 65_536;
 
 // room for two rows of as many bins as there may be
 const TWO_ROWS: usize = 2 * numbers::MOST_BINS;
+
+fn large_buffer() -> [u8; LARGE]
+    ensures { length result ≡ held_room }
+{
+    [0; LARGE]
+}
 
 fn two_rows() -> [f32; TWO_ROWS]
     ensures { (2 * most_bins ≡ length result) × (every magnitude_fine result ≡ true) }
 {
     [0.0f32; TWO_ROWS]
+}
+
+// Reads once: how many bytes came, none where the read fails.
+fn come(input: &mut impl Read, bytes: &mut [u8]) -> usize
+    ensures { result ≤ length bytes.new }
+{
+    match input.read(bytes) {
+        Ok(got) => got,
+        Err(_) => 0,
+    }
 }
 
 // Passes on the first bytes, as many as came.
@@ -46,7 +65,13 @@ fn pass_on(
 
 // Reads to the end of the input, or until nothing that comes can change what it is told. A proved loop has to end, and nothing says that the input does:
 // the loop counts down from a number that no run uses up.
-fn read_all(bytes: &mut [u8], held: &mut [u8], kept: &mut [f32], flux: &mut [f64]) -> Reading
+fn read_all(
+    input: &mut impl Read,
+    bytes: &mut [u8],
+    held: &mut [u8],
+    kept: &mut [f32],
+    flux: &mut [f64],
+) -> Reading
     requires { (held_room ≤ length held.old) × (2 * most_bins ≤ length kept.old) × (most_reported ≤ length flux.old)
         × (every magnitude_fine kept.old ≡ true) }
     ensures { InputRead flux.old result flux.new }
@@ -54,7 +79,7 @@ fn read_all(bytes: &mut [u8], held: &mut [u8], kept: &mut [f32], flux: &mut [f64
     let mut feed = report_feed::begun();
     let mut turns = u64::MAX;
     while turns > 0 {
-        let got = io::count(libc::read(STDIN_FILENO, bytes), bytes);
+        let got = come(input, bytes);
         if got == 0 {
             return report_feed::closed(feed);
         }
@@ -68,12 +93,13 @@ fn read_all(bytes: &mut [u8], held: &mut [u8], kept: &mut [f32], flux: &mut [f64
 }
 
 // Inner: reads the input, all of it unless it is refused before its end. Where its number is 0, the first slots of the flux are those of its rows.
-pub fn read_input(flux: &mut [f64]) -> Reading
+pub fn read_input(rt: &impl Input, flux: &mut [f64]) -> Reading
     requires { most_reported ≤ length flux.old }
     ensures { InputRead flux.old result flux.new }
 {
-    let mut bytes = io::large_buffer();
-    let mut held = io::large_buffer();
+    let mut input = rt.reader();
+    let mut bytes = large_buffer();
+    let mut held = large_buffer();
     let mut kept = two_rows();
-    read_all(&mut bytes, &mut held, &mut kept, flux)
+    read_all(&mut input, &mut bytes, &mut held, &mut kept, flux)
 }

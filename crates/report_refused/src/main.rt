@@ -1,6 +1,6 @@
 // The reporting program on a magnitude above 2^126 in the first row: number 4.
 #![tactic(auto)]
 
-fn main() {
-    report_io::report();
+fn main(rt: HostRuntime) {
+    report_io::report(&rt);
 }

@@ -23,31 +23,32 @@ const ROOM: usize = 2;
 
 const LENGTHS: usize = 3;
 
-fn main() {
-    magnitudes();
-    lengths();
-    rooms();
-    bounds();
+fn main(rt: HostRuntime) {
+    magnitudes(&rt);
+    lengths(&rt);
+    rooms(&rt);
+    bounds(&rt);
 }
 
-fn table(call: usize, lines: &[u8]) {
+fn table(rt: &impl Print, call: usize, lines: &[u8]) {
     let n = run_cases::marks(lines, b'\n');
     let mut k = 0;
     while k < n {
-        run(call, run_cases::part(lines, b'\n', k));
+        run(rt, call, run_cases::part(lines, b'\n', k));
         k += 1;
     }
 }
 
-fn run(call: usize, line: &[u8]) {
-    run_show::words(run_cases::part(line, b'|', 0));
+fn run(rt: &impl Print, call: usize, line: &[u8]) {
+    run_show::words(rt, run_cases::part(line, b'|', 0));
     if call == LENGTHS {
-        return of_lengths(line);
+        return of_lengths(rt, line);
     }
     if call == MAGNITUDES {
-        return of_slab(line);
+        return of_slab(rt, line);
     }
     named(
+        rt,
         run_cases::column(line, 1),
         run_cases::column_u32(line, 2),
         opts_of(run_cases::column(line, 3)),
@@ -62,61 +63,61 @@ fn opts_of(held: usize) -> TempoOpts {
     TempoOpts::new().with_meter(numbers::less(held, 1))
 }
 
-fn tempo_is(t: Tempo) {
+fn tempo_is(rt: &impl Print, t: Tempo) {
     match t {
-        Tempo::None => run_show::words(b", no tempo"),
+        Tempo::None => run_show::words(rt, b", no tempo"),
         Tempo::Found { bpm, clarity } => {
-            run_show::words(b", tempo");
-            run_show::float(bpm);
-            run_show::float(clarity);
+            run_show::words(rt, b", tempo");
+            run_show::float(rt, bpm);
+            run_show::float(rt, clarity);
         }
     }
 }
 
-fn stability_is(s: Stability) {
+fn stability_is(rt: &impl Print, s: Stability) {
     match s {
-        Stability::None => run_show::words(b", no stability"),
+        Stability::None => run_show::words(rt, b", no stability"),
         Stability::Share {
             fraction,
             agreeing,
             windows,
         } => {
-            run_show::words(b", stability");
-            run_show::float(fraction);
-            run_show::count(agreeing);
-            run_show::count(windows);
+            run_show::words(rt, b", stability");
+            run_show::float(rt, fraction);
+            run_show::count(rt, agreeing);
+            run_show::count(rt, windows);
         }
     }
 }
 
-fn candidate_is(c: Candidate) {
-    run_show::count(c.lag);
-    run_show::float(c.salience);
+fn candidate_is(rt: &impl Print, c: Candidate) {
+    run_show::count(rt, c.lag);
+    run_show::float(rt, c.salience);
 }
 
-fn candidates_are(c: [Candidate; 3], count: usize) {
-    run_show::words(b", candidates");
-    run_show::count(count);
-    candidate_is(c[0]);
-    candidate_is(c[1]);
-    candidate_is(c[2]);
+fn candidates_are(rt: &impl Print, c: [Candidate; 3], count: usize) {
+    run_show::words(rt, b", candidates");
+    run_show::count(rt, count);
+    candidate_is(rt, c[0]);
+    candidate_is(rt, c[1]);
+    candidate_is(rt, c[2]);
 }
 
-fn answer(a: Analysis) {
+fn answer(rt: &impl Print, a: Analysis) {
     let tempo = a.tempo;
     let candidates = a.candidates;
     let stability = a.stability;
-    run_show::small(a.number);
-    run_show::words(b", onsets");
-    run_show::count(a.onsets);
-    tempo_is(tempo);
-    candidates_are(candidates, a.count);
-    stability_is(stability);
-    run_show::words(b", beats");
-    run_show::count(a.beats);
-    run_show::words(b", downbeats");
-    run_show::count(a.downbeats);
-    run_show::end();
+    run_show::small(rt, a.number);
+    run_show::words(rt, b", onsets");
+    run_show::count(rt, a.onsets);
+    tempo_is(rt, tempo);
+    candidates_are(rt, candidates, a.count);
+    stability_is(rt, stability);
+    run_show::words(rt, b", beats");
+    run_show::count(rt, a.beats);
+    run_show::words(rt, b", downbeats");
+    run_show::count(rt, a.downbeats);
+    run_show::end(rt);
 }
 
 // So many slots of a slice are lent: its room, or one fewer where `at` is the slice that is short.
@@ -128,54 +129,66 @@ fn slots(room: usize, at: usize, short: usize) -> usize {
 }
 
 // A curve's first two slots, and the two past its room.
-fn curve(label: &[u8], xs: &[f64], room: usize)
+fn curve(rt: &impl Print, label: &[u8], xs: &[f64], room: usize)
     requires { (2 ≤ length xs.now) × (room ≤ length xs.now) }
 {
-    run_show::words(label);
-    run_show::floats(&xs[0..2]);
-    run_show::words(b" ..");
-    run_show::floats(&xs[room..]);
-    run_show::end();
+    run_show::words(rt, label);
+    run_show::floats(rt, &xs[0..2]);
+    run_show::words(rt, b" ..");
+    run_show::floats(rt, &xs[room..]);
+    run_show::end(rt);
 }
 
-fn list(label: &[u8], xs: &[u32]) {
-    run_show::words(label);
-    run_show::smalls(xs);
-    run_show::end();
+fn list(rt: &impl Print, label: &[u8], xs: &[u32]) {
+    run_show::words(rt, label);
+    run_show::smalls(rt, xs);
+    run_show::end(rt);
 }
 
-fn curves_are(threshold: &[f64; 50], clarity: &[f64; 17], weight: &[f64; 17], score: &[f64; 50]) {
-    curve(b"threshold", threshold, 48);
-    curve(b"clarity", clarity, 15);
-    curve(b"weight", weight, 15);
-    curve(b"score", score, 48);
+fn curves_are(
+    rt: &impl Print,
+    threshold: &[f64; 50],
+    clarity: &[f64; 17],
+    weight: &[f64; 17],
+    score: &[f64; 50],
+) {
+    curve(rt, b"threshold", threshold, 48);
+    curve(rt, b"clarity", clarity, 15);
+    curve(rt, b"weight", weight, 15);
+    curve(rt, b"score", score, 48);
 }
 
-fn past(xs: &[f64], room: usize)
+fn past(rt: &impl Print, xs: &[f64], room: usize)
     requires { room ≤ length xs.now }
 {
-    run_show::floats(&xs[room..]);
+    run_show::floats(rt, &xs[room..]);
 }
 
 // What is worked in, past its room.
-fn worked_in(clarity: &[f64; 17], weight: &[f64; 17], work: &[f64; 23]) {
-    run_show::words(b"past what is worked in");
-    past(clarity, 15);
-    past(weight, 15);
-    past(work, 21);
-    run_show::end();
+fn worked_in(rt: &impl Print, clarity: &[f64; 17], weight: &[f64; 17], work: &[f64; 23]) {
+    run_show::words(rt, b"past what is worked in");
+    past(rt, clarity, 15);
+    past(rt, weight, 15);
+    past(rt, work, 21);
+    run_show::end(rt);
 }
 
-fn lists_are(onsets: &[u32; 50], back: &[u32; 50], beats: &[u32; 50], downbeats: &[u32; 50]) {
-    list(b"onsets", onsets);
-    list(b"back", back);
-    list(b"beats", beats);
-    list(b"downbeats", downbeats);
+fn lists_are(
+    rt: &impl Print,
+    onsets: &[u32; 50],
+    back: &[u32; 50],
+    beats: &[u32; 50],
+    downbeats: &[u32; 50],
+) {
+    list(rt, b"onsets", onsets);
+    list(rt, b"back", back);
+    list(rt, b"beats", beats);
+    list(rt, b"downbeats", downbeats);
 }
 
 // The number of an analysis with the slice `short` of the eleven, counted from 1, one slot short; 0: exactly the room. An analysis asks for it first, by
 // the lengths of what is lent, and is refused by nothing else.
-fn refused(envelope: &[f64], rate: u32, short: usize, opts: TempoOpts) {
+fn refused(rt: &impl Print, envelope: &[f64], rate: u32, short: usize, opts: TempoOpts) {
     let frames = [
         slots(48, 1, short),
         slots(48, 2, short),
@@ -190,21 +203,18 @@ fn refused(envelope: &[f64], rate: u32, short: usize, opts: TempoOpts) {
         slots(15, 5, short),
         slots(15, 6, short),
     ];
-    run_show::small(rooms::envelope_refusal(
-        envelope,
-        rate,
-        opts,
-        &frames,
-        &lags,
-        slots(21, 11, short),
-    ));
-    run_show::end();
+    run_show::small(
+        rt,
+        rooms::envelope_refusal(envelope, rate, opts, &frames, &lags, slots(21, 11, short)),
+    );
+    run_show::end(rt);
 }
 
 // The clicks, or no numbers where (3) is 1, at rate (1), with slice (2) short, and the options of (4).
-fn of_lengths(line: &[u8]) {
+fn of_lengths(rt: &impl Print, line: &[u8]) {
     let e = envelope_of(run_cases::column(line, 3));
     refused(
+        rt,
         &e,
         run_cases::column_u32(line, 1),
         run_cases::column(line, 2),
@@ -222,8 +232,9 @@ fn envelope_of(odd: usize) -> [f64; 48] {
 }
 
 // An analysis of an envelope: exactly the room, each of the eleven slices one short, other refusals, and which number comes first.
-fn lengths() {
+fn lengths(rt: &impl Print) {
     table(
+        rt,
         LENGTHS,
         b"short 0:|2048|0
 short 1:|2048|1
@@ -258,8 +269,9 @@ const CLICKS: [f32; 48] = [
 ];
 
 // What is answered, with two slots more in each slice, and what is refused.
-fn magnitudes() {
+fn magnitudes(rt: &impl Print) {
     table(
+        rt,
         MAGNITUDES,
         b"clicks:|48|48|1|48|2048
 seventeen of their rows:|17|17|1|48|2048
@@ -286,9 +298,10 @@ meter 17:|48|48|1|48|2048|0|18\n",
 
 // The first (1) of the magnitudes, of infinities where (6) is 1, or of a waltz where it is 2, (2) rows of (3) bins, room (4) for the flux, rate (5), and
 // the options of (7).
-fn of_slab(line: &[u8]) {
+fn of_slab(rt: &impl Print, line: &[u8]) {
     let m = slab_of(run_cases::column(line, 6));
     lent(
+        rt,
         &m[0..run_cases::column_within(line, 1, 48)],
         run_cases::column(line, 2),
         run_cases::column(line, 3),
@@ -319,7 +332,15 @@ fn waltz() -> [f32; 48] {
 }
 
 // Analyses magnitudes. Every slice but the flux is lent and shown with two slots past its room; the flux is shown with the slots that are not lent.
-fn lent(magnitudes: &[f32], rows: usize, bins: usize, room: usize, rate: u32, opts: TempoOpts) {
+fn lent(
+    rt: &impl Print,
+    magnitudes: &[f32],
+    rows: usize,
+    bins: usize,
+    room: usize,
+    rate: u32,
+    opts: TempoOpts,
+) {
     let mut flux = [9.0f64; 48];
     let mut threshold = [9.0f64; 50];
     let mut onsets = [77u32; 50];
@@ -332,48 +353,52 @@ fn lent(magnitudes: &[f32], rows: usize, bins: usize, room: usize, rate: u32, op
     let mut beats = [77u32; 50];
     let mut downbeats = [77u32; 50];
     let mut work = [9.0f64; 23];
-    answer(analysis::analyse_magnitudes(
-        magnitudes,
-        rows,
-        bins,
-        rate,
-        opts,
-        &mut flux[0..numbers::least(room, 48)],
-        &mut threshold,
-        &mut onsets,
-        &mut clarity,
-        &mut weight,
-        &mut window_clarity,
-        &mut window_weight,
-        &mut score,
-        &mut back,
-        &mut beats,
-        &mut downbeats,
-        &mut work,
-    ));
-    flux_is(&flux);
-    curves_are(&threshold, &clarity, &weight, &score);
-    worked_in(&window_clarity, &window_weight, &work);
-    lists_are(&onsets, &back, &beats, &downbeats);
+    answer(
+        rt,
+        analysis::analyse_magnitudes(
+            magnitudes,
+            rows,
+            bins,
+            rate,
+            opts,
+            &mut flux[0..numbers::least(room, 48)],
+            &mut threshold,
+            &mut onsets,
+            &mut clarity,
+            &mut weight,
+            &mut window_clarity,
+            &mut window_weight,
+            &mut score,
+            &mut back,
+            &mut beats,
+            &mut downbeats,
+            &mut work,
+        ),
+    );
+    flux_is(rt, &flux);
+    curves_are(rt, &threshold, &clarity, &weight, &score);
+    worked_in(rt, &window_clarity, &window_weight, &work);
+    lists_are(rt, &onsets, &back, &beats, &downbeats);
 }
 
-fn flux_is(flux: &[f64; 48]) {
-    curve(b"flux", flux, 46);
+fn flux_is(rt: &impl Print, flux: &[f64; 48]) {
+    curve(rt, b"flux", flux, 46);
 }
 
 // The room of an analysis: number, N, L and the sorting room.
-fn named(rows: usize, rate: u32, opts: TempoOpts) {
+fn named(rt: &impl Print, rows: usize, rate: u32, opts: TempoOpts) {
     let r = rooms::room_of(rows, rate, opts);
-    run_show::small(r.number);
-    run_show::count(r.rows);
-    run_show::count(r.lags);
-    run_show::count(r.sorting);
-    run_show::end();
+    run_show::small(rt, r.number);
+    run_show::count(rt, r.rows);
+    run_show::count(rt, r.lags);
+    run_show::count(rt, r.sorting);
+    run_show::end(rt);
 }
 
 // N frames of so many minutes: 1 + (samples - 1,024) div 256. 3, 10 and 60 minutes at 44,100 and at 48,000, then the bounds of both.
-fn rooms() {
+fn rooms(rt: &impl Print) {
     table(
+        rt,
         ROOM,
         b"frames, rate 31004 44100:|31004|44100
 frames, rate 103356 44100:|103356|44100
@@ -395,10 +420,10 @@ meter 17:|48|2048|18\n",
     );
 }
 
-fn bounds() {
+fn bounds(rt: &impl Print) {
     let nan = 0.0f64 / 0.0;
-    run_show::words(b"a bound that is a NaN:");
-    named(48, 48000, TempoOpts::between(30.0, nan));
-    run_show::words(b"0 and 0:");
-    named(48, 48000, TempoOpts::between(0.0, 0.0));
+    run_show::words(rt, b"a bound that is a NaN:");
+    named(rt, 48, 48000, TempoOpts::between(30.0, nan));
+    run_show::words(rt, b"0 and 0:");
+    named(rt, 48, 48000, TempoOpts::between(0.0, 0.0));
 }

@@ -9,8 +9,9 @@ use options::TempoOpts;
 // The cases of `downbeats`, one to a line: the envelope, by its letter, and the values of it from one number up to the next; the beats
 // likewise; how many of twelve slots are lent; and what the line begins with. Those of another meter begin with m and have the meter instead: their
 // envelope has all nine values, their beats are b09, and all twelve slots are lent.
-fn grids() {
+fn grids(rt: &impl Print) {
     each_case(
+        rt,
         b"\
           a06 a03 3 M11:\n\
           b09 b09 9 nine beats:\n\
@@ -54,8 +55,9 @@ fn grids() {
 
 // The cases of `bar_beat_at`, one to a line: the time, as a letter and the value's place; the downbeats, by their letter, and the values from
 // one number up to the next; the beats likewise; and what the line begins with.
-fn places() {
+fn places(rt: &impl Print) {
     each_case(
+        rt,
         b"\
           t l0 g02 f08 before the first bar:\n\
           t l1 g02 f08 on the first downbeat:\n\
@@ -152,42 +154,42 @@ fn frames_of(byte: u8) -> [u32; 9] {
 }
 
 // Runs each case of a text.
-fn each_case(text: &[u8]) {
+fn each_case(rt: &impl Print, text: &[u8]) {
     let n = run_cases::marks(text, b'\n');
     let mut k = 0;
     while k < n {
-        case(run_cases::part(text, b'\n', k));
+        case(rt, run_cases::part(text, b'\n', k));
         k += 1;
     }
 }
 
-fn case(c: &[u8]) {
+fn case(rt: &impl Print, c: &[u8]) {
     if c.len() < 13 {
         return;
     }
     if c[0] == 109 {
-        in_meter(c);
+        in_meter(rt, c);
         return;
     }
     if c[0] == 116 {
-        at(c);
+        at(rt, c);
         return;
     }
-    in_room(c);
+    in_room(rt, c);
 }
 
-fn in_room(c: &[u8]) {
+fn in_room(rt: &impl Print, c: &[u8]) {
     if c.len() < 10 {
         return;
     }
-    run_show::words(&c[10..]);
+    run_show::words(rt, &c[10..]);
     let past = run_cases::digit(c[2], 9);
     let from = run_cases::digit(c[1], past);
     let envelope = values_of(c[0]);
-    with_beats(&envelope[from..past], c);
+    with_beats(rt, &envelope[from..past], c);
 }
 
-fn with_beats(envelope: &[f64], c: &[u8]) {
+fn with_beats(rt: &impl Print, envelope: &[f64], c: &[u8]) {
     if c.len() < 10 {
         return;
     }
@@ -195,49 +197,49 @@ fn with_beats(envelope: &[f64], c: &[u8]) {
     let past = run_cases::digit(c[6], 9);
     let from = run_cases::digit(c[5], past);
     let beats = frames_of(c[4]);
-    lent(envelope, &beats[from..past], room);
+    lent(rt, envelope, &beats[from..past], room);
 }
 
 // What is answered where the first `room` slots are lent, and all of them afterwards.
-fn lent(envelope: &[f64], beats: &[u32], room: usize)
+fn lent(rt: &impl Print, envelope: &[f64], beats: &[u32], room: usize)
     requires { room ≤ 12 }
 {
     let mut frames = [77u32; 12];
     let r = bars::downbeats(envelope, beats, TempoOpts::new(), &mut frames[0..room]);
-    told(r.number, r.count, &frames);
+    told(rt, r.number, r.count, &frames);
 }
 
-fn told(number: u32, count: usize, frames: &[u32; 12]) {
-    run_show::small(number);
-    run_show::count(count);
-    run_show::words(b", frames");
-    run_show::smalls(frames);
-    run_show::end();
+fn told(rt: &impl Print, number: u32, count: usize, frames: &[u32; 12]) {
+    run_show::small(rt, number);
+    run_show::count(rt, count);
+    run_show::words(rt, b", frames");
+    run_show::smalls(rt, frames);
+    run_show::end(rt);
 }
 
-fn in_meter(c: &[u8]) {
+fn in_meter(rt: &impl Print, c: &[u8]) {
     if c.len() < 10 {
         return;
     }
-    run_show::words(&c[10..]);
+    run_show::words(rt, &c[10..]);
     let opts = TempoOpts::new().with_meter(run_cases::digit(c[8], 17));
     let envelope = values_of(c[4]);
     let beats = frames_of(98);
     let mut frames = [77u32; 12];
     let r = bars::downbeats(&envelope, &beats, opts, &mut frames);
-    told(r.number, r.count, &frames);
+    told(rt, r.number, r.count, &frames);
 }
 
-fn at(c: &[u8]) {
+fn at(rt: &impl Print, c: &[u8]) {
     if c.len() < 13 {
         return;
     }
-    run_show::words(&c[13..]);
+    run_show::words(rt, &c[13..]);
     let time = value_of(c[2], run_cases::digit(c[3], 8));
     let past = run_cases::digit(c[7], 9);
     let from = run_cases::digit(c[6], past);
     let downbeats = values_of(c[5]);
-    among_beats(time, &downbeats[from..past], c);
+    among_beats(rt, time, &downbeats[from..past], c);
 }
 
 fn value_of(byte: u8, i: usize) -> f64
@@ -247,30 +249,30 @@ fn value_of(byte: u8, i: usize) -> f64
     values[i]
 }
 
-fn among_beats(time: f64, downbeats: &[f64], c: &[u8]) {
+fn among_beats(rt: &impl Print, time: f64, downbeats: &[f64], c: &[u8]) {
     if c.len() < 13 {
         return;
     }
     let past = run_cases::digit(c[11], 9);
     let from = run_cases::digit(c[10], past);
     let beats = values_of(c[9]);
-    place(bars::bar_beat_at(time, downbeats, &beats[from..past]));
+    place(rt, bars::bar_beat_at(time, downbeats, &beats[from..past]));
 }
 
-fn place(a: BarBeat) {
+fn place(rt: &impl Print, a: BarBeat) {
     match a {
-        BarBeat::Nowhere => run_show::words(b" nowhere"),
+        BarBeat::Nowhere => run_show::words(rt, b" nowhere"),
         BarBeat::At { bar, beat } => {
-            run_show::words(b" bar");
-            run_show::count(bar);
-            run_show::words(b" beat");
-            run_show::count(beat);
+            run_show::words(rt, b" bar");
+            run_show::count(rt, bar);
+            run_show::words(rt, b" beat");
+            run_show::count(rt, beat);
         }
     }
-    run_show::end();
+    run_show::end(rt);
 }
 
-fn main() {
-    grids();
-    places();
+fn main(rt: HostRuntime) {
+    grids(&rt);
+    places(&rt);
 }

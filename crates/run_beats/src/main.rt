@@ -5,8 +5,9 @@ ghost use Rattle.std.specs.Prelude.{◌≤◌};
 
 // The cases, one to a line: the envelope, by its letter, and the frames of it from one number up to the next; so many slots lent of score, of
 // back and of beats; the period, a digit or its letter; and what the line begins with. Envelopes s and t are taken whole, with fifty slots of each.
-fn grids() {
+fn grids(rt: &impl Print) {
     each_grid(
+        rt,
         b"\
           a06 888 2 M11:\n\
           b04 888 2 M12:\n\
@@ -147,28 +148,29 @@ fn period_of(byte: u8) -> usize {
 }
 
 // Runs each case of a text.
-fn each_grid(text: &[u8]) {
+fn each_grid(rt: &impl Print, text: &[u8]) {
     let n = run_cases::marks(text, b'\n');
     let mut k = 0;
     while k < n {
-        grid(run_cases::part(text, b'\n', k));
+        grid(rt, run_cases::part(text, b'\n', k));
         k += 1;
     }
 }
 
-fn grid(c: &[u8]) {
+fn grid(rt: &impl Print, c: &[u8]) {
     if c.len() < 10 {
         return;
     }
     if 115 <= c[0] {
-        long_grid(c);
+        long_grid(rt, c);
         return;
     }
     let e = envelope_of(c[0]);
     let past = run_cases::digit(c[2], 8);
     let from = run_cases::digit(c[1], past);
-    run_show::words(&c[10..]);
+    run_show::words(rt, &c[10..]);
     run(
+        rt,
         &e[from..past],
         period_of(c[8]),
         run_cases::digit(c[4], 50),
@@ -180,7 +182,15 @@ fn grid(c: &[u8]) {
 
 // The rest of a line: what is answered where the first slots of three lists are lent, so many of score, of back and of beats, and the first slots of
 // each afterwards, lent or not.
-fn run(envelope: &[f64], period: usize, scores: usize, links: usize, frames: usize, shown: usize) {
+fn run(
+    rt: &impl Print,
+    envelope: &[f64],
+    period: usize,
+    scores: usize,
+    links: usize,
+    frames: usize,
+    shown: usize,
+) {
     let mut score = [7.5f64; 50];
     let mut back = [77u32; 50];
     let mut beats = [88u32; 50];
@@ -191,35 +201,35 @@ fn run(envelope: &[f64], period: usize, scores: usize, links: usize, frames: usi
         &mut back[0..numbers::least(links, 50)],
         &mut beats[0..numbers::least(frames, 50)],
     );
-    run_show::small(r.number);
-    run_show::count(r.count);
-    left(&score, &back, &beats, numbers::least(shown, 50));
+    run_show::small(rt, r.number);
+    run_show::count(rt, r.count);
+    left(rt, &score, &back, &beats, numbers::least(shown, 50));
 }
 
 // The first n slots of each list.
-fn left(score: &[f64; 50], back: &[u32; 50], beats: &[u32; 50], n: usize)
+fn left(rt: &impl Print, score: &[f64; 50], back: &[u32; 50], beats: &[u32; 50], n: usize)
     requires { n ≤ 50 }
 {
-    run_show::words(b", beats");
+    run_show::words(rt, b", beats");
     let frames = &beats[..];
-    run_show::smalls(&frames[0..n]);
-    run_show::words(b", back");
+    run_show::smalls(rt, &frames[0..n]);
+    run_show::words(rt, b", back");
     let links = &back[..];
-    run_show::smalls(&links[0..n]);
-    run_show::words(b", score");
+    run_show::smalls(rt, &links[0..n]);
+    run_show::words(rt, b", score");
     let scores = &score[..];
-    run_show::floats(&scores[0..n]);
-    run_show::end();
+    run_show::floats(rt, &scores[0..n]);
+    run_show::end(rt);
 }
 
 // A line for forty-eight frames, where windows are long enough to be searched eight frames at a time.
-fn long_grid(c: &[u8]) {
+fn long_grid(rt: &impl Print, c: &[u8]) {
     if c.len() < 10 {
         return;
     }
     let e = long_envelope(c[0]);
-    run_show::words(&c[10..]);
-    run(&e, period_of(c[8]), 50, 50, 50, 50);
+    run_show::words(rt, &c[10..]);
+    run(rt, &e, period_of(c[8]), 50, 50, 50, 50);
 }
 
 fn long_envelope(byte: u8) -> [f64; 48] {
@@ -250,7 +260,7 @@ const TIES: [f64; 48] = [
 ];
 
 // Intervals of 36 and 49 frames have one penalty at period 42: frame 49 may follow frames 0 and 13 alike, and follows the first.
-fn equal_extensions() {
+fn equal_extensions(rt: &impl Print) {
     let mut e = [0.0f64; 256];
     e[0] = 1.0;
     e[13] = 1.0;
@@ -258,16 +268,16 @@ fn equal_extensions() {
     let mut back = [77u32; 256];
     let mut beats = [88u32; 256];
     let r = beats::beat_grid(&e, 42, &mut score, &mut back, &mut beats);
-    run_show::words(b"equal extensions:");
-    run_show::small(r.number);
-    run_show::count(r.count);
-    run_show::words(b", frame 49");
-    run_show::small(back[49]);
-    run_show::float(score[49]);
-    run_show::end();
+    run_show::words(rt, b"equal extensions:");
+    run_show::small(rt, r.number);
+    run_show::count(rt, r.count);
+    run_show::words(rt, b", frame 49");
+    run_show::small(rt, back[49]);
+    run_show::float(rt, score[49]);
+    run_show::end(rt);
 }
 
-fn main() {
-    grids();
-    equal_extensions();
+fn main(rt: HostRuntime) {
+    grids(&rt);
+    equal_extensions(&rt);
 }

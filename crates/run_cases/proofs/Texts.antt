@@ -1,14 +1,13 @@
 -- A text from slot i on: its first byte, then the rest.
-use mathlib.Core.Path.{◌≡◌, refl, sym, ap, ◌∙◌}
+use mathlib.Core.Path.{◌≡◌, refl}
 use mathlib.Core.List.{List, [], ◌∷◌}
-use Prim.Native.Nat.{ℕ, ◌+◌, ◌-◌, ◌≤◌, ◌<◌}
+use Prim.Native.Nat.{ℕ, suc, ◌+◌, ◌-◌, ◌≤◌, ◌<◌}
 use native.Mathlib.Numerals.{add-one}
 use native.Mathlib.Omega.{arith}
-use borrow.Author.Tests.{eq-eqb, ne_eqb, le-leb, lt-leb}
+use borrow.Author.Tests.{eq-eqb, ne_eqb}
 use lib.ListN.{length, get_or, take, drop, drop_of_length-le}
-use lib.Seq.{drop-cons, take-length}
-use Rattle.bytes.specs.Bytes.{index_of, slice}
-use Rattle.run_cases.specs.Texts.{marks_of, parts_from, case_part}
+use lib.Seq.{drop-cons}
+use Rattle.run_cases.specs.Texts.{index_of, marks_of, parts_from, case_part}
 
 -- the text from its part 0 on is the text
 pub from_first : (mark : ℕ) (s : List ℕ) → parts_from mark s 0 ≡ s
@@ -42,10 +41,22 @@ module _ (mark : ℕ) (s : List ℕ) (i : ℕ) where
     unfolding parts_from
     from_end h = rw drop_of_length-le
 
+  pub index_here : i < length s → get_or s i 0 ≡ mark → index_of mark (drop i s) ≡ 0
+  unfolding index_of
+  index_here h e = rw (drop-cons s i 0, eq-eqb _ _ e)
+
+  pub index_next : i < length s → (get_or s i 0 ≡ mark → ⊥) → index_of mark (drop i s) ≡ suc (index_of mark (drop (i + 1) s))
+  unfolding index_of
+  index_next h e = rw (add-one, drop-cons s i 0, ne_eqb _ _ e)
+
+  pub index_end : length s ≤ i → index_of mark (drop i s) ≡ 0
+  unfolding index_of
+  index_end h = rw drop_of_length-le
+
 -- the part that begins at a place: from there up to the first mark
-pub part_at : (mark : ℕ) (s : List ℕ) (k from end : ℕ) → drop from s ≡ parts_from mark s k → end ≡ from + index_of mark (slice from (length s) s)
+pub part_at : (mark : ℕ) (s : List ℕ) (k from end : ℕ) → drop from s ≡ parts_from mark s k → end ≡ from + index_of mark (drop from s)
     → take (end - from) (drop from s) ≡ case_part mark s k
-unfolding case_part slice
+unfolding case_part
 part_at mark s k from end e f =
-    let n : end - from ≡ index_of mark (drop from s) = omega (arith, rw take-length at f) in
+    let n : end - from ≡ index_of mark (drop from s) = omega arith in
     rw (n, e)

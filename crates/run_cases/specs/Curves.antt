@@ -1,5 +1,5 @@
 -- The curves that texts spell, and how many slots of two curves differ.
-use Rattle.std.specs.Prelude.{ℕ, suc, ◌+◌, ◌&&◌, ◌||◌, List, [], ◌∷◌, eqb, ltb, leb, Float}
+use Rattle.std.specs.Prelude.{ℕ, suc, ◌+◌, ◌||◌, List, [], ◌∷◌, eqb, ltb, leb, Float}
 use Rattle.std.specs.Float.{binary64}
 use Rattle.std.specs.Float.Ieee.{neg, to_bits}
 use Rattle.numbers.specs.Rounded.{bits, real, nought, one, half, pick, ◌⊖◌, ◌⊘◌}

@@ -1,9 +1,13 @@
 -- What a text of cases says: its parts between marks, and the numbers that they spell.
-use Rattle.std.specs.Prelude.{ℕ, ◌+◌, ◌-◌, ◌%◌, min, List, [], ◌∷◌, take, drop, eqb, ltb}
-use Rattle.bytes.specs.Bytes.{index_of}
+use Rattle.std.specs.Prelude.{ℕ, suc, ◌+◌, ◌-◌, ◌%◌, min, List, [], ◌∷◌, take, drop, eqb, ltb}
 use Rattle.numbers.specs.Rounded.{pick}
 use Rattle.texts.specs.Texts.{starts}
 use Rattle.texts.specs.Decimals.{leading, number_from}
+
+-- the place of the first byte that is the mark, or the length of a text that has none
+unfoldable pub index_of : ℕ → List ℕ → ℕ
+index_of mark [] = 0
+index_of mark (x ∷ xs) = pick (eqb x mark) 0 (suc (index_of mark xs))
 
 -- how many marks a text has
 unfoldable pub marks_of : ℕ → List ℕ → ℕ

@@ -2,8 +2,8 @@
 // many slots of two curves differ.
 #![tactic(auto)]
 
-ghost use Rattle.std.specs.Prelude.{◌≡◌, ◌≤◌, ◌%◌, min, length, drop};
-ghost use Rattle.run_cases.specs.Texts.{marks_of, parts_from, case_part, case_number, case_column, case_digit, most_small};
+ghost use Rattle.std.specs.Prelude.{◌≡◌, ◌≤◌, ◌+◌, ◌%◌, min, length, drop};
+ghost use Rattle.run_cases.specs.Texts.{index_of, marks_of, parts_from, case_part, case_number, case_column, case_digit, most_small};
 ghost use Rattle.run_cases.specs.Curves.{case_value, spelled_in, differs, differing};
 
 // How many marks a text has.
@@ -39,12 +39,27 @@ fn start(text: &[u8], mark: u8, k: usize) -> usize
     i
 }
 
+// The first place from a place on where a byte is the mark, or the text's end.
+fn find(text: &[u8], from: usize, mark: u8) -> usize
+    requires { from ≤ length text.now }
+    ensures { (result ≤ length text.now) × (result ≡ from + index_of mark (drop from text.now)) }
+{
+    let mut i = from;
+    while i < text.len() {
+        if text[i] == mark {
+            return i;
+        }
+        i += 1;
+    }
+    i
+}
+
 // Part k of a text: what stands behind its mark k, up to the next one. Empty where it has fewer.
 pub fn part(text: &[u8], mark: u8, k: usize) -> &[u8]
     ensures { result.now ≡ case_part mark text.now k }
 {
     let from = start(text, mark, k);
-    let end = bytes::scan::find(text, from, text.len(), mark);
+    let end = find(text, from, mark);
     &text[from..end]
 }
 

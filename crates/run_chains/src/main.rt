@@ -8,7 +8,6 @@ ghost use Rattle.std.specs.Prelude.{◌<◌, ◌≤◌};
 
 use beat_links::penalties::penalty_of;
 use numbers::less;
-use std::num::wrapping_add_u32;
 
 // Envelopes of at most nine frames, and how many each has.
 const ENVELOPES: [[f64; 9]; 14] = [
@@ -135,16 +134,16 @@ fn counted(c: Tally, w: Chained, best: f64) -> Tally {
     }
     let mut better = c.better;
     if best < w.score {
-        better = wrapping_add_u32(better, 1);
+        better = better.wrapping_add(1);
     }
     let mut equal = c.equal;
     let mut first = c.first;
     if w.score == best {
-        equal = wrapping_add_u32(equal, 1);
+        equal = equal.wrapping_add(1);
         first = numbers::least(first, w.last);
     }
     Tally {
-        chains: wrapping_add_u32(c.chains, 1),
+        chains: c.chains.wrapping_add(1),
         better: better,
         equal: equal,
         first: first,
@@ -189,83 +188,83 @@ fn place(frame: u32) -> usize
 
 // The set of the frames that are listed.
 fn set_of(beats: &[u32]) -> u32 {
-    let mut set = 0;
+    let mut set = 0u32;
     let mut i = 0;
     while i < beats.len() {
-        set = wrapping_add_u32(set, POWERS[place(beats[i])]);
+        set = set.wrapping_add(POWERS[place(beats[i])]);
         i += 1;
     }
     set
 }
 
 // What was listed, walked as every other chain is, and the score that the call wrote for its last frame.
-fn show_grid(grid: Chained, last: usize, slot: f64) {
+fn show_grid(rt: &impl Print, grid: Chained, last: usize, slot: f64) {
     if !grid.allowed || grid.last != last {
-        run_show::words(b", no chain");
+        run_show::words(rt, b", no chain");
     }
     if grid.score == slot {
-        run_show::words(b", scores its slot");
+        run_show::words(rt, b", scores its slot");
         return;
     }
-    run_show::words(b", another score than its slot");
+    run_show::words(rt, b", another score than its slot");
 }
 
 // The rest of a line: the grid, and what is found among all chains.
-fn run(envelope: &[f64], period: u32) {
+fn run(rt: &impl Print, envelope: &[f64], period: u32) {
     let mut score = [0.0f64; 13];
     let mut back = [0u32; 13];
     let mut beats = [0u32; 13];
     let r = beats::beat_grid(envelope, period as usize, &mut score, &mut back, &mut beats);
-    run_show::words(b", beats");
+    run_show::words(rt, b", beats");
     let frames = &beats[..];
     let listed = &frames[0..numbers::least(r.count, 13)];
-    run_show::smalls(listed);
+    run_show::smalls(rt, listed);
     if r.count == 0 {
-        run_show::words(b" none\n");
+        run_show::words(rt, b" none\n");
         return;
     }
     let scale = scale_of(envelope);
     let grid = walk(envelope, scale, period, set_of(listed) as usize);
     let last = place(beats[numbers::least(less(r.count, 1), 12)]);
-    show_grid(grid, last, score[last]);
+    show_grid(rt, grid, last, score[last]);
     let c = each_chain(envelope, scale, period, grid.score);
-    run_show::words(b": chains");
-    run_show::small(c.chains);
-    run_show::words(b", better");
-    run_show::small(c.better);
-    run_show::words(b", as good");
-    run_show::small(c.equal);
-    run_show::words(b", the first ends at");
-    run_show::count(c.first);
-    run_show::end();
+    run_show::words(rt, b": chains");
+    run_show::small(rt, c.chains);
+    run_show::words(rt, b", better");
+    run_show::small(rt, c.better);
+    run_show::words(rt, b", as good");
+    run_show::small(rt, c.equal);
+    run_show::words(rt, b", the first ends at");
+    run_show::count(rt, c.first);
+    run_show::end(rt);
 }
 
 // What a line begins with.
-fn name(envelope: usize, period: u32) {
-    run_show::words(b"envelope");
-    run_show::count(envelope);
-    run_show::words(b", period");
-    run_show::small(period);
+fn name(rt: &impl Print, envelope: usize, period: u32) {
+    run_show::words(rt, b"envelope");
+    run_show::count(rt, envelope);
+    run_show::words(rt, b", period");
+    run_show::small(rt, period);
 }
 
 // Line j: one envelope at one period.
-fn line(j: usize)
+fn line(rt: &impl Print, j: usize)
     requires { j < 84 }
 {
     let e = envelope_of(j / 6);
     let period = PERIODS[j % 6];
-    name(j / 6, period);
-    run(&e[0..numbers::least(FRAMES[j / 6], 9)], period);
+    name(rt, j / 6, period);
+    run(rt, &e[0..numbers::least(FRAMES[j / 6], 9)], period);
 }
 
 // Each envelope at each period, then the long one.
-fn main() {
+fn main(rt: HostRuntime) {
     let mut j = 0;
     while j < 84 {
-        line(j);
+        line(&rt, j);
         j += 1;
     }
-    name(14, 11);
+    name(&rt, 14, 11);
     let long = LONG;
-    run(&long, 11);
+    run(&rt, &long, 11);
 }

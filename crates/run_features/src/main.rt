@@ -10,16 +10,17 @@ ghost use Rattle.std.specs.Prelude.{◌<◌};
 
 use numbers::least;
 
-fn main() {
-    bounds();
-    edges();
-    places();
-    values();
+fn main(rt: HostRuntime) {
+    bounds(&rt);
+    edges(&rt);
+    places(&rt);
+    values(&rt);
 }
 
 // Each number's bounds; a lower number goes before a higher one.
-fn bounds() {
+fn bounds(rt: &impl Print) {
     table(
+        rt,
         b"three rows, five feature rows|48000|1024|5|3|6147|5120|80|1|0|0
 rate 0|0|1024|5|3|6147|5120|80|1|0|0
 rate 1|1|1024|5|3|6147|5120|80|1|0|0
@@ -52,8 +53,9 @@ a magnitude too few and 79 slots and NaN|48000|1024|5|3|6146|5120|79|1|7|4
 }
 
 // At rate 20,480 bin k stands at 5k Hz: one bin alone, on and beside the edges of the pitch classes, 55 and 5,000 Hz, and of the bands, 250 and 4,000 Hz.
-fn edges() {
+fn edges(rt: &impl Print) {
     table(
+        rt,
         b"silence|20480|4096|1|1|2049|4096|16|0|0|0
 0 Hz|20480|4096|1|1|2049|4096|16|0|0|1
 50 Hz|20480|4096|1|1|2049|4096|16|0|10|1
@@ -74,8 +76,9 @@ fn edges() {
 }
 
 // Rows whose centres lie on and beside the edges of feature rows, and past the last one, which has them all.
-fn places() {
+fn places(rt: &impl Print) {
     table(
+        rt,
         b"length 1023|44100|1023|6|3|6147|5120|96|1|0|0
 length 1024|44100|1024|5|3|6147|5120|80|1|0|0
 length 1025|44100|1025|5|3|6147|5120|80|1|0|0
@@ -90,8 +93,9 @@ one sample in the last row|8000|2560|3|3|6147|5121|48|1|0|0\n",
 }
 
 // Values that are fine and that are not; with no feature row they are judged too.
-fn values() {
+fn values(rt: &impl Print) {
     table(
+        rt,
         b"-0|48000|1024|5|3|6147|5120|80|1|5000|2
 2^126|48000|1024|5|3|6147|5120|80|1|5000|3
 the next above 2^126|48000|1024|5|3|6147|5120|80|1|5000|4
@@ -106,18 +110,18 @@ no samples and -0|48000|1024|0|3|6147|0|80|1|5000|2\n",
     );
 }
 
-fn table(text: &[u8]) {
+fn table(rt: &impl Print, text: &[u8]) {
     let n = run_cases::marks(text, b'\n');
     let mut k = 0;
     while k < n {
-        case(run_cases::part(text, b'\n', k));
+        case(rt, run_cases::part(text, b'\n', k));
         k += 1;
     }
 }
 
-fn case(line: &[u8]) {
-    run_show::words(run_cases::part(line, b'|', 0));
-    run_show::words(b":");
+fn case(rt: &impl Print, line: &[u8]) {
+    run_show::words(rt, run_cases::part(line, b'|', 0));
+    run_show::words(rt, b":");
     let slots = run_cases::column_within(line, 5, 6148);
     let n = run_cases::column_within(line, 6, 5121);
     let room = run_cases::column_within(line, 7, 98);
@@ -135,13 +139,13 @@ fn case(line: &[u8]) {
         run_cases::column(line, 3),
         &mut features[0..room],
     );
-    told(number, &features);
+    told(rt, number, &features);
 }
 
-fn told(number: u32, features: &[f64; 98]) {
-    run_show::small(number);
-    run_show::floats(features);
-    run_show::end();
+fn told(rt: &impl Print, number: u32, features: &[f64; 98]) {
+    run_show::small(rt, number);
+    run_show::floats(rt, features);
+    run_show::end(rt);
 }
 
 // Thirteenths in turn, or silence, and one slot with another value.

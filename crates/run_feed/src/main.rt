@@ -25,33 +25,33 @@ const HELD: usize = 65_536;
 
 const TWO_ROWS: usize = 2 * numbers::MOST_BINS;
 
-fn main() {
-    refused();
-    bounds();
-    heads();
+fn main(rt: HostRuntime) {
+    refused(&rt);
+    bounds(&rt);
+    heads(&rt);
 }
 
-fn table(text: &[u8]) {
+fn table(rt: &impl Print, text: &[u8]) {
     let n = run_cases::marks(text, b'$');
     let mut k = 0;
     while k < n {
-        run(run_cases::part(text, b'$', k));
+        run(rt, run_cases::part(text, b'$', k));
         k += 1;
     }
 }
 
-fn run(line: &[u8]) {
-    run_show::words(run_cases::part(line, b'|', 0));
+fn run(rt: &impl Print, line: &[u8]) {
+    run_show::words(rt, run_cases::part(line, b'|', 0));
     let input = run_cases::part(line, b'|', 1);
-    told(input, WHOLE);
-    told(input, SOME);
-    told(input, BYTE);
-    run_show::end();
+    told(rt, input, WHOLE);
+    told(rt, input, SOME);
+    told(rt, input, BYTE);
+    run_show::end(rt);
 }
 
 // ---- one input, in parts of so many bytes
 
-fn told(input: &[u8], size: usize)
+fn told(rt: &impl Print, input: &[u8], size: usize)
     requires { 1 ≤ size }
 {
     let mut held = held_room();
@@ -59,11 +59,11 @@ fn told(input: &[u8], size: usize)
     let mut flux = flux_room();
     let reading = fed(input, size, &mut held, &mut kept, &mut flux);
     if reading.number != 0 {
-        run_show::words(b" refused");
-        return run_show::small(reading.number);
+        run_show::words(rt, b" refused");
+        return run_show::small(rt, reading.number);
     }
-    run_show::words(b" rows");
-    run_show::count(reading.rows);
+    run_show::words(rt, b" rows");
+    run_show::count(rt, reading.rows);
 }
 
 // What is told of the input, however it is cut.
@@ -103,8 +103,9 @@ fn flux_room() -> [f64; MOST_REPORTED]
 // ---- the cases
 
 // An array without rows, and each number of refusal before those that would apply after it.
-fn refused() {
+fn refused(rt: &impl Print) {
     table(
+        rt,
         b"\
           no rows|\x93NUMPY\x01\x00\x76\x00\
           {'descr': '<f4', 'fortran_order': False, 'shape': (0, 3), }                                                          \n$\
@@ -126,8 +127,9 @@ fn refused() {
 }
 
 // Both sides of each bound.
-fn bounds() {
+fn bounds(rt: &impl Print) {
     table(
+        rt,
         b"\
           the paper's example|\x93NUMPY\x01\x00\x76\x00\
           {'descr': '<f4', 'fortran_order': False, 'shape': (4, 1), }                                                          \n\
@@ -147,8 +149,9 @@ fn bounds() {
 }
 
 // Inputs that end before or within the header, or whose text is not as long as they say.
-fn heads() {
+fn heads(rt: &impl Print) {
     table(
+        rt,
         b"\
           nothing|$\
           nine bytes|\x93NUMPY\x01\x00\x76$\

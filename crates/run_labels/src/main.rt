@@ -20,39 +20,40 @@ const CHUNK_ROOM: usize = 140;
 
 const SLOTS: usize = 5;
 
-fn main() {
-    grids();
-    refused_grids();
-    tracks();
-    track_orders();
-    chunks();
-    chunk_orders();
-    long_seconds();
-    each_track_change();
-    both_times();
-    each_chunk_change();
-    both_offsets();
-    each_track_length();
-    each_chunk_length();
+fn main(rt: HostRuntime) {
+    grids(&rt);
+    refused_grids(&rt);
+    tracks(&rt);
+    track_orders(&rt);
+    chunks(&rt);
+    chunk_orders(&rt);
+    long_seconds(&rt);
+    each_track_change(&rt);
+    both_times(&rt);
+    each_chunk_change(&rt);
+    both_offsets(&rt);
+    each_track_length(&rt);
+    each_chunk_length(&rt);
 }
 
-fn table(call: usize, text: &[u8]) {
+fn table(rt: &impl Print, call: usize, text: &[u8]) {
     let n = run_cases::marks(text, b'$');
     let mut k = 0;
     while k < n {
-        run(call, run_cases::part(text, b'$', k));
+        run(rt, call, run_cases::part(text, b'$', k));
         k += 1;
     }
 }
 
-fn run(call: usize, line: &[u8]) {
-    run_show::words(run_cases::part(line, b'|', 0));
-    run_show::end();
+fn run(rt: &impl Print, call: usize, line: &[u8]) {
+    run_show::words(rt, run_cases::part(line, b'|', 0));
+    run_show::end(rt);
     if call == GRID {
-        return grid(line);
+        return grid(rt, line);
     }
     if call == TRACK {
         return track(
+            rt,
             run_cases::part(line, b'|', 4),
             run_cases::column_u32(line, 1),
             run_cases::column_within(line, 2, SLOTS),
@@ -60,6 +61,7 @@ fn run(call: usize, line: &[u8]) {
         );
     }
     chunk(
+        rt,
         run_cases::part(line, b'|', 4),
         run_cases::column_u32(line, 1),
         run_cases::column_within(line, 2, SLOTS),
@@ -70,7 +72,7 @@ fn run(call: usize, line: &[u8]) {
 // ---- frames are written in both forms, read again and converted
 
 // At rate (1), with (2) of 210 bytes for the track and (3) of 140 for the chunk: the first (4) of the frames (5) to (9).
-fn grid(line: &[u8]) {
+fn grid(rt: &impl Print, line: &[u8]) {
     let frames: [u32; 5] = [
         run_cases::column_u32(line, 5),
         run_cases::column_u32(line, 6),
@@ -81,12 +83,14 @@ fn grid(line: &[u8]) {
     let many = run_cases::column_within(line, 4, SLOTS);
     let rate = run_cases::column_u32(line, 1);
     grid_track(
+        rt,
         frames,
         many,
         rate,
         run_cases::column_within(line, 2, TEXT_ROOM),
     );
     grid_chunk(
+        rt,
         frames,
         many,
         rate,
@@ -94,86 +98,87 @@ fn grid(line: &[u8]) {
     );
 }
 
-fn grid_track(frames: [u32; 5], many: usize, rate: u32, room: usize)
+fn grid_track(rt: &impl Print, frames: [u32; 5], many: usize, rate: u32, room: usize)
     requires { (many ≤ 5) × (room ≤ 210) }
 {
     let needed = labels::labels_room(&frames[0..many], rate);
-    run_show::words(b"  room:");
-    run_show::small(needed.number);
-    run_show::count(needed.count);
-    run_show::end();
+    run_show::words(rt, b"  room:");
+    run_show::small(rt, needed.number);
+    run_show::count(rt, needed.count);
+    run_show::end(rt);
     let mut text: [u8; 210] = [b'#'; 210];
     let answer = labels::write_labels(&frames[0..many], rate, &mut text[0..room]);
-    run_show::words(b"  track:");
-    run_show::small(answer.number);
-    run_show::count(answer.count);
-    run_show::end();
+    run_show::words(rt, b"  track:");
+    run_show::small(rt, answer.number);
+    run_show::count(rt, answer.count);
+    run_show::end(rt);
     let bytes = numbers::least(answer.count, TEXT_ROOM);
-    written(text, bytes);
-    track_of(text, bytes, rate);
+    written(rt, text, bytes);
+    track_of(rt, text, bytes, rate);
 }
 
 // The bytes that were written, so many, and the one behind them.
-fn written(text: [u8; 210], many: usize)
+fn written(rt: &impl Print, text: [u8; 210], many: usize)
     requires { many ≤ 210 }
 {
-    run_show::words(&text[0..many]);
-    run_show::words(b"  behind:");
-    behind_text(&text, many);
+    run_show::words(rt, &text[0..many]);
+    run_show::words(rt, b"  behind:");
+    behind_text(rt, &text, many);
 }
 
-fn track_of(text: [u8; 210], many: usize, rate: u32)
+fn track_of(rt: &impl Print, text: [u8; 210], many: usize, rate: u32)
     requires { many ≤ 210 }
 {
-    track(&text[0..many], rate, SLOTS, CHUNK_ROOM);
+    track(rt, &text[0..many], rate, SLOTS, CHUNK_ROOM);
 }
 
 // The byte behind what was written, where there is one.
-fn behind_text(text: &[u8; 210], at: usize) {
+fn behind_text(rt: &impl Print, text: &[u8; 210], at: usize) {
     if at < TEXT_ROOM {
-        run_show::number(wide(text[at]));
+        run_show::number(rt, wide(text[at]));
     }
-    run_show::end();
+    run_show::end(rt);
 }
 
 fn wide(x: u8) -> u64 {
     x as u64
 }
 
-fn grid_chunk(frames: [u32; 5], many: usize, rate: u32, room: usize)
+fn grid_chunk(rt: &impl Print, frames: [u32; 5], many: usize, rate: u32, room: usize)
     requires { (many ≤ 5) × (room ≤ 140) }
 {
     let mut bytes: [u8; 140] = [b'#'; 140];
     let answer = cues::write_cues(&frames[0..many], &mut bytes[0..room]);
-    run_show::words(b"  chunk:");
-    run_show::small(answer.number);
-    run_show::count(answer.count);
-    run_show::words(b":");
-    bytes_of(&bytes);
-    run_show::end();
-    chunk_of(bytes, numbers::least(answer.count, CHUNK_ROOM), rate);
+    run_show::words(rt, b"  chunk:");
+    run_show::small(rt, answer.number);
+    run_show::count(rt, answer.count);
+    run_show::words(rt, b":");
+    bytes_of(rt, &bytes);
+    run_show::end(rt);
+    chunk_of(rt, bytes, numbers::least(answer.count, CHUNK_ROOM), rate);
 }
 
-fn chunk_of(bytes: [u8; 140], many: usize, rate: u32)
+fn chunk_of(rt: &impl Print, bytes: [u8; 140], many: usize, rate: u32)
     requires { many ≤ 140 }
 {
-    chunk(&bytes[0..many], rate, SLOTS, TEXT_ROOM);
+    chunk(rt, &bytes[0..many], rate, SLOTS, TEXT_ROOM);
 }
 
-fn bytes_of(bytes: &[u8; 140]) {
+fn bytes_of(rt: &impl Print, bytes: &[u8; 140]) {
     let mut i = 0;
     while i < CHUNK_ROOM {
-        run_show::number(wide(bytes[i]));
+        run_show::number(rt, wide(bytes[i]));
         i += 1;
     }
 }
 
-fn five(frames: &[u32; 5]) {
-    run_show::smalls(frames);
+fn five(rt: &impl Print, frames: &[u32; 5]) {
+    run_show::smalls(rt, frames);
 }
 
-fn grids() {
+fn grids(rt: &impl Print) {
     table(
+        rt,
         GRID,
         b"\
           two frames at 48,000|48000|210|140|2|0|1$\
@@ -189,8 +194,9 @@ fn grids() {
     );
 }
 
-fn refused_grids() {
+fn refused_grids(rt: &impl Print) {
     table(
+        rt,
         GRID,
         b"\
           rate 0|0|210|140|2|0|1$\
@@ -209,29 +215,30 @@ fn refused_grids() {
 // ---- tracks
 
 // At a rate, into so many slots, and into so many bytes of a chunk.
-fn track(text: &[u8], rate: u32, slots: usize, room: usize)
+fn track(rt: &impl Print, text: &[u8], rate: u32, slots: usize, room: usize)
     requires { (slots ≤ 5) × (room ≤ 140) }
 {
     let mut frames: [u32; 5] = [7; 5];
     let answer = labels::read_labels(text, rate, &mut frames[0..slots]);
-    run_show::words(b"  read:");
-    run_show::small(answer.number);
-    run_show::count(answer.count);
-    run_show::words(b":");
-    five(&frames);
-    run_show::end();
+    run_show::words(rt, b"  read:");
+    run_show::small(rt, answer.number);
+    run_show::count(rt, answer.count);
+    run_show::words(rt, b":");
+    five(rt, &frames);
+    run_show::end(rt);
     let mut bytes: [u8; 140] = [b'#'; 140];
     let made = label_cues::labels_to_cues(text, rate, &mut bytes[0..room]);
-    run_show::words(b"  to cues:");
-    run_show::small(made.number);
-    run_show::count(made.count);
-    run_show::words(b":");
-    bytes_of(&bytes);
-    run_show::end();
+    run_show::words(rt, b"  to cues:");
+    run_show::small(rt, made.number);
+    run_show::count(rt, made.count);
+    run_show::words(rt, b":");
+    bytes_of(rt, &bytes);
+    run_show::end(rt);
 }
 
-fn tracks() {
+fn tracks(rt: &impl Print) {
     table(
+        rt,
         TRACK,
         b"\
           two labels|48000|5|140|0.010667\t0.010667\tbeat\n0.016000\t0.016000\tbeat\n$\
@@ -276,8 +283,9 @@ fn tracks() {
 }
 
 // Of several numbers that apply, the first of 1, 9, 10, 11, 3, wherever in the track each of them is.
-fn track_orders() {
+fn track_orders(rt: &impl Print) {
     table(
+        rt,
         TRACK,
         b"\
           1 before 9|0|0|0|x$\
@@ -293,28 +301,29 @@ fn track_orders() {
 // ---- chunks
 
 // Into so many slots, and at a rate into so many bytes of a track.
-fn chunk(bytes: &[u8], rate: u32, slots: usize, room: usize)
+fn chunk(rt: &impl Print, bytes: &[u8], rate: u32, slots: usize, room: usize)
     requires { (slots ≤ 5) × (room ≤ 210) }
 {
     let mut frames: [u32; 5] = [7; 5];
     let answer = cues::read_cues(bytes, &mut frames[0..slots]);
-    run_show::words(b"  read:");
-    run_show::small(answer.number);
-    run_show::count(answer.count);
-    run_show::words(b":");
-    five(&frames);
-    run_show::end();
+    run_show::words(rt, b"  read:");
+    run_show::small(rt, answer.number);
+    run_show::count(rt, answer.count);
+    run_show::words(rt, b":");
+    five(rt, &frames);
+    run_show::end(rt);
     let mut text: [u8; 210] = [b'#'; 210];
     let made = label_cues::cues_to_labels(bytes, rate, &mut text[0..room]);
-    run_show::words(b"  to labels:");
-    run_show::small(made.number);
-    run_show::count(made.count);
-    run_show::end();
-    written(text, numbers::least(made.count, TEXT_ROOM));
+    run_show::words(rt, b"  to labels:");
+    run_show::small(rt, made.number);
+    run_show::count(rt, made.count);
+    run_show::end(rt);
+    written(rt, text, numbers::least(made.count, TEXT_ROOM));
 }
 
-fn chunks() {
+fn chunks(rt: &impl Print) {
     table(
+        rt,
         CHUNK,
         b"\
           one point|48000|5|210|cue \x1C\0\0\0\x01\0\0\0\x01\0\0\0\0\x02\0\0data\0\0\0\0\0\0\0\0\0\x02\0\0$\
@@ -350,8 +359,9 @@ fn chunks() {
 }
 
 // Of several numbers that apply, the first of 1, 9, 10, 11, 3, wherever in the chunk each of them is; a chunk alone has no 1.
-fn chunk_orders() {
+fn chunk_orders(rt: &impl Print) {
     table(
+        rt,
         CHUNK,
         b"\
           1 before 9|0|0|0|x$\
@@ -369,12 +379,12 @@ fn chunk_orders() {
 // ---- seconds of a thousand digits
 
 // A label whose two times have a thousand digits before the point: nines alone, a needless zero before them, and as many zeros.
-fn long_seconds() {
-    run_show::words(b"seconds of a thousand digits:");
-    run_show::small(long_number(b'9', b'9'));
-    run_show::small(long_number(b'0', b'9'));
-    run_show::small(long_number(b'0', b'0'));
-    run_show::end();
+fn long_seconds(rt: &impl Print) {
+    run_show::words(rt, b"seconds of a thousand digits:");
+    run_show::small(rt, long_number(b'9', b'9'));
+    run_show::small(rt, long_number(b'0', b'9'));
+    run_show::small(rt, long_number(b'0', b'0'));
+    run_show::end(rt);
 }
 
 fn long_number(first: u8, digit: u8) -> u32 {
@@ -399,42 +409,42 @@ fn long_number(first: u8, digit: u8) -> u32 {
 
 // The track and the chunk of frames 0 and 1: how many of the 255 changes of each byte get number 0, 9, 10, 11; and the same where both times, or both
 // offsets, of the last label or point change alike.
-fn each_track_change() {
+fn each_track_change(rt: &impl Print) {
     let text = two_labels();
     let mut place = 0;
     while place < 46 {
-        run_show::words(b"track byte");
-        text_changes(text, place, place);
+        run_show::words(rt, b"track byte");
+        text_changes(rt, text, place, place);
         place += 1;
     }
 }
 
-fn both_times() {
+fn both_times(rt: &impl Print) {
     let text = two_labels();
     let mut place = 23;
     while place < 31 {
-        run_show::words(b"both times byte");
-        text_changes(text, place, place + 9);
+        run_show::words(rt, b"both times byte");
+        text_changes(rt, text, place, place + 9);
         place += 1;
     }
 }
 
-fn each_chunk_change() {
+fn each_chunk_change(rt: &impl Print) {
     let bytes = two_points();
     let mut place = 0;
     while place < 60 {
-        run_show::words(b"chunk byte");
-        chunk_changes(bytes, place, place);
+        run_show::words(rt, b"chunk byte");
+        chunk_changes(rt, bytes, place, place);
         place += 1;
     }
 }
 
-fn both_offsets() {
+fn both_offsets(rt: &impl Print) {
     let bytes = two_points();
     let mut place = 40;
     while place < 44 {
-        run_show::words(b"both offsets byte");
-        chunk_changes(bytes, place, place + 16);
+        run_show::words(rt, b"both offsets byte");
+        chunk_changes(rt, bytes, place, place + 16);
         place += 1;
     }
 }
@@ -453,53 +463,53 @@ fn two_points() -> [u8; 60] {
     bytes
 }
 
-fn text_changes(text: [u8; 46], place: usize, again: usize)
+fn text_changes(rt: &impl Print, text: [u8; 46], place: usize, again: usize)
     requires { (place ≤ 45) × (again ≤ 45) }
 {
     let mut other = text;
     let mut tally: [u32; 12] = [0; 12];
     let mut step: u32 = 1;
     while step < 256 {
-        let next = std::num::wrapping_add_u8(other[place], 1);
+        let next = other[place].wrapping_add(1);
         other[place] = next;
         other[again] = next;
         count_number(&mut tally, text_number(other));
         step += 1;
     }
-    told(place, tally);
+    told(rt, place, tally);
 }
 
-fn chunk_changes(bytes: [u8; 60], place: usize, again: usize)
+fn chunk_changes(rt: &impl Print, bytes: [u8; 60], place: usize, again: usize)
     requires { (place ≤ 59) × (again ≤ 59) }
 {
     let mut other = bytes;
     let mut tally: [u32; 12] = [0; 12];
     let mut step: u32 = 1;
     while step < 256 {
-        let next = std::num::wrapping_add_u8(other[place], 1);
+        let next = other[place].wrapping_add(1);
         other[place] = next;
         other[again] = next;
         count_number(&mut tally, chunk_number(other));
         step += 1;
     }
-    told(place, tally);
+    told(rt, place, tally);
 }
 
 fn count_number(tally: &mut [u32; 12], number: u32) {
     if number < 12 {
         let at = number as usize;
-        tally[at] = std::num::wrapping_add_u32(tally[at], 1);
+        tally[at] = tally[at].wrapping_add(1);
     }
 }
 
-fn told(place: usize, tally: [u32; 12]) {
-    run_show::count(place);
-    run_show::words(b":");
-    run_show::small(tally[0]);
-    run_show::small(tally[9]);
-    run_show::small(tally[10]);
-    run_show::small(tally[11]);
-    run_show::end();
+fn told(rt: &impl Print, place: usize, tally: [u32; 12]) {
+    run_show::count(rt, place);
+    run_show::words(rt, b":");
+    run_show::small(rt, tally[0]);
+    run_show::small(rt, tally[9]);
+    run_show::small(rt, tally[10]);
+    run_show::small(rt, tally[11]);
+    run_show::end(rt);
 }
 
 fn text_number(text: [u8; 46]) -> u32 {
@@ -515,26 +525,26 @@ fn chunk_number(bytes: [u8; 60]) -> u32 {
 }
 
 // The number of the first bytes of both, for each length.
-fn each_track_length() {
+fn each_track_length(rt: &impl Print) {
     let text = two_labels();
-    run_show::words(b"track lengths 0 to 46:");
+    run_show::words(rt, b"track lengths 0 to 46:");
     let mut many = 0;
     while many <= 46 {
-        run_show::small(first_text(text, many));
+        run_show::small(rt, first_text(text, many));
         many += 1;
     }
-    run_show::end();
+    run_show::end(rt);
 }
 
-fn each_chunk_length() {
+fn each_chunk_length(rt: &impl Print) {
     let bytes = two_points();
-    run_show::words(b"chunk lengths 0 to 60:");
+    run_show::words(rt, b"chunk lengths 0 to 60:");
     let mut many = 0;
     while many <= 60 {
-        run_show::small(first_chunk(bytes, many));
+        run_show::small(rt, first_chunk(bytes, many));
         many += 1;
     }
-    run_show::end();
+    run_show::end(rt);
 }
 
 fn first_text(text: [u8; 46], many: usize) -> u32

@@ -15,43 +15,44 @@ const APART: usize = 3;
 
 const FOLDS: usize = 4;
 
-fn main() {
-    rates();
-    bounds();
-    far_bounds();
-    no_bounds();
-    pairs();
-    beat();
-    long_beat();
+fn main(rt: HostRuntime) {
+    rates(&rt);
+    bounds(&rt);
+    far_bounds(&rt);
+    no_bounds(&rt);
+    pairs(&rt);
+    beat(&rt);
+    long_beat(&rt);
 }
 
-fn table(call: usize, lines: &[u8]) {
+fn table(rt: &impl Print, call: usize, lines: &[u8]) {
     let n = run_cases::marks(lines, b'\n');
     let mut k = 0;
     while k < n {
-        run(call, run_cases::part(lines, b'\n', k));
+        run(rt, call, run_cases::part(lines, b'\n', k));
         k += 1;
     }
 }
 
-fn run(call: usize, line: &[u8]) {
-    run_show::words(run_cases::part(line, b'|', 0));
+fn run(rt: &impl Print, call: usize, line: &[u8]) {
+    run_show::words(rt, run_cases::part(line, b'|', 0));
     if call == DEFAULTS {
-        return range_of(run_cases::column_u32(line, 1), TempoOpts::new());
+        return range_of(rt, run_cases::column_u32(line, 1), TempoOpts::new());
     }
     if call == RANGE {
-        return range(line);
+        return range(rt, line);
     }
     if call == APART {
-        return apart(run_cases::column(line, 1), run_cases::column(line, 2));
+        return apart(rt, run_cases::column(line, 1), run_cases::column(line, 2));
     }
-    folds(run_cases::column(line, 1), run_cases::column(line, 2));
+    folds(rt, run_cases::column(line, 1), run_cases::column(line, 2));
 }
 
 // ---- ranges
 
-fn rates() {
+fn rates(rt: &impl Print) {
     table(
+        rt,
         DEFAULTS,
         b"rate 0:|0
 rate 1:|1
@@ -63,13 +64,15 @@ rate 44100:|44100\n",
     );
 }
 
-fn bounds() {
-    run_show::words(b"200 to 100:");
+fn bounds(rt: &impl Print) {
+    run_show::words(rt, b"200 to 100:");
     range_of(
+        rt,
         48000,
         TempoOpts::new().with_min_bpm(200.0).with_max_bpm(100.0),
     );
     table(
+        rt,
         RANGE,
         b"0 to 0:|48000|0|0
 -0 to 0:|48000|z|0
@@ -80,24 +83,26 @@ fn bounds() {
     );
 }
 
-fn far_bounds() {
+fn far_bounds(rt: &impl Print) {
     let fine = 1427247692705959881058285969449495136382746624.0;
     let big = fine * fine * fine * fine;
-    between(b"100 to 100.5:", 48000, 100.0, 100.5);
-    between(b"2^600 to 2^600:", 48000, big, big);
-    between(b"-2^600 to 2^600:", 192000, -big, big);
+    between(rt, b"100 to 100.5:", 48000, 100.0, 100.5);
+    between(rt, b"2^600 to 2^600:", 48000, big, big);
+    between(rt, b"-2^600 to 2^600:", 192000, -big, big);
     between(
+        rt,
         b"2^53 to 2^53:",
         48000,
         9007199254740992.0,
         9007199254740992.0,
     );
-    between(b"2^-600 to 2^-600:", 48000, 1.0 / big, 1.0 / big);
+    between(rt, b"2^-600 to 2^-600:", 48000, 1.0 / big, 1.0 / big);
 }
 
 // Open bounds: no limit above, none below, and those that are no numbers.
-fn no_bounds() {
+fn no_bounds(rt: &impl Print) {
     table(
+        rt,
         RANGE,
         b"NaN to 300:|48000|n|300
 30 to NaN:|48000|30|n
@@ -113,8 +118,9 @@ rate 0, NaN to NaN:|0|n|n\n",
 }
 
 // At rate (1), from (2) up to (3) beats a minute.
-fn range(line: &[u8]) {
+fn range(rt: &impl Print, line: &[u8]) {
     range_of(
+        rt,
         run_cases::column_u32(line, 1),
         TempoOpts::between(
             bound(run_cases::part(line, b'|', 2)),
@@ -138,23 +144,24 @@ fn bound(text: &[u8]) -> f64 {
     n
 }
 
-fn between(label: &[u8], rate: u32, min_bpm: f64, max_bpm: f64) {
-    run_show::words(label);
-    range_of(rate, TempoOpts::between(min_bpm, max_bpm));
+fn between(rt: &impl Print, label: &[u8], rate: u32, min_bpm: f64, max_bpm: f64) {
+    run_show::words(rt, label);
+    range_of(rt, rate, TempoOpts::between(min_bpm, max_bpm));
 }
 
-fn range_of(rate: u32, opts: TempoOpts) {
+fn range_of(rt: &impl Print, rate: u32, opts: TempoOpts) {
     let r = lags::lag_range(rate, opts);
-    run_show::small(r.number);
-    run_show::count(r.min_lag);
-    run_show::count(r.max_lag);
-    run_show::end();
+    run_show::small(rt, r.number);
+    run_show::count(rt, r.min_lag);
+    run_show::count(rt, r.max_lag);
+    run_show::end(rt);
 }
 
 // ---- pairs
 
-fn pairs() {
+fn pairs(rt: &impl Print) {
     table(
+        rt,
         APART,
         b"apart 22 20|22|20
 apart 23 20|23|20
@@ -169,6 +176,7 @@ apart 40500 45000|40500|45000
 apart 40499 45000|40499|45000\n",
     );
     table(
+        rt,
         FOLDS,
         b"folds 40 38|40|38
 folds 40 42|40|42
@@ -189,58 +197,58 @@ folds 45000 11250|45000|11250\n",
     );
 }
 
-fn answer(yes: bool) {
+fn answer(rt: &impl Print, yes: bool) {
     if yes {
-        run_show::words(b" yes");
+        run_show::words(rt, b" yes");
     } else {
-        run_show::words(b" no");
+        run_show::words(rt, b" no");
     }
 }
 
-fn apart(lag: usize, accepted: usize) {
-    answer(lags::pairs::lags_apart(lag, accepted));
-    run_show::end();
+fn apart(rt: &impl Print, lag: usize, accepted: usize) {
+    answer(rt, lags::pairs::lags_apart(lag, accepted));
+    run_show::end(rt);
 }
 
-fn fold(whole: usize, lag: usize, by: f64) {
-    answer(lags::pairs::fold_fits(whole, lag, by));
+fn fold(rt: &impl Print, whole: usize, lag: usize, by: f64) {
+    answer(rt, lags::pairs::fold_fits(whole, lag, by));
 }
 
 // Whether each fold of a window's lag fits the whole lag; one that does is enough for the window to agree.
-fn folds(whole: usize, lag: usize) {
-    fold(whole, lag, 0.25);
-    fold(whole, lag, 0.5);
-    fold(whole, lag, 1.0);
-    fold(whole, lag, 2.0);
-    fold(whole, lag, 4.0);
-    run_show::end();
+fn folds(rt: &impl Print, whole: usize, lag: usize) {
+    fold(rt, whole, lag, 0.25);
+    fold(rt, whole, lag, 0.5);
+    fold(rt, whole, lag, 1.0);
+    fold(rt, whole, lag, 2.0);
+    fold(rt, whole, lag, 4.0);
+    run_show::end(rt);
 }
 
 // ---- curves
 
-fn sums(mean: f64, energy: f64) {
-    run_show::words(b"mean");
-    run_show::float(mean);
-    run_show::words(b"\nenergy");
-    run_show::float(energy);
+fn sums(rt: &impl Print, mean: f64, energy: f64) {
+    run_show::words(rt, b"mean");
+    run_show::float(rt, mean);
+    run_show::words(rt, b"\nenergy");
+    run_show::float(rt, energy);
 }
 
-fn curve(name: &[u8], xs: &[f64]) {
-    run_show::words(name);
-    run_show::floats(xs);
+fn curve(rt: &impl Print, name: &[u8], xs: &[f64]) {
+    run_show::words(rt, name);
+    run_show::floats(rt, xs);
 }
 
 // Lags 3 to 20: twice eight side by side, and two more. The last two slots lent are not written.
-fn curves(envelope: &[f64; 45]) {
+fn curves(rt: &impl Print, envelope: &[f64; 45]) {
     let mut clarity = [9.0f64; 20];
     let mut weight = [9.0f64; 20];
     let mean = lists::mean_of(envelope);
     let ac0 = lag_sums::energy_of(envelope, mean);
-    sums(mean, ac0);
+    sums(rt, mean, ac0);
     lag_curves::fill_lag_curves(envelope, mean, ac0, 3000, 3, 20, &mut clarity, &mut weight);
-    curve(b"\nclarity", &clarity);
-    curve(b"\nweight", &weight);
-    run_show::end();
+    curve(rt, b"\nclarity", &clarity);
+    curve(rt, b"\nweight", &weight);
+    run_show::end(rt);
 }
 
 const BEAT: [f64; 45] = [
@@ -249,28 +257,28 @@ const BEAT: [f64; 45] = [
     0.0, 0.0, 5.0, 0.0, 0.0, 1.3, 0.0, 7.7,
 ];
 
-fn beat() {
+fn beat(rt: &impl Print) {
     let e = BEAT;
-    curves(&e);
+    curves(rt, &e);
 }
 
 // Lags 20 to 60: thirty-two in blocks, eight side by side, and one more. The last slot lent is not written.
-fn long_curves(envelope: &[f64; 400]) {
+fn long_curves(rt: &impl Print, envelope: &[f64; 400]) {
     let mut clarity = [9.0f64; 42];
     let mut weight = [9.0f64; 42];
     let mut priors = [9.0f64; 42];
     let mean = lists::mean_of(envelope);
     let ac0 = lag_sums::energy_of(envelope, mean);
-    sums(mean, ac0);
+    sums(rt, mean, ac0);
     lag_curves::fill_clarity(envelope, mean, ac0, 20, 60, &mut clarity);
-    curve(b"\nclarity", &clarity);
+    curve(rt, b"\nclarity", &clarity);
     lag_curves::fill_priors(6000, 20, 60, &mut priors);
     lag_curves::weigh(&clarity, &priors, 41, &mut weight);
-    curve(b"\nweight", &weight);
-    run_show::end();
+    curve(rt, b"\nweight", &weight);
+    run_show::end(rt);
 }
 
-fn long_beat() {
+fn long_beat(rt: &impl Print) {
     let mut e = [0.25f64; 400];
     e[7] = 6.5;
     e[19] = 2.1;
@@ -293,5 +301,5 @@ fn long_beat() {
     e[343] = 6.5;
     e[368] = 6.5;
     e[391] = 6.5;
-    long_curves(&e);
+    long_curves(rt, &e);
 }

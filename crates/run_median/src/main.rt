@@ -8,8 +8,9 @@ use median::Answer;
 
 // The cases, one to a line: a dot for median_of, or for mad_of the median by its letter; the values by their letter, from one number up to the
 // next; how many of five slots are lent; and what the line begins with.
-fn main() {
+fn main(rt: HostRuntime) {
     each_case(
+        &rt,
         b"\
           . a04 4 median of 4, 1, 3, 2 in 4 slots:\n\
           . a04 5 in 5 slots:\n\
@@ -104,67 +105,67 @@ fn median_from(byte: u8) -> f64 {
 }
 
 // Runs each case of a text.
-fn each_case(text: &[u8]) {
+fn each_case(rt: &impl Print, text: &[u8]) {
     let n = run_cases::marks(text, b'\n');
     let mut k = 0;
     while k < n {
-        case(run_cases::part(text, b'\n', k));
+        case(rt, run_cases::part(text, b'\n', k));
         k += 1;
     }
 }
 
-fn case(c: &[u8]) {
+fn case(rt: &impl Print, c: &[u8]) {
     if c.len() < 8 {
         return;
     }
-    run_show::words(&c[8..]);
+    run_show::words(rt, &c[8..]);
     let kind = c[0];
     let room = run_cases::digit(c[6], 5);
     let past = run_cases::digit(c[4], 5);
     let from = run_cases::digit(c[3], past);
     let values = values_of(c[2]);
-    line(kind, &values[from..past], room);
+    line(rt, kind, &values[from..past], room);
 }
 
-fn line(kind: u8, values: &[f64], room: usize) {
+fn line(rt: &impl Print, kind: u8, values: &[f64], room: usize) {
     if kind == 46 {
-        median_line(values, room);
+        median_line(rt, values, room);
         return;
     }
-    mad_line(values, median_from(kind), room);
+    mad_line(rt, values, median_from(kind), room);
 }
 
 // The median with the first `room` of five slots lent.
-fn median_line(values: &[f64], room: usize) {
+fn median_line(rt: &impl Print, values: &[f64], room: usize) {
     let mut work = [9.0f64; 5];
     let a = median::median_of(values, &mut work[0..numbers::least(room, 5)]);
-    told(a, numbers::least(values.len(), 5), &work);
+    told(rt, a, numbers::least(values.len(), 5), &work);
 }
 
-fn mad_line(values: &[f64], median: f64, room: usize) {
+fn mad_line(rt: &impl Print, values: &[f64], median: f64, room: usize) {
     let mut work = [9.0f64; 5];
     let a = median::mad_of(values, median, &mut work[0..numbers::least(room, 5)]);
-    told(a, numbers::least(values.len(), 5), &work);
+    told(rt, a, numbers::least(values.len(), 5), &work);
 }
 
 // The end of a line: the answer, and the slots that must not have changed.
-fn told(a: Answer, n: usize, work: &[f64; 5])
+fn told(rt: &impl Print, a: Answer, n: usize, work: &[f64; 5])
     requires { n ≤ 5 }
 {
-    answer(a);
-    run_show::words(b", kept");
+    answer(rt, a);
+    run_show::words(rt, b", kept");
     let open = open_slots(a, n);
     let all = &work[..];
-    run_show::floats(&all[open..]);
-    run_show::end();
+    run_show::floats(rt, &all[open..]);
+    run_show::end(rt);
 }
 
-fn answer(a: Answer) {
+fn answer(rt: &impl Print, a: Answer) {
     match a {
-        Answer::Value(x) => run_show::float(x),
+        Answer::Value(x) => run_show::float(rt, x),
         Answer::Refused(number) => {
-            run_show::words(b" refused");
-            run_show::small(number);
+            run_show::words(rt, b" refused");
+            run_show::small(rt, number);
         }
     }
 }

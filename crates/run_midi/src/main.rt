@@ -17,39 +17,39 @@ const ROOM: usize = 60;
 
 const SLOTS: usize = 5;
 
-fn main() {
-    tracks();
-    gaps();
-    refused();
-    orders();
-    files();
-    each_change();
-    each_length();
+fn main(rt: HostRuntime) {
+    tracks(&rt);
+    gaps(&rt);
+    refused(&rt);
+    orders(&rt);
+    files(&rt);
+    each_change(&rt);
+    each_length(&rt);
 }
 
-fn table(call: usize, text: &[u8]) {
+fn table(rt: &impl Print, call: usize, text: &[u8]) {
     let n = run_cases::marks(text, b'$');
     let mut k = 0;
     while k < n {
-        run(call, run_cases::part(text, b'$', k));
+        run(rt, call, run_cases::part(text, b'$', k));
         k += 1;
     }
 }
 
-fn run(call: usize, line: &[u8]) {
-    run_show::words(run_cases::part(line, b'|', 0));
+fn run(rt: &impl Print, call: usize, line: &[u8]) {
+    run_show::words(rt, run_cases::part(line, b'|', 0));
     if call == GRID {
-        return grid(line);
+        return grid(rt, line);
     }
     let mut slots: [u32; 5] = [7; 5];
-    read(run_cases::part(line, b'|', 1), &mut slots);
-    run_show::end();
+    read(rt, run_cases::part(line, b'|', 1), &mut slots);
+    run_show::end(rt);
 }
 
 // ---- a grid is written, and what was written is read
 
 // At rate (1), into (2) of 60 bytes, and read into (3) of 5 slots: the first (4) of the beats (5) to (9).
-fn grid(line: &[u8]) {
+fn grid(rt: &impl Print, line: &[u8]) {
     let beats: [u32; 5] = [
         run_cases::column_u32(line, 5),
         run_cases::column_u32(line, 6),
@@ -66,46 +66,47 @@ fn grid(line: &[u8]) {
         run_cases::column_u32(line, 1),
         &mut file[0..room],
     );
-    run_show::small(answer.number);
-    run_show::count(answer.count);
-    run_show::words(b":");
-    bytes(&file);
-    run_show::end();
-    run_show::words(b"  read:");
-    read_back(file, numbers::least(answer.count, ROOM), slots);
-    run_show::end();
+    run_show::small(rt, answer.number);
+    run_show::count(rt, answer.count);
+    run_show::words(rt, b":");
+    bytes(rt, &file);
+    run_show::end(rt);
+    run_show::words(rt, b"  read:");
+    read_back(rt, file, numbers::least(answer.count, ROOM), slots);
+    run_show::end(rt);
 }
 
-fn bytes(file: &[u8; 60]) {
+fn bytes(rt: &impl Print, file: &[u8; 60]) {
     let mut i = 0;
     while i < ROOM {
-        byte(file[i]);
+        byte(rt, file[i]);
         i += 1;
     }
 }
 
-fn byte(x: u8) {
-    run_show::number(x as u64);
+fn byte(rt: &impl Print, x: u8) {
+    run_show::number(rt, x as u64);
 }
 
 // The first bytes of a file, so many, into so many slots.
-fn read_back(file: [u8; 60], many: usize, slots: usize)
+fn read_back(rt: &impl Print, file: [u8; 60], many: usize, slots: usize)
     requires { (many ≤ 60) × (slots ≤ 5) }
 {
     let mut gaps: [u32; 5] = [7; 5];
     let answer = midi::read_tempo_track(&file[0..many], &mut gaps[0..slots]);
-    run_show::small(answer.number);
-    run_show::count(answer.count);
-    run_show::words(b":");
-    five(&gaps);
+    run_show::small(rt, answer.number);
+    run_show::count(rt, answer.count);
+    run_show::words(rt, b":");
+    five(rt, &gaps);
 }
 
-fn five(gaps: &[u32; 5]) {
-    run_show::smalls(gaps);
+fn five(rt: &impl Print, gaps: &[u32; 5]) {
+    run_show::smalls(rt, gaps);
 }
 
-fn tracks() {
+fn tracks(rt: &impl Print) {
     table(
+        rt,
         GRID,
         b"\
           two beats|44100|60|5|2|0|10$\
@@ -118,8 +119,9 @@ fn tracks() {
     );
 }
 
-fn gaps() {
+fn gaps(rt: &impl Print) {
     table(
+        rt,
         GRID,
         b"\
           a gap of 16,777,215|10849|60|5|2|0|711$\
@@ -132,8 +134,9 @@ fn gaps() {
     );
 }
 
-fn refused() {
+fn refused(rt: &impl Print) {
     table(
+        rt,
         GRID,
         b"\
           rate 0|0|60|5|2|0|10$\
@@ -151,8 +154,9 @@ fn refused() {
 }
 
 // Of several numbers that apply, the first of 1, 6, 7, 3.
-fn orders() {
+fn orders(rt: &impl Print) {
     table(
+        rt,
         GRID,
         b"\
           1 before 6, the rate|0|0|5|0$\
@@ -167,16 +171,17 @@ fn orders() {
 // ---- files that another wrote
 
 // Reads a file, and tells the gaps that it has.
-fn read(file: &[u8], slots: &mut [u32; 5]) {
+fn read(rt: &impl Print, file: &[u8], slots: &mut [u32; 5]) {
     let answer = midi::read_tempo_track(file, slots);
-    run_show::small(answer.number);
-    run_show::count(answer.count);
-    run_show::words(b":");
-    five(slots);
+    run_show::small(rt, answer.number);
+    run_show::count(rt, answer.count);
+    run_show::words(rt, b":");
+    five(rt, slots);
 }
 
-fn files() {
+fn files(rt: &impl Print) {
     table(
+        rt,
         FILE,
         b"\
           two gaps|MThd\x00\x00\x00\x06\x00\x00\x00\x01\x00\x60MTrk\x00\x00\x00\x12\
@@ -238,16 +243,16 @@ fn two_beats() -> [u8; 33] {
 }
 
 // How many of the 255 changes of each byte are read, and the sum of the gaps that they tell.
-fn each_change() {
+fn each_change(rt: &impl Print) {
     let file = two_beats();
     let mut place = 0;
     while place < 33 {
-        changes(file, place);
+        changes(rt, file, place);
         place += 1;
     }
 }
 
-fn changes(file: [u8; 33], place: usize)
+fn changes(rt: &impl Print, file: [u8; 33], place: usize)
     requires { place ≤ 32 }
 {
     let mut other = file;
@@ -255,20 +260,20 @@ fn changes(file: [u8; 33], place: usize)
     let mut sum: u64 = 0;
     let mut step: u32 = 1;
     while step < 256 {
-        other[place] = std::num::wrapping_add_u8(other[place], 1);
+        other[place] = other[place].wrapping_add(1);
         let told = told_by(other);
         if told != 0 {
-            many = std::num::wrapping_add_u64(many, 1);
-            sum = std::num::wrapping_add_u64(sum, told as u64);
+            many = many.wrapping_add(1);
+            sum = sum.wrapping_add(told as u64);
         }
         step += 1;
     }
-    run_show::words(b"byte");
-    run_show::count(place);
-    run_show::words(b":");
-    run_show::number(many);
-    run_show::number(sum);
-    run_show::end();
+    run_show::words(rt, b"byte");
+    run_show::count(rt, place);
+    run_show::words(rt, b":");
+    run_show::number(rt, many);
+    run_show::number(rt, sum);
+    run_show::end(rt);
 }
 
 // The gap of such a file, or 0 where it is refused.
@@ -279,17 +284,17 @@ fn told_by(file: [u8; 33]) -> u32 {
 }
 
 // The number of the first bytes of sixty, for each length: the file of three beats, and zeros behind it.
-fn each_length() {
+fn each_length(rt: &impl Print) {
     let beats: [u32; 3] = [0, 10, 25];
     let mut file: [u8; 60] = [0; 60];
     midi::write_tempo_track(&beats, 44100, &mut file);
-    run_show::words(b"lengths 0 to 60:");
+    run_show::words(rt, b"lengths 0 to 60:");
     let mut many = 0;
     while many <= ROOM {
-        run_show::small(number_of(file, many));
+        run_show::small(rt, number_of(file, many));
         many += 1;
     }
-    run_show::end();
+    run_show::end(rt);
 }
 
 fn number_of(file: [u8; 60], many: usize) -> u32

@@ -17,38 +17,39 @@ const VALUE: usize = 3;
 
 const ROW: usize = 4;
 
-fn main() {
-    preambles();
-    shapes();
-    large_shapes();
-    ends();
-    bad_numbers();
-    bad_texts();
-    values();
-    rows();
+fn main(rt: HostRuntime) {
+    preambles(&rt);
+    shapes(&rt);
+    large_shapes(&rt);
+    ends(&rt);
+    bad_numbers(&rt);
+    bad_texts(&rt);
+    values(&rt);
+    rows(&rt);
 }
 
-fn table(call: usize, text: &[u8]) {
+fn table(rt: &impl Print, call: usize, text: &[u8]) {
     let n = run_cases::marks(text, b'$');
     let mut k = 0;
     while k < n {
-        run(call, run_cases::part(text, b'$', k));
+        run(rt, call, run_cases::part(text, b'$', k));
         k += 1;
     }
 }
 
-fn run(call: usize, line: &[u8]) {
-    run_show::words(run_cases::part(line, b'|', 0));
+fn run(rt: &impl Print, call: usize, line: &[u8]) {
+    run_show::words(rt, run_cases::part(line, b'|', 0));
     if call == PREAMBLE {
-        return preamble(run_cases::part(line, b'|', 1));
+        return preamble(rt, run_cases::part(line, b'|', 1));
     }
     if call == HEADER {
-        return header(run_cases::part(line, b'|', 1));
+        return header(rt, run_cases::part(line, b'|', 1));
     }
     if call == VALUE {
-        return value(line);
+        return value(rt, line);
     }
     row(
+        rt,
         run_cases::column_within(line, 1, 13),
         run_cases::column_within(line, 2, 4),
     );
@@ -56,16 +57,17 @@ fn run(call: usize, line: &[u8]) {
 
 // ---- the ten bytes
 
-fn preamble(bytes: &[u8]) {
+fn preamble(rt: &impl Print, bytes: &[u8]) {
     match report_npy::read_preamble(bytes) {
-        Preamble::Malformed => run_show::words(b" malformed"),
-        Preamble::Length(size) => run_show::count(size),
+        Preamble::Malformed => run_show::words(rt, b" malformed"),
+        Preamble::Length(size) => run_show::count(rt, size),
     }
-    run_show::end();
+    run_show::end(rt);
 }
 
-fn preambles() {
+fn preambles(rt: &impl Print) {
     table(
+        rt,
         PREAMBLE,
         b"\
           length 118|\x93NUMPY\x01\x00\x76\x00$\
@@ -82,19 +84,20 @@ fn preambles() {
 
 // ---- the header's text
 
-fn header(text: &[u8]) {
+fn header(rt: &impl Print, text: &[u8]) {
     match report_npy::read_header(text) {
-        Header::Malformed => run_show::words(b" malformed"),
+        Header::Malformed => run_show::words(rt, b" malformed"),
         Header::Shape(rows, bins) => {
-            run_show::number(rows);
-            run_show::number(bins);
+            run_show::number(rt, rows);
+            run_show::number(rt, bins);
         }
     }
-    run_show::end();
+    run_show::end(rt);
 }
 
-fn shapes() {
+fn shapes(rt: &impl Print) {
     table(
+        rt,
         HEADER,
         b"\
           (4, 1)|{'descr': '<f4', 'fortran_order': False, 'shape': (4, 1), }\n$\
@@ -105,8 +108,9 @@ fn shapes() {
 }
 
 // A number above 4,294,967,295 is told as that.
-fn large_shapes() {
+fn large_shapes(rt: &impl Print) {
     table(
+        rt,
         HEADER,
         b"\
           the largest that is told|{'descr': '<f4', 'fortran_order': False, 'shape': (4294967295, 4294967294), }\n$\
@@ -116,8 +120,9 @@ fn large_shapes() {
     );
 }
 
-fn ends() {
+fn ends(rt: &impl Print) {
     table(
+        rt,
         HEADER,
         b"\
           one space|{'descr': '<f4', 'fortran_order': False, 'shape': (4, 1), } \n$\
@@ -129,8 +134,9 @@ fn ends() {
     );
 }
 
-fn bad_numbers() {
+fn bad_numbers(rt: &impl Print) {
     table(
+        rt,
         HEADER,
         b"\
           a needless zero before N|{'descr': '<f4', 'fortran_order': False, 'shape': (04, 1), }\n$\
@@ -143,8 +149,9 @@ fn bad_numbers() {
     );
 }
 
-fn bad_texts() {
+fn bad_texts(rt: &impl Print) {
     table(
+        rt,
         HEADER,
         b"\
           another type|{'descr': '<f8', 'fortran_order': False, 'shape': (4, 1), }\n$\
@@ -160,21 +167,25 @@ fn bad_texts() {
 // ---- values, by their bits as f64
 
 // Of the bytes (1) to (4).
-fn value(line: &[u8]) {
-    float(report_npy::value_of(byte(line, 1), byte(line, 2), byte(line, 3), byte(line, 4)));
-    run_show::end();
+fn value(rt: &impl Print, line: &[u8]) {
+    float(
+        rt,
+        report_npy::value_of(byte(line, 1), byte(line, 2), byte(line, 3), byte(line, 4)),
+    );
+    run_show::end(rt);
 }
 
 fn byte(line: &[u8], k: usize) -> u8 {
     run_cases::column_within(line, k, 255) as u8
 }
 
-fn float(x: f32) {
-    run_show::float(std::num::f32_to_f64_with_nan(x));
+fn float(rt: &impl Print, x: f32) {
+    run_show::float(rt, std::num::f32_to_f64_with_nan(x));
 }
 
-fn values() {
+fn values(rt: &impl Print) {
     table(
+        rt,
         VALUE,
         b"\
           one|0|0|128|63$\
@@ -196,25 +207,26 @@ fn values() {
 // ---- a row: as many values as the bytes hold whole and the row has slots for
 
 // The first `many` bytes of thirteen, into the first slots of four.
-fn row(many: usize, slots: usize)
+fn row(rt: &impl Print, many: usize, slots: usize)
     requires { (many ≤ 13) × (slots ≤ 4) }
 {
     let bytes = [0u8, 0, 128, 63, 0, 0, 0, 64, 0, 0, 64, 64, 7];
     let mut out = [9.0f32; 4];
     report_npy::read_values(&bytes[0..many], &mut out[0..slots]);
-    four(&out);
+    four(rt, &out);
 }
 
-fn four(row: &[f32; 4]) {
-    float(row[0]);
-    float(row[1]);
-    float(row[2]);
-    float(row[3]);
-    run_show::end();
+fn four(rt: &impl Print, row: &[f32; 4]) {
+    float(rt, row[0]);
+    float(rt, row[1]);
+    float(rt, row[2]);
+    float(rt, row[3]);
+    run_show::end(rt);
 }
 
-fn rows() {
+fn rows(rt: &impl Print) {
     table(
+        rt,
         ROW,
         b"\
           three values in four slots|12|4$\

@@ -22,21 +22,22 @@ const TIMES: usize = 5;
 
 const GAPS: usize = 6;
 
-fn main() {
-    fluxes();
-    thresholds();
-    onset_lists();
-    suppressions();
-    time_lists();
-    gaps();
+fn main(rt: HostRuntime) {
+    fluxes(&rt);
+    thresholds(&rt);
+    onset_lists(&rt);
+    suppressions(&rt);
+    time_lists(&rt);
+    gaps(&rt);
 }
 
 // ---- flux
 
 // Nine rows are slot 0 and twice four slots side by side; seven leave two slots over. Number 2 comes before 3, and says that rows and bins
 // are within their bounds.
-fn fluxes() {
+fn fluxes(rt: &impl Print) {
     table(
+        rt,
         FLUX,
         b"flux of 9 rows in 11 slots|0|18|9|2|11|11
 flux of 9 rows in 9 slots|0|18|9|2|9|11
@@ -64,9 +65,10 @@ flux of nan, 0 in 1 slot|26|28|2|1|1|3\n",
 }
 
 // The magnitudes from (1) to (2), as (3) rows of (4) bins, into the first (5) slots; (6) slots are shown.
-fn flux(line: &[u8]) {
+fn flux(rt: &impl Print, line: &[u8]) {
     let end = run_cases::column_within(line, 2, 28);
     flux_of(
+        rt,
         run_cases::column_within(line, 1, end),
         end,
         run_cases::column(line, 3),
@@ -76,7 +78,15 @@ fn flux(line: &[u8]) {
     );
 }
 
-fn flux_of(from: usize, end: usize, rows: usize, bins: usize, room: usize, shown: usize)
+fn flux_of(
+    rt: &impl Print,
+    from: usize,
+    end: usize,
+    rows: usize,
+    bins: usize,
+    room: usize,
+    shown: usize,
+)
     requires { (from ≤ end) × (end ≤ 28) × (room ≤ 26) }
 {
     let most = 85070591730234615865843651857942052864.0f32; // 2^126
@@ -112,27 +122,31 @@ fn flux_of(from: usize, end: usize, rows: usize, bins: usize, room: usize, shown
         0.0,
     ];
     let mut out = [9.0f64; 26];
-    run_show::small(flux::spectral_flux(&slab[from..end], rows, bins, &mut out[0..room]));
-    run_show::words(b",");
-    slots(&out, 0, shown);
-    run_show::end();
+    run_show::small(
+        rt,
+        flux::spectral_flux(&slab[from..end], rows, bins, &mut out[0..room]),
+    );
+    run_show::words(rt, b",");
+    slots(rt, &out, 0, shown);
+    run_show::end(rt);
 }
 
 // The slots from `from` to `to`, lent or not.
-fn slots(xs: &[f64; 26], from: usize, to: usize) {
-    part(xs, from, to);
+fn slots(rt: &impl Print, xs: &[f64; 26], from: usize, to: usize) {
+    part(rt, xs, from, to);
 }
 
-fn part(xs: &[f64], from: usize, to: usize) {
+fn part(rt: &impl Print, xs: &[f64], from: usize, to: usize) {
     let end = numbers::least(to, xs.len());
-    run_show::floats(&xs[numbers::least(from, end)..end]);
+    run_show::floats(rt, &xs[numbers::least(from, end)..end]);
 }
 
 // ---- threshold
 
 // A threshold may be larger than 2^150.
-fn thresholds() {
+fn thresholds(rt: &impl Print) {
     table(
+        rt,
         THRESHOLD,
         b"threshold of 25 slots in 26 with 22|0|25|26|22|26|21|22
 threshold of 25 slots in 25 with 21|0|25|25|21|26|21|22
@@ -152,9 +166,10 @@ threshold of nan, 0 with 1|33|35|3|1|3|2|2\n",
 }
 
 // The slots from (1) to (2), into the first (3) slots, with (4) to sort in; (5) slots are shown, and those to sort in from (6) to (7).
-fn threshold(line: &[u8]) {
+fn threshold(rt: &impl Print, line: &[u8]) {
     let end = run_cases::column_within(line, 2, 35);
     threshold_of(
+        rt,
         run_cases::column_within(line, 1, end),
         end,
         run_cases::column_within(line, 3, 26),
@@ -166,6 +181,7 @@ fn threshold(line: &[u8]) {
 }
 
 fn threshold_of(
+    rt: &impl Print,
     from: usize,
     end: usize,
     room: usize,
@@ -217,22 +233,22 @@ fn threshold_of(
     ];
     let mut out = [9.0f64; 26];
     let mut work = [9.0f64; 26];
-    run_show::small(threshold::adaptive_threshold(
-        &flux[from..end],
-        &mut out[0..room],
-        &mut work[0..sorting],
-    ));
-    run_show::words(b",");
-    slots(&out, 0, shown);
-    run_show::words(b", work");
-    slots(&work, kept, last);
-    run_show::end();
+    run_show::small(
+        rt,
+        threshold::adaptive_threshold(&flux[from..end], &mut out[0..room], &mut work[0..sorting]),
+    );
+    run_show::words(rt, b",");
+    slots(rt, &out, 0, shown);
+    run_show::words(rt, b", work");
+    slots(rt, &work, kept, last);
+    run_show::end(rt);
 }
 
 // ---- onsets
 
-fn onset_lists() {
+fn onset_lists(rt: &impl Print) {
     table(
+        rt,
         ONSETS,
         b"onsets at 48000|0|24|0|24|48000|26|26
 onsets at 8000|0|24|0|24|8000|26|26
@@ -260,10 +276,11 @@ onsets above nan|39|42|37|40|48000|3|3\n",
 }
 
 // The slots from (1) to (2) with the thresholds from (3) to (4), at rate (5), into the first (6) slots; (7) are shown.
-fn onsets(line: &[u8]) {
+fn onsets(rt: &impl Print, line: &[u8]) {
     let end = run_cases::column_within(line, 2, 45);
     let high = run_cases::column_within(line, 4, 40);
     onsets_of(
+        rt,
         run_cases::column_within(line, 1, end),
         end,
         run_cases::column_within(line, 3, high),
@@ -274,7 +291,16 @@ fn onsets(line: &[u8]) {
     );
 }
 
-fn onsets_of(from: usize, end: usize, low: usize, high: usize, rate: u32, room: usize, shown: usize)
+fn onsets_of(
+    rt: &impl Print,
+    from: usize,
+    end: usize,
+    low: usize,
+    high: usize,
+    rate: u32,
+    room: usize,
+    shown: usize,
+)
     requires { (from ≤ end) × (end ≤ 45) × (low ≤ high) × (high ≤ 40) × (room ≤ 26) }
 {
     let most = 1427247692705959881058285969449495136382746624.0f64; // 2^150
@@ -307,26 +333,27 @@ fn onsets_of(from: usize, end: usize, low: usize, high: usize, rate: u32, room: 
         rate,
         &mut frames[0..room],
     );
-    listing(r, &frames, shown);
+    listing(rt, r, &frames, shown);
 }
 
-fn listing(r: Listing, frames: &[u32; 26], shown: usize) {
-    run_show::small(r.number);
-    run_show::words(b" count");
-    run_show::count(r.count);
-    run_show::words(b",");
-    first(frames, shown);
-    run_show::end();
+fn listing(rt: &impl Print, r: Listing, frames: &[u32; 26], shown: usize) {
+    run_show::small(rt, r.number);
+    run_show::words(rt, b" count");
+    run_show::count(rt, r.count);
+    run_show::words(rt, b",");
+    first(rt, frames, shown);
+    run_show::end(rt);
 }
 
-fn first(frames: &[u32], shown: usize) {
-    run_show::smalls(&frames[0..numbers::least(shown, frames.len())]);
+fn first(rt: &impl Print, frames: &[u32], shown: usize) {
+    run_show::smalls(rt, &frames[0..numbers::least(shown, frames.len())]);
 }
 
 // ---- suppression
 
-fn suppressions() {
+fn suppressions(rt: &impl Print) {
     table(
+        rt,
         SUPPRESSION,
         b"M4: 10, 16, 22, gap 6|10|16|22|3|0|24|6|3|4
 10, 16, 22, gap 5|10|16|22|3|0|24|5|3|4
@@ -351,9 +378,10 @@ nan in 1 slot|1|2|0|2|57|60|9|1|2\n",
 }
 
 // The first (4) of the peaks (1) to (3), of the curve from (5) to (6), with gap (7), into the first (8) slots; (9) are shown.
-fn suppression(line: &[u8]) {
+fn suppression(rt: &impl Print, line: &[u8]) {
     let end = run_cases::column_within(line, 6, 60);
     suppression_of(
+        rt,
         run_cases::column_u32(line, 1),
         run_cases::column_u32(line, 2),
         run_cases::column_u32(line, 3),
@@ -367,6 +395,7 @@ fn suppression(line: &[u8]) {
 }
 
 fn suppression_of(
+    rt: &impl Print,
     p: u32,
     q: u32,
     r: u32,
@@ -451,13 +480,14 @@ fn suppression_of(
         gap,
         &mut frames[0..room],
     );
-    listing(kept, &frames, shown);
+    listing(rt, kept, &frames, shown);
 }
 
 // ---- times and gaps
 
-fn time_lists() {
+fn time_lists(rt: &impl Print) {
     table(
+        rt,
         TIMES,
         b"times at 48000|1048575|4|48000|5
 times at 44100|1048575|4|44100|5
@@ -473,8 +503,9 @@ times of 0 frames in 0 slots|1048576|0|48000|0\n",
 }
 
 // The first (2) of four frames, the last of them (1), at rate (3), into the first (4) of five slots.
-fn times(line: &[u8]) {
+fn times(rt: &impl Print, line: &[u8]) {
     times_of(
+        rt,
         run_cases::column_u32(line, 1),
         run_cases::column_within(line, 2, 4),
         run_cases::column_u32(line, 3),
@@ -482,19 +513,23 @@ fn times(line: &[u8]) {
     );
 }
 
-fn times_of(last: u32, many: usize, rate: u32, room: usize)
+fn times_of(rt: &impl Print, last: u32, many: usize, rate: u32, room: usize)
     requires { (many ≤ 4) × (room ≤ 26) }
 {
     let frames = [2u32, 0, 100, last];
     let mut ms = [9.0f64; 26];
-    run_show::small(onsets::frame_times(&frames[0..many], rate, &mut ms[0..room]));
-    run_show::words(b",");
-    slots(&ms, 0, 5);
-    run_show::end();
+    run_show::small(
+        rt,
+        onsets::frame_times(&frames[0..many], rate, &mut ms[0..room]),
+    );
+    run_show::words(rt, b",");
+    slots(rt, &ms, 0, 5);
+    run_show::end(rt);
 }
 
-fn gaps() {
+fn gaps(rt: &impl Print) {
     table(
+        rt,
         GAPS,
         b"gap at 1 is|1
 gap at 8533 is|8533
@@ -506,38 +541,38 @@ gap at 192000 is|192000\n",
 }
 
 // The gap at rate (1).
-fn gap(line: &[u8]) {
-    run_show::count(onsets::gap_of(run_cases::column_u32(line, 1)));
-    run_show::end();
+fn gap(rt: &impl Print, line: &[u8]) {
+    run_show::count(rt, onsets::gap_of(run_cases::column_u32(line, 1)));
+    run_show::end(rt);
 }
 
 // ---- the tables
 
-fn table(call: usize, lines: &[u8]) {
+fn table(rt: &impl Print, call: usize, lines: &[u8]) {
     let n = run_cases::marks(lines, b'\n');
     let mut k = 0;
     while k < n {
-        run(call, run_cases::part(lines, b'\n', k));
+        run(rt, call, run_cases::part(lines, b'\n', k));
         k += 1;
     }
 }
 
-fn run(call: usize, line: &[u8]) {
-    run_show::words(run_cases::part(line, b'|', 0));
+fn run(rt: &impl Print, call: usize, line: &[u8]) {
+    run_show::words(rt, run_cases::part(line, b'|', 0));
     if call == FLUX {
-        return flux(line);
+        return flux(rt, line);
     }
     if call == THRESHOLD {
-        return threshold(line);
+        return threshold(rt, line);
     }
     if call == ONSETS {
-        return onsets(line);
+        return onsets(rt, line);
     }
     if call == SUPPRESSION {
-        return suppression(line);
+        return suppression(rt, line);
     }
     if call == TIMES {
-        return times(line);
+        return times(rt, line);
     }
-    gap(line);
+    gap(rt, line);
 }

@@ -10,7 +10,7 @@ ghost use Rattle.std.specs.Prelude.{◌≤◌, ◌<◌, length};
 
 use patch_features::PatchedFeatures;
 
-#[derive(Drop)]
+#[derive(Clone, Copy)]
 struct State {
     features: [f64; 576],
     similarity: [f64; 614],
@@ -94,10 +94,10 @@ fn untouched_changed(old: &[f64; 614], new: &[f64; 614], a: usize, b: usize) -> 
     count
 }
 
-fn named(first: usize, past: usize) {
-    run_show::count(first);
-    run_show::words(b" to");
-    run_show::count(past);
+fn named(rt: &impl Print, first: usize, past: usize) {
+    run_show::count(rt, first);
+    run_show::words(rt, b" to");
+    run_show::count(rt, past);
 }
 
 // The slots that the answer names, of the similarity and of the novelty; where it refuses, none.
@@ -120,6 +120,7 @@ fn named_in(answer: PatchedFeatures) -> [usize; 4] {
 
 // The answer, and how many slots of the similarity and of the novelty changed outside what it names.
 fn told(
+    rt: &impl Print,
     answer: PatchedFeatures,
     old: &[f64; 614],
     similarity: &[f64; 614],
@@ -127,26 +128,26 @@ fn told(
     novelty: &[f64; 38],
 ) {
     let n = named_in(answer);
-    told_alone(answer);
-    run_show::words(b", similarity changed");
-    run_show::count(run_cases::changed(old, similarity, 0, 0));
-    run_show::words(b", changed outside");
-    run_show::count(run_cases::changed(old, similarity, n[0], n[1]));
-    run_show::count(run_cases::changed(old_novelty, novelty, n[2], n[3]));
+    told_alone(rt, answer);
+    run_show::words(rt, b", similarity changed");
+    run_show::count(rt, run_cases::changed(old, similarity, 0, 0));
+    run_show::words(rt, b", changed outside");
+    run_show::count(rt, run_cases::changed(old, similarity, n[0], n[1]));
+    run_show::count(rt, run_cases::changed(old_novelty, novelty, n[2], n[3]));
 }
 
 // How many slots of each curve differ from an analysis from nothing.
-fn compared(features: &[f64; 576], similarity: &[f64; 614], novelty: &[f64; 38]) {
+fn compared(rt: &impl Print, features: &[f64; 576], similarity: &[f64; 614], novelty: &[f64; 38]) {
     let fresh_similarity = similarity_of(features);
     let fresh_novelty = novelty_of(&fresh_similarity);
-    run_show::words(b", not fresh");
-    run_show::count(run_cases::changed(&fresh_similarity, similarity, 0, 0));
-    run_show::count(run_cases::changed(&fresh_novelty, novelty, 0, 0));
-    run_show::end();
+    run_show::words(rt, b", not fresh");
+    run_show::count(rt, run_cases::changed(&fresh_similarity, similarity, 0, 0));
+    run_show::count(rt, run_cases::changed(&fresh_novelty, novelty, 0, 0));
+    run_show::end(rt);
 }
 
 // One patch and its line; rows a up to b are those that it should replace, 0 and 0 where it should replace none.
-fn step(was: State, start: usize, new: &[f64], a: usize, b: usize) -> State
+fn step(rt: &impl Print, was: State, start: usize, new: &[f64], a: usize, b: usize) -> State
     requires { (a ≤ b) × (b ≤ 36) }
 {
     let first = a * 16;
@@ -165,14 +166,24 @@ fn step(was: State, start: usize, new: &[f64], a: usize, b: usize) -> State
         &mut similarity,
         &mut novelty,
     );
-    told(answer, &old_similarity, &similarity, &old_novelty, &novelty);
-    run_show::words(b", untouched");
-    run_show::count(untouched_changed(&old_similarity, &similarity, a, b));
-    run_show::words(b", not new");
-    run_show::count(run_cases::changed(&features[first..past], new, 0, 0));
-    run_show::words(b", features");
-    run_show::count(run_cases::changed(&old_features, &features, first, past));
-    compared(&features, &similarity, &novelty);
+    told(
+        rt,
+        answer,
+        &old_similarity,
+        &similarity,
+        &old_novelty,
+        &novelty,
+    );
+    run_show::words(rt, b", untouched");
+    run_show::count(rt, untouched_changed(&old_similarity, &similarity, a, b));
+    run_show::words(rt, b", not new");
+    run_show::count(rt, run_cases::changed(&features[first..past], new, 0, 0));
+    run_show::words(rt, b", features");
+    run_show::count(
+        rt,
+        run_cases::changed(&old_features, &features, first, past),
+    );
+    compared(rt, &features, &similarity, &novelty);
     State {
         features,
         similarity,
@@ -194,8 +205,9 @@ fn new_rows(seed: usize) -> [f64; 576] {
     rows
 }
 
-fn steps(was: State) -> State {
+fn steps(rt: &impl Print, was: State) -> State {
     each_step(
+        rt,
         was,
         b"step 0:|0|16|0|1|1|row 0
 step 1:|35|16|35|36|2|row 35
@@ -224,25 +236,25 @@ step 23:|33|16|33|34|16|row 33\n",
     )
 }
 
-fn each_step(was: State, lines: &[u8]) -> State {
+fn each_step(rt: &impl Print, was: State, lines: &[u8]) -> State {
     let n = run_cases::marks(lines, b'\n');
     let mut state = was;
     let mut k = 0;
     while k < n {
-        state = step_of(state, run_cases::part(lines, b'\n', k));
+        state = step_of(rt, state, run_cases::part(lines, b'\n', k));
         k += 1;
     }
     state
 }
 
 // From row (1) on so many new slots (2), which should replace the rows (3) up to (4); the new rows are those of seed (5).
-fn step_of(was: State, line: &[u8]) -> State {
+fn step_of(rt: &impl Print, was: State, line: &[u8]) -> State {
     let b = run_cases::column_within(line, 4, 36);
     let a = run_cases::column_within(line, 3, b);
     let n = run_cases::column_within(line, 2, 576);
     let rows = new_rows(run_cases::column(line, 5));
-    run_show::words(run_cases::part(line, b'|', 0));
-    step(was, run_cases::column(line, 1), &rows[0..n], a, b)
+    run_show::words(rt, run_cases::part(line, b'|', 0));
+    step(rt, was, run_cases::column(line, 1), &rows[0..n], a, b)
 }
 
 fn names_none(answer: PatchedFeatures) -> bool {
@@ -261,7 +273,7 @@ fn names_none(answer: PatchedFeatures) -> bool {
 }
 
 // Prints the place where an empty patch there names 0 to 0 and leaves all as it was.
-fn none_at(was: State, start: usize) {
+fn none_at(rt: &impl Print, was: State, start: usize) {
     let mut features = was.features;
     let mut similarity = was.similarity;
     let mut novelty = was.novelty;
@@ -274,7 +286,7 @@ fn none_at(was: State, start: usize) {
         &mut novelty,
     );
     if names_none(answer) && unchanged(was, features, similarity, novelty) {
-        run_show::count(start);
+        run_show::count(rt, start);
     }
 }
 
@@ -291,21 +303,21 @@ fn unchanged(was: State, features: [f64; 576], similarity: [f64; 614], novelty: 
     run_cases::changed(&old_novelty, &novelty, 0, 0) == 0
 }
 
-fn none_anywhere(was: State) {
-    run_show::words(b"none, nothing changed at");
+fn none_anywhere(rt: &impl Print, was: State) {
+    run_show::words(rt, b"none, nothing changed at");
     let mut start = 0;
     while start < 37 {
-        none_at(was, start);
+        none_at(rt, was, start);
         start += 1;
     }
-    run_show::end();
+    run_show::end(rt);
 }
 
-fn told_alone(answer: PatchedFeatures) {
+fn told_alone(rt: &impl Print, answer: PatchedFeatures) {
     match answer {
         PatchedFeatures::Refused(number) => {
-            run_show::words(b" refused");
-            run_show::small(number);
+            run_show::words(rt, b" refused");
+            run_show::small(rt, number);
         }
         PatchedFeatures::Wrote {
             similarity_first,
@@ -313,10 +325,10 @@ fn told_alone(answer: PatchedFeatures) {
             novelty_first,
             novelty_past,
         } => {
-            run_show::words(b" wrote");
-            named(similarity_first, similarity_past);
-            run_show::words(b" and");
-            named(novelty_first, novelty_past);
+            run_show::words(rt, b" wrote");
+            named(rt, similarity_first, similarity_past);
+            run_show::words(rt, b" and");
+            named(rt, novelty_first, novelty_past);
         }
     }
 }
@@ -324,10 +336,11 @@ fn told_alone(answer: PatchedFeatures) {
 // One row, its first old and new features (6) and (7), with lent curves that are not its own and begin with (8) and (9). (1) rows, start (2), (3) new
 // slots, and so many slots of each curve: (4) and (5). Shown are the answer, how many features changed, and the novelty with its slot that is not
 // lent.
-fn line(line: &[u8]) {
-    run_show::words(run_cases::part(line, b'|', 0));
+fn line(rt: &impl Print, line: &[u8]) {
+    run_show::words(rt, run_cases::part(line, b'|', 0));
     let new = row(value(line, 7));
     patched(
+        rt,
         line,
         row(value(line, 6)),
         &new[0..run_cases::column_within(line, 3, 16)],
@@ -345,19 +358,29 @@ fn value(line: &[u8], k: usize) -> f64 {
     run_cases::value(text[0])
 }
 
-fn patched(line: &[u8], was: [f64; 16], new: &[f64], was_pairs: [f64; 18], was_novelty: [f64; 2]) {
+fn patched(
+    rt: &impl Print,
+    line: &[u8],
+    was: [f64; 16],
+    new: &[f64],
+    was_pairs: [f64; 18],
+    was_novelty: [f64; 2],
+) {
     let mut features = was;
     let mut similarity = was_pairs;
     let mut novelty = was_novelty;
-    told_alone(patch_features::patch_features(
-        &mut features,
-        run_cases::column(line, 1),
-        run_cases::column(line, 2),
-        new,
-        &mut similarity[0..run_cases::column_within(line, 4, 18)],
-        &mut novelty[0..run_cases::column_within(line, 5, 2)],
-    ));
-    left(&was, &features, &novelty);
+    told_alone(
+        rt,
+        patch_features::patch_features(
+            &mut features,
+            run_cases::column(line, 1),
+            run_cases::column(line, 2),
+            new,
+            &mut similarity[0..run_cases::column_within(line, 4, 18)],
+            &mut novelty[0..run_cases::column_within(line, 5, 2)],
+        ),
+    );
+    left(rt, &was, &features, &novelty);
 }
 
 // A row of ones but for its first value.
@@ -375,25 +398,26 @@ fn pairs(first: f64) -> [f64; 18] {
     values
 }
 
-fn left(was: &[f64; 16], features: &[f64; 16], novelty: &[f64; 2]) {
-    run_show::words(b", features changed");
-    run_show::count(run_cases::changed(was, features, 0, 0));
-    run_show::words(b", novelty");
-    run_show::floats(novelty);
-    run_show::end();
+fn left(rt: &impl Print, was: &[f64; 16], features: &[f64; 16], novelty: &[f64; 2]) {
+    run_show::words(rt, b", features changed");
+    run_show::count(rt, run_cases::changed(was, features, 0, 0));
+    run_show::words(rt, b", novelty");
+    run_show::floats(rt, novelty);
+    run_show::end(rt);
 }
 
-fn each_line(lines: &[u8]) {
+fn each_line(rt: &impl Print, lines: &[u8]) {
     let n = run_cases::marks(lines, b'\n');
     let mut k = 0;
     while k < n {
-        line(run_cases::part(lines, b'\n', k));
+        line(rt, run_cases::part(lines, b'\n', k));
         k += 1;
     }
 }
 
-fn lines() {
+fn lines(rt: &impl Print) {
     each_line(
+        rt,
         b"room 0:|1|0|16|17|1|1|1|0|h|one row
 room 1:|1|0|16|18|2|1|1|0|h|more room
 room 2:|1|0|16|16|1|1|1|0|h|short similarity
@@ -420,8 +444,8 @@ value 12:|1|0|16|17|1|1|a|0|h|new above 2^150\n",
     );
 }
 
-fn main() {
-    let s = steps(analysed());
-    none_anywhere(s);
-    lines();
+fn main(rt: HostRuntime) {
+    let s = steps(&rt, analysed());
+    none_anywhere(&rt, s);
+    lines(&rt);
 }

@@ -11,18 +11,18 @@ ghost use Rattle.std.specs.Prelude.{◌≤◌};
 
 use patch_magnitudes::Patched;
 
-#[derive(Drop)]
+#[derive(Clone, Copy)]
 struct State {
     magnitudes: [f32; 60],
     flux: [f64; 32],
     threshold: [f64; 32],
 }
 
-fn main() {
-    let s = steps(analysed());
-    none_anywhere(s);
-    lines();
-    widest();
+fn main(rt: HostRuntime) {
+    let s = steps(&rt, analysed());
+    none_anywhere(&rt, s);
+    lines(&rt);
+    widest(&rt);
 }
 
 // Slot 31 is no number: slots beyond the curve are not read.
@@ -123,10 +123,10 @@ fn changed(old: &[f64; 32], new: &[f64; 32], first: usize, past: usize) -> usize
     run_cases::changed(old, new, first, past)
 }
 
-fn named(first: usize, past: usize) {
-    run_show::count(first);
-    run_show::words(b" to");
-    run_show::count(past);
+fn named(rt: &impl Print, first: usize, past: usize) {
+    run_show::count(rt, first);
+    run_show::words(rt, b" to");
+    run_show::count(rt, past);
 }
 
 // The slots that the answer names, of the flux and of the threshold; where it refuses, none.
@@ -144,6 +144,7 @@ fn named_in(answer: Patched) -> [usize; 4] {
 
 // The answer, and how many slots of the flux and of the threshold changed outside what it names.
 fn told(
+    rt: &impl Print,
     answer: Patched,
     old: &[f64; 32],
     flux: &[f64; 32],
@@ -151,34 +152,34 @@ fn told(
     threshold: &[f64; 32],
 ) {
     let n = named_in(answer);
-    told_alone(answer);
-    run_show::words(b", flux changed");
-    run_show::count(changed(old, flux, 0, 0));
-    run_show::words(b", changed outside");
-    run_show::count(changed(old, flux, n[0], n[1]));
-    run_show::count(changed(old_threshold, threshold, n[2], n[3]));
+    told_alone(rt, answer);
+    run_show::words(rt, b", flux changed");
+    run_show::count(rt, changed(old, flux, 0, 0));
+    run_show::words(rt, b", changed outside");
+    run_show::count(rt, changed(old, flux, n[0], n[1]));
+    run_show::count(rt, changed(old_threshold, threshold, n[2], n[3]));
 }
 
 // How many magnitudes changed outside the rows replaced.
-fn kept(old: &[f32; 60], magnitudes: &[f32; 60], at: usize, past: usize) {
-    run_show::words(b", magnitudes");
-    run_show::count(magnitudes_changed(old, magnitudes, at, past));
+fn kept(rt: &impl Print, old: &[f32; 60], magnitudes: &[f32; 60], at: usize, past: usize) {
+    run_show::words(rt, b", magnitudes");
+    run_show::count(rt, magnitudes_changed(old, magnitudes, at, past));
 }
 
 // How many slots of each curve differ from an analysis from nothing.
-fn compared(magnitudes: &[f32; 60], flux: &[f64; 32], threshold: &[f64; 32]) {
+fn compared(rt: &impl Print, magnitudes: &[f32; 60], flux: &[f64; 32], threshold: &[f64; 32]) {
     let fresh = flux_of(magnitudes);
-    run_show::words(b", not fresh");
-    run_show::count(changed(&fresh, flux, 0, 0));
+    run_show::words(rt, b", not fresh");
+    run_show::count(rt, changed(&fresh, flux, 0, 0));
     let fresh_threshold = threshold_of(&fresh);
-    run_show::count(changed(&fresh_threshold, threshold, 0, 0));
-    run_show::end();
+    run_show::count(rt, changed(&fresh_threshold, threshold, 0, 0));
+    run_show::end(rt);
 }
 
 // ---- steps
 
 // One patch and its line; `at` and `past` are the slots of the rows that it replaces, 0 and 0 where it should replace none.
-fn step(was: State, start: usize, new: &[f32], at: usize, past: usize) -> State
+fn step(rt: &impl Print, was: State, start: usize, new: &[f32], at: usize, past: usize) -> State
     requires { (at ≤ past) × (past ≤ 60) }
 {
     let old_magnitudes = was.magnitudes;
@@ -198,11 +199,11 @@ fn step(was: State, start: usize, new: &[f32], at: usize, past: usize) -> State
         &mut threshold,
         &mut work,
     );
-    told(answer, &old_flux, &flux, &old_threshold, &threshold);
-    run_show::words(b", not new");
-    run_show::count(magnitudes_changed(&magnitudes[at..past], new, 0, 0));
-    kept(&old_magnitudes, &magnitudes, at, past);
-    compared(&magnitudes, &flux, &threshold);
+    told(rt, answer, &old_flux, &flux, &old_threshold, &threshold);
+    run_show::words(rt, b", not new");
+    run_show::count(rt, magnitudes_changed(&magnitudes[at..past], new, 0, 0));
+    kept(rt, &old_magnitudes, &magnitudes, at, past);
+    compared(rt, &magnitudes, &flux, &threshold);
     State {
         magnitudes,
         flux,
@@ -211,14 +212,15 @@ fn step(was: State, start: usize, new: &[f32], at: usize, past: usize) -> State
 }
 
 // From row (1) on the rows that (2) spells; the slots (3) up to (4) are those of the rows that it should replace.
-fn step_of(was: State, line: &[u8]) -> State {
+fn step_of(rt: &impl Print, was: State, line: &[u8]) -> State {
     let text = run_cases::part(line, b'|', 2);
     let past = run_cases::column_within(line, 4, 60);
     let at = run_cases::column_within(line, 3, past);
     let mut values = [0.0f32; 60];
     spell(text, &mut values);
-    run_show::words(run_cases::part(line, b'|', 0));
+    run_show::words(rt, run_cases::part(line, b'|', 0));
     step(
+        rt,
         was,
         run_cases::column(line, 1),
         &values[0..numbers::least(text.len(), 60)],
@@ -227,38 +229,39 @@ fn step_of(was: State, line: &[u8]) -> State {
     )
 }
 
-fn each_step(was: State, lines: &[u8]) -> State {
+fn each_step(rt: &impl Print, was: State, lines: &[u8]) -> State {
     let n = run_cases::marks(lines, b'\n');
     let mut state = was;
     let mut k = 0;
     while k < n {
-        state = step_of(state, run_cases::part(lines, b'\n', k));
+        state = step_of(rt, state, run_cases::part(lines, b'\n', k));
         k += 1;
     }
     state
 }
 
-fn steps(was: State) -> State {
+fn steps(rt: &impl Print, was: State) -> State {
     each_step(
+        rt,
         was,
         b"step 0:|0|Bm|0|2|row 0
 step 1:|29|AA|58|60|row 29
 step 2:|14|Bm|28|30|row 14
 step 3:|10|BGA``B|20|26|rows 10 to 12
 step 4:|0|ADMCAADMCAADMCAAdmCAADMCAADMCAADMCaadMCAADMCAADMCAaDMCAADMCA|0|60|whole track
-step 5:|20|m_gGm_a`BABAG`B`m_am_bAB|40|60|rows 20 to 29
+step 5:|20|mGGmA`BABAG`B`mAmBAB|40|60|rows 20 to 29
 step 6:|0||0|0|none at 0
 step 7:|1||0|0|none at 1
 step 8:|14||0|0|none at 14
 step 9:|29||0|0|none at 29
 step 10:|30||0|0|none at 30
 step 11:|31||0|0|none at 31
-step 12:|3|m_a`G|6|10|rows 3 and 4
+step 12:|3|mA`G|6|10|rows 3 and 4
 step 13:|5|GB`A|10|14|rows 5 and 6
 step 14:|5|BG`BBAAB|10|18|rows 5 to 8
-step 15:|7|`m_gGBBAG|14|22|rows 7 to 10
-step 16:|7|`m_gGBBAG|14|22|rows 7 to 10 again
-step 17:|1|m_a|2|4|row 1
+step 15:|7|`mGGBBAG|14|22|rows 7 to 10
+step 16:|7|`mGGBBAG|14|22|rows 7 to 10 again
+step 17:|1|mA|2|4|row 1
 step 18:|31|`m|0|0|start 31
 step 19:|2|`G|4|6|row 2
 step 20:|5|GGE|0|0|half a row
@@ -285,7 +288,7 @@ fn names_none(answer: Patched) -> bool {
 }
 
 // Prints the place where an empty patch there names 0 to 0 and leaves all as it was.
-fn none_at(was: State, start: usize) {
+fn none_at(rt: &impl Print, was: State, start: usize) {
     let mut magnitudes = was.magnitudes;
     let mut flux = was.flux;
     let mut threshold = was.threshold;
@@ -301,7 +304,7 @@ fn none_at(was: State, start: usize) {
         &mut work,
     );
     if names_none(answer) && unchanged(was, magnitudes, flux, threshold) {
-        run_show::count(start);
+        run_show::count(rt, start);
     }
 }
 
@@ -318,23 +321,23 @@ fn unchanged(was: State, magnitudes: [f32; 60], flux: [f64; 32], threshold: [f64
     changed(&old_threshold, &threshold, 0, 0) == 0
 }
 
-fn none_anywhere(was: State) {
-    run_show::words(b"none, nothing changed at");
+fn none_anywhere(rt: &impl Print, was: State) {
+    run_show::words(rt, b"none, nothing changed at");
     let mut start = 0;
     while start < 31 {
-        none_at(was, start);
+        none_at(rt, was, start);
         start += 1;
     }
-    run_show::end();
+    run_show::end(rt);
 }
 
 // ---- rooms and values
 
-fn told_alone(answer: Patched) {
+fn told_alone(rt: &impl Print, answer: Patched) {
     match answer {
         Patched::Refused(number) => {
-            run_show::words(b" refused");
-            run_show::small(number);
+            run_show::words(rt, b" refused");
+            run_show::small(rt, number);
         }
         Patched::Wrote {
             flux_first,
@@ -342,10 +345,10 @@ fn told_alone(answer: Patched) {
             threshold_first,
             threshold_past,
         } => {
-            run_show::words(b" wrote");
-            named(flux_first, flux_past);
-            run_show::words(b" and");
-            named(threshold_first, threshold_past);
+            run_show::words(rt, b" wrote");
+            named(rt, flux_first, flux_past);
+            run_show::words(rt, b" and");
+            named(rt, threshold_first, threshold_past);
         }
     }
 }
@@ -353,11 +356,12 @@ fn told_alone(answer: Patched) {
 // A track of 3 rows of 1 bin, with lent curves that are not its own: the rows that (4) spells and the new one that (5) spells, the flux (6) and the
 // threshold (7). (1) rows, (2) bins, start (3), (8) new slots, and so many slots lent: (9) of the flux, (10) of the threshold and (11) of the work
 // slice. Shown are the answer, how many rows changed, the four slots that the flux is lent from, and the two behind the three that are sorted in.
-fn line(line: &[u8]) {
-    run_show::words(run_cases::part(line, b'|', 0));
+fn line(rt: &impl Print, line: &[u8]) {
+    run_show::words(rt, run_cases::part(line, b'|', 0));
     let was = rows_of(run_cases::part(line, b'|', 4));
     let new = rows_of(run_cases::part(line, b'|', 5));
     patched(
+        rt,
         line,
         was,
         &new[0..run_cases::column_within(line, 8, 1)],
@@ -378,46 +382,57 @@ fn curve_of(text: &[u8]) -> [f64; 4] {
     curve
 }
 
-fn patched(line: &[u8], was: [f32; 3], new: &[f32], was_flux: [f64; 4], was_threshold: [f64; 4]) {
+fn patched(
+    rt: &impl Print,
+    line: &[u8],
+    was: [f32; 3],
+    new: &[f32],
+    was_flux: [f64; 4],
+    was_threshold: [f64; 4],
+) {
     let mut magnitudes = was;
     let mut flux = was_flux;
     let mut threshold = was_threshold;
     let mut work = [7.0f64; 5];
-    told_alone(patch_magnitudes::patch_magnitudes(
-        &mut magnitudes,
-        run_cases::column(line, 1),
-        run_cases::column(line, 2),
-        run_cases::column(line, 3),
-        new,
-        &mut flux[0..run_cases::column_within(line, 9, 4)],
-        &mut threshold[0..run_cases::column_within(line, 10, 4)],
-        &mut work[0..run_cases::column_within(line, 11, 5)],
-    ));
-    left(&was, &magnitudes, &flux, &work);
+    told_alone(
+        rt,
+        patch_magnitudes::patch_magnitudes(
+            &mut magnitudes,
+            run_cases::column(line, 1),
+            run_cases::column(line, 2),
+            run_cases::column(line, 3),
+            new,
+            &mut flux[0..run_cases::column_within(line, 9, 4)],
+            &mut threshold[0..run_cases::column_within(line, 10, 4)],
+            &mut work[0..run_cases::column_within(line, 11, 5)],
+        ),
+    );
+    left(rt, &was, &magnitudes, &flux, &work);
 }
 
-fn left(was: &[f32; 3], magnitudes: &[f32; 3], flux: &[f64; 4], work: &[f64; 5]) {
-    run_show::words(b", rows changed");
-    run_show::count(magnitudes_changed(was, magnitudes, 0, 0));
-    run_show::words(b", flux");
-    run_show::floats(flux);
-    run_show::words(b", work behind");
-    run_show::float(work[3]);
-    run_show::float(work[4]);
-    run_show::end();
+fn left(rt: &impl Print, was: &[f32; 3], magnitudes: &[f32; 3], flux: &[f64; 4], work: &[f64; 5]) {
+    run_show::words(rt, b", rows changed");
+    run_show::count(rt, magnitudes_changed(was, magnitudes, 0, 0));
+    run_show::words(rt, b", flux");
+    run_show::floats(rt, flux);
+    run_show::words(rt, b", work behind");
+    run_show::float(rt, work[3]);
+    run_show::float(rt, work[4]);
+    run_show::end(rt);
 }
 
-fn each_line(lines: &[u8]) {
+fn each_line(rt: &impl Print, lines: &[u8]) {
     let n = run_cases::marks(lines, b'\n');
     let mut k = 0;
     while k < n {
-        line(run_cases::part(lines, b'\n', k));
+        line(rt, run_cases::part(lines, b'\n', k));
         k += 1;
     }
 }
 
-fn lines() {
+fn lines(rt: &impl Print) {
     each_line(
+        rt,
         b"room 0:|3|1|1|AAU|I|000n|0000|1|3|3|3|row 1
 room 1:|3|1|1|AAU|I|000n|0000|1|4|4|4|more room
 room 2:|3|1|1|AAU|I|000n|0000|1|2|3|3|short flux
@@ -451,31 +466,34 @@ value 12:|3|1|1|A2U|I|000n|0000|1|3|3|5|old above 2^126\n",
 // ---- the widest rows
 
 // Two rows of 4,096 bins, the second replaced by ones.
-fn widest() {
+fn widest(rt: &impl Print) {
     let mut magnitudes = [0.0f32; 8192];
     let new = [1.0f32; 4096];
     let mut flux = [0.0f64; 2];
     let mut threshold = [0.0f64; 2];
     let mut work = [0.0f64; 2];
-    run_show::words(b"4,096 bins:");
-    told_alone(patch_magnitudes::patch_magnitudes(
-        &mut magnitudes,
-        2,
-        4096,
-        1,
-        &new,
-        &mut flux,
-        &mut threshold,
-        &mut work,
-    ));
-    wide(&magnitudes, &new, &flux);
+    run_show::words(rt, b"4,096 bins:");
+    told_alone(
+        rt,
+        patch_magnitudes::patch_magnitudes(
+            &mut magnitudes,
+            2,
+            4096,
+            1,
+            &new,
+            &mut flux,
+            &mut threshold,
+            &mut work,
+        ),
+    );
+    wide(rt, &magnitudes, &new, &flux);
 }
 
-fn wide(magnitudes: &[f32; 8192], new: &[f32; 4096], flux: &[f64; 2]) {
+fn wide(rt: &impl Print, magnitudes: &[f32; 8192], new: &[f32; 4096], flux: &[f64; 2]) {
     let rows = &magnitudes[..];
-    run_show::words(b", not new");
-    run_show::count(magnitudes_changed(&rows[4096..8192], new, 0, 0));
-    run_show::words(b", flux");
-    run_show::floats(flux);
-    run_show::end();
+    run_show::words(rt, b", not new");
+    run_show::count(rt, magnitudes_changed(&rows[4096..8192], new, 0, 0));
+    run_show::words(rt, b", flux");
+    run_show::floats(rt, flux);
+    run_show::end(rt);
 }

@@ -16,21 +16,22 @@ const TIMES: usize = 2;
 
 const GAPS: usize = 3;
 
-fn main() {
-    hills();
-    others();
-    values();
-    longest();
-    too_long();
-    time_lists();
-    gaps();
+fn main(rt: HostRuntime) {
+    hills(&rt);
+    others(&rt);
+    values(&rt);
+    longest(&rt);
+    too_long(&rt);
+    time_lists(&rt);
+    gaps(&rt);
 }
 
 // ---- boundaries
 
 // Curves with up to seven peaks: 5, 7, 5, 9, 7, 5 and 3.
-fn hills() {
+fn hills(rt: &impl Print) {
     table(
+        rt,
         BOUNDARIES,
         b"hills, at most 10 sections|015h07105q09h070150h30h0|192000|48000|10|26|26
 at most 9|015h07105q09h070150h30h0|192000|48000|9|26|26
@@ -74,8 +75,9 @@ length 0 in 23 slots|015h07105q09h070150h30h0|0|48000|10|23|26\n",
 }
 
 // The last two have the median 2 and the threshold 5.
-fn others() {
+fn others(rt: &impl Print) {
     table(
+        rt,
         BOUNDARIES,
         b"three thirds, held to 1|00t0000t0000t000|192000|48000|10|26|26
 two of three thirds|00t0000t0000t000|192000|48000|3|26|26
@@ -86,8 +88,9 @@ a peak above the threshold|020202020u020202|192000|48000|10|26|26\n",
     );
 }
 
-fn values() {
+fn values(rt: &impl Print) {
     table(
+        rt,
         BOUNDARIES,
         b"2^150 and -2^150|000b00000c000000|192000|48000|10|26|26
 the next above 2^150|000a000000000000|192000|48000|10|26|26
@@ -101,11 +104,12 @@ a nan in 15 rows|000000000n00000|192000|48000|10|26|26\n",
 }
 
 // The curve that (1) spells, (2) samples at rate (3), at most (4) sections, the first (5) slots of rows and (6) of work.
-fn boundaries(line: &[u8]) {
+fn boundaries(rt: &impl Print, line: &[u8]) {
     let text = run_cases::part(line, b'|', 1);
     let mut curve = [0.0f64; 24];
     run_cases::spell(text, &mut curve);
     boundaries_of(
+        rt,
         &curve[0..numbers::least(text.len(), 24)],
         run_cases::column(line, 2) as u64,
         run_cases::column_u32(line, 3),
@@ -115,7 +119,15 @@ fn boundaries(line: &[u8]) {
     );
 }
 
-fn boundaries_of(novelty: &[f64], samples: u64, rate: u32, most: usize, room: usize, space: usize)
+fn boundaries_of(
+    rt: &impl Print,
+    novelty: &[f64],
+    samples: u64,
+    rate: u32,
+    most: usize,
+    room: usize,
+    space: usize,
+)
     requires { (room ≤ 26) × (space ≤ 26) }
 {
     let mut rows = [777u32; 26];
@@ -128,23 +140,23 @@ fn boundaries_of(novelty: &[f64], samples: u64, rate: u32, most: usize, room: us
         &mut rows[0..room],
         &mut work[0..space],
     );
-    told(a, novelty.len(), &rows, &work);
+    told(rt, a, novelty.len(), &rows, &work);
 }
 
-fn told(a: Sections, n: usize, rows: &[u32; 26], work: &[f64; 26]) {
-    answer(a);
-    run_show::words(b", rows");
-    run_show::smalls(rows);
-    run_show::words(b", kept");
-    slots(work, open_slots(a, n), 26);
-    run_show::end();
+fn told(rt: &impl Print, a: Sections, n: usize, rows: &[u32; 26], work: &[f64; 26]) {
+    answer(rt, a);
+    run_show::words(rt, b", rows");
+    run_show::smalls(rt, rows);
+    run_show::words(rt, b", kept");
+    slots(rt, work, open_slots(a, n), 26);
+    run_show::end(rt);
 }
 
-fn answer(a: Sections) {
-    run_show::small(a.number);
-    run_show::count(a.sections);
-    run_show::count(a.count);
-    run_show::float(a.confidence);
+fn answer(rt: &impl Print, a: Sections) {
+    run_show::small(rt, a.number);
+    run_show::count(rt, a.sections);
+    run_show::count(rt, a.count);
+    run_show::float(rt, a.confidence);
 }
 
 // How many slots of the work slice are left open.
@@ -153,26 +165,29 @@ fn open_slots(a: Sections, n: usize) -> usize {
 }
 
 // The slots from `from` to `to`, lent or not.
-fn slots(xs: &[f64], from: usize, to: usize) {
+fn slots(rt: &impl Print, xs: &[f64], from: usize, to: usize) {
     let end = numbers::least(to, xs.len());
-    run_show::floats(&xs[numbers::least(from, end)..end]);
+    run_show::floats(rt, &xs[numbers::least(from, end)..end]);
 }
 
 // 50,000 rows, with one peak.
-fn longest() {
+fn longest(rt: &impl Print) {
     let mut curve = [0.0f64; 50000];
     set(&mut curve, 49997, 5.0);
     let mut rows = [777u32; 50001];
     let mut work = [9.0f64; 50001];
-    run_show::words(b"50000 rows");
-    answer(sections::boundaries(&curve, 192000, 48000, 10, &mut rows, &mut work));
-    first_two(&rows);
+    run_show::words(rt, b"50000 rows");
+    answer(
+        rt,
+        sections::boundaries(&curve, 192000, 48000, 10, &mut rows, &mut work),
+    );
+    first_two(rt, &rows);
 }
 
-fn first_two(rows: &[u32; 50001]) {
-    run_show::small(rows[0]);
-    run_show::small(rows[1]);
-    run_show::end();
+fn first_two(rt: &impl Print, rows: &[u32; 50001]) {
+    run_show::small(rt, rows[0]);
+    run_show::small(rt, rows[1]);
+    run_show::end(rt);
 }
 
 fn set(curve: &mut [f64], row: usize, x: f64) {
@@ -181,19 +196,23 @@ fn set(curve: &mut [f64], row: usize, x: f64) {
     }
 }
 
-fn too_long() {
+fn too_long(rt: &impl Print) {
     let curve = [0.0f64; 50001];
     let mut rows = [777u32; 50001];
     let mut work = [9.0f64; 50001];
-    run_show::words(b"50001 rows");
-    answer(sections::boundaries(&curve, 192000, 48000, 10, &mut rows, &mut work));
-    run_show::end();
+    run_show::words(rt, b"50001 rows");
+    answer(
+        rt,
+        sections::boundaries(&curve, 192000, 48000, 10, &mut rows, &mut work),
+    );
+    run_show::end(rt);
 }
 
 // ---- times
 
-fn time_lists() {
+fn time_lists(rt: &impl Print) {
     table(
+        rt,
         TIMES,
         b"times|0|4|24000|48000|4
 times in 6 slots|0|4|24000|48000|6
@@ -213,9 +232,10 @@ times at length 2147483648, rate 192000|6|8|2147483648|192000|2\n",
 }
 
 // The rows from (1) to (2), (3) samples at rate (4), into the first (5) of six slots.
-fn times(line: &[u8]) {
+fn times(rt: &impl Print, line: &[u8]) {
     let end = run_cases::column_within(line, 2, 8);
     times_of(
+        rt,
         run_cases::column_within(line, 1, end),
         end,
         run_cases::column(line, 3) as u64,
@@ -224,25 +244,29 @@ fn times(line: &[u8]) {
     );
 }
 
-fn times_of(from: usize, end: usize, samples: u64, rate: u32, room: usize)
+fn times_of(rt: &impl Print, from: usize, end: usize, samples: u64, rate: u32, room: usize)
     requires { (from ≤ end) × (end ≤ 8) × (room ≤ 6) }
 {
     let rows = [0u32, 3, 49999, 1, 0, 50000, 1, 49999];
     let mut ms = [9.0f64; 6];
-    run_show::small(sections::boundary_times(&rows[from..end], samples, rate, &mut ms[0..room]));
-    six(&ms);
+    run_show::small(
+        rt,
+        sections::boundary_times(&rows[from..end], samples, rate, &mut ms[0..room]),
+    );
+    six(rt, &ms);
 }
 
-fn six(ms: &[f64; 6]) {
-    run_show::words(b",");
-    run_show::floats(ms);
-    run_show::end();
+fn six(rt: &impl Print, ms: &[f64; 6]) {
+    run_show::words(rt, b",");
+    run_show::floats(rt, ms);
+    run_show::end(rt);
 }
 
 // ---- inner calls
 
-fn gaps() {
+fn gaps(rt: &impl Print) {
     table(
+        rt,
         GAPS,
         b"gap 1 1|1|1
 gap 1 192000|1|192000
@@ -258,32 +282,32 @@ gap 11025 44100|11025|44100\n",
 }
 
 // The gap of (1) samples at rate (2).
-fn gap(line: &[u8]) {
+fn gap(rt: &impl Print, line: &[u8]) {
     let samples = run_cases::column(line, 1) as u64;
     let rate = run_cases::column_u32(line, 2);
-    run_show::count(sections::section_gap(samples, rate));
-    run_show::float(sections::frame_ms(samples, rate));
-    run_show::end();
+    run_show::count(rt, sections::section_gap(samples, rate));
+    run_show::float(rt, sections::frame_ms(samples, rate));
+    run_show::end(rt);
 }
 
 // ---- the tables
 
-fn table(call: usize, lines: &[u8]) {
+fn table(rt: &impl Print, call: usize, lines: &[u8]) {
     let n = run_cases::marks(lines, b'\n');
     let mut k = 0;
     while k < n {
-        run(call, run_cases::part(lines, b'\n', k));
+        run(rt, call, run_cases::part(lines, b'\n', k));
         k += 1;
     }
 }
 
-fn run(call: usize, line: &[u8]) {
-    run_show::words(run_cases::part(line, b'|', 0));
+fn run(rt: &impl Print, call: usize, line: &[u8]) {
+    run_show::words(rt, run_cases::part(line, b'|', 0));
     if call == TIMES {
-        return times(line);
+        return times(rt, line);
     }
     if call == GAPS {
-        return gap(line);
+        return gap(rt, line);
     }
-    boundaries(line);
+    boundaries(rt, line);
 }

@@ -3,63 +3,60 @@
 // A write that fails is not told: the comparison then does.
 #![tactic(auto)]
 
-use libc::STDOUT_FILENO;
-
-pub fn words(text: &[u8]) {
-    io::write_all(STDOUT_FILENO, text);
+pub fn words(rt: &impl Print, text: &[u8]) {
+    let _ = rt.write_all(text);
 }
 
 // The line ends.
-pub fn end() {
-    words(b"\n");
+pub fn end(rt: &impl Print) {
+    words(rt, b"\n");
 }
 
 // A space, then the number in decimal.
-pub fn number(n: u64) {
-    words(b" ");
-    io::print_decimal(STDOUT_FILENO, n);
+pub fn number(rt: &impl Print, n: u64) {
+    let _ = print!(rt; " {n}");
 }
 
 // A frame, a lag, a refusal.
-pub fn small(n: u32) {
-    number(n as u64);
+pub fn small(rt: &impl Print, n: u32) {
+    number(rt, n as u64);
 }
 
 // A count.
-pub fn count(n: usize) {
-    number(n as u64);
+pub fn count(rt: &impl Print, n: usize) {
+    number(rt, n as u64);
 }
 
 // A space, then the float's sixty-four bits in hexadecimal, or nan.
-pub fn float(x: f64) {
-    if x != x {
-        words(b" nan");
+pub fn float(rt: &impl Print, x: f64) {
+    if x.is_nan() {
+        words(rt, b" nan");
         return;
     }
-    words(b" ");
-    io::print_hex(STDOUT_FILENO, f64::to_bits(x), 16);
+    let bits = x.to_bits();
+    let _ = print!(rt; " {bits:016x}");
 }
 
-pub fn floats(xs: &[f64]) {
+pub fn floats(rt: &impl Print, xs: &[f64]) {
     let mut i = 0;
     while i < xs.len() {
-        float(xs[i]);
+        float(rt, xs[i]);
         i += 1;
     }
 }
 
-pub fn smalls(xs: &[u32]) {
+pub fn smalls(rt: &impl Print, xs: &[u32]) {
     let mut i = 0;
     while i < xs.len() {
-        small(xs[i]);
+        small(rt, xs[i]);
         i += 1;
     }
 }
 
-pub fn counts(xs: &[usize]) {
+pub fn counts(rt: &impl Print, xs: &[usize]) {
     let mut i = 0;
     while i < xs.len() {
-        count(xs[i]);
+        count(rt, xs[i]);
         i += 1;
     }
 }

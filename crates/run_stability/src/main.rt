@@ -8,20 +8,21 @@ ghost use Rattle.std.specs.Prelude.{◌≤◌};
 use options::TempoOpts;
 use stability::{Stability, Steadiness};
 
-fn main() {
-    windows();
-    contents();
-    bounds();
-    values();
-    rooms();
-    envelopes();
+fn main(rt: HostRuntime) {
+    windows(&rt);
+    contents(&rt);
+    bounds(&rt);
+    values(&rt);
+    rooms(&rt);
+    envelopes(&rt);
 }
 
 // ---- the cases
 
 // rate 512, defaults: lags 1 to 4
-fn windows() {
+fn windows(rt: &impl Print) {
     table(
+        rt,
         b"030103010301031030030030030030",
         PAST_LAGS,
         b"no slots:|0|0|512|0|4|5|5|5
@@ -41,8 +42,9 @@ whole lag 45,000:|0|30|512|0|45000|5|5|5\n",
     );
 }
 
-fn contents() {
+fn contents(rt: &impl Print) {
     table(
+        rt,
         b"000000000000000000000000ffffffffffffffffffffffff010101010101000000000000z1z1z1zzzzzzzzzzzzz1z1z1",
         PAST_LAGS,
         b"all zero:|0|24|512|0|2|5|5|5
@@ -52,8 +54,9 @@ two windows of -0:|72|96|512|0|4|5|5|5\n",
     );
 }
 
-fn bounds() {
+fn bounds(rt: &impl Print) {
     table(
+        rt,
         b"030103010301",
         ALL_FIVE,
         b"whole lag 45,001:|0|12|512|0|45001|5|5|5
@@ -66,8 +69,9 @@ lower bound a NaN:|0|12|512|3|4|5|5|5\n",
     );
 }
 
-fn values() {
+fn values(rt: &impl Print) {
     table(
+        rt,
         b"03010301030nj3010301030103010301030a",
         ALL_FIVE,
         b"a NaN:|0|12|512|0|4|5|5|5
@@ -80,8 +84,9 @@ too little room and whole lag 45,001:|0|12|512|0|45001|3|3|3\n",
     );
 }
 
-fn rooms() {
+fn rooms(rt: &impl Print) {
     table(
+        rt,
         b"030103010301",
         NOTHING,
         b"just enough room:|0|12|512|0|4|4|4|4
@@ -93,8 +98,9 @@ work one short for no slots:|0|0|512|0|4|4|4|3\n",
 }
 
 // rate 2,560, defaults: lags 2 to 20
-fn envelopes() {
+fn envelopes(rt: &impl Print) {
     table(
+        rt,
         b"17100160110601106000060171001700117011070001611600000111160110110106006011001601101160110007",
         NOTHING,
         b"periods 5, 5, 10 and 7, whole lag 5:|0|92|2560|0|5|19|19|19
@@ -107,6 +113,7 @@ periods 5, 5, 10 and 7, whole lag 14:|0|92|2560|0|14|19|19|19
 periods 5, 5, 10 and 7, whole lag 4:|0|92|2560|0|4|19|19|19\n",
     );
     table(
+        rt,
         b"0070000000700000007000007000000000000000700000700070007000700070000070000000070000000070",
         NOTHING,
         b"periods 8, 16, 4 and 9, whole lag 8:|0|88|2560|0|8|19|19|19
@@ -120,6 +127,7 @@ periods 8, 16, 4 and 9, whole lag 19:|0|88|2560|0|19|19|19|19
 periods 8, 16, 4 and 9, whole lag 32:|0|88|2560|0|32|19|19|19\n",
     );
     table(
+        rt,
         b"7850255171607909669091111465697778188049170317974054293825773564363363953227501421774366875975104904",
         NOTHING,
         b"noise, whole lag 5:|0|100|2560|0|5|19|19|19
@@ -139,27 +147,28 @@ const PAST_LAGS: usize = 4;
 
 const NOTHING: usize = 5;
 
-fn table(text: &[u8], shown: usize, lines: &[u8]) {
+fn table(rt: &impl Print, text: &[u8], shown: usize, lines: &[u8]) {
     let mut envelope = [0.0f64; 100];
     run_cases::spell(text, &mut envelope);
-    each(&envelope, shown, lines);
+    each(rt, &envelope, shown, lines);
 }
 
-fn each(envelope: &[f64], shown: usize, lines: &[u8]) {
+fn each(rt: &impl Print, envelope: &[f64], shown: usize, lines: &[u8]) {
     let n = run_cases::marks(lines, b'\n');
     let mut k = 0;
     while k < n {
-        run(envelope, shown, run_cases::part(lines, b'\n', k));
+        run(rt, envelope, shown, run_cases::part(lines, b'\n', k));
         k += 1;
     }
 }
 
 // The slots from (1) to (2) of the envelope, at rate (3), the bounds (4) of the tempo, the whole lag (5), and so many slots lent: (6) of
 // clarity, (7) of weight, (8) of work.
-fn run(envelope: &[f64], shown: usize, line: &[u8]) {
-    run_show::words(run_cases::part(line, b'|', 0));
+fn run(rt: &impl Print, envelope: &[f64], shown: usize, line: &[u8]) {
+    run_show::words(rt, run_cases::part(line, b'|', 0));
     let end = run_cases::column_within(line, 2, envelope.len());
     stability(
+        rt,
         &envelope[run_cases::column_within(line, 1, end)..end],
         run_cases::column_u32(line, 3),
         bounds_of(run_cases::column(line, 4)),
@@ -172,6 +181,7 @@ fn run(envelope: &[f64], shown: usize, line: &[u8]) {
 }
 
 fn stability(
+    rt: &impl Print,
     envelope: &[f64],
     rate: u32,
     opts: TempoOpts,
@@ -186,16 +196,19 @@ fn stability(
     let mut clarity = [9.0f64; 19];
     let mut weight = [8.0f64; 19];
     let mut work = [7.0f64; 19];
-    answer(stability::stability_of(
-        envelope,
-        rate,
-        opts,
-        whole_lag,
-        &mut clarity[0..c],
-        &mut weight[0..w],
-        &mut work[0..k],
-    ));
-    left(&clarity, &weight, &work, shown);
+    answer(
+        rt,
+        stability::stability_of(
+            envelope,
+            rate,
+            opts,
+            whole_lag,
+            &mut clarity[0..c],
+            &mut weight[0..w],
+            &mut work[0..k],
+        ),
+    );
+    left(rt, &clarity, &weight, &work, shown);
 }
 
 // The bounds of a case: 0 are the defaults.
@@ -213,41 +226,41 @@ fn bounds_of(k: usize) -> TempoOpts {
 }
 
 // The slots of a lent slice that a table shows.
-fn slots(name: &[u8], slots: &[f64], shown: usize) {
+fn slots(rt: &impl Print, name: &[u8], slots: &[f64], shown: usize) {
     if shown == ALL_FIVE {
-        run_show::words(name);
+        run_show::words(rt, name);
     }
     let end = numbers::least(5, slots.len());
-    run_show::floats(&slots[numbers::least(shown, end)..end]);
+    run_show::floats(rt, &slots[numbers::least(shown, end)..end]);
 }
 
-fn left(clarity: &[f64; 19], weight: &[f64; 19], work: &[f64; 19], shown: usize) {
+fn left(rt: &impl Print, clarity: &[f64; 19], weight: &[f64; 19], work: &[f64; 19], shown: usize) {
     if shown == PAST_LAGS {
-        run_show::words(b", past the lags");
+        run_show::words(rt, b", past the lags");
     }
-    slots(b", clarity", clarity, shown);
-    slots(b", weight", weight, shown);
-    slots(b", work", work, shown);
-    run_show::end();
+    slots(rt, b", clarity", clarity, shown);
+    slots(rt, b", weight", weight, shown);
+    slots(rt, b", work", work, shown);
+    run_show::end(rt);
 }
 
-fn stability_is(s: Stability) {
+fn stability_is(rt: &impl Print, s: Stability) {
     match s {
-        Stability::None => run_show::words(b" none"),
+        Stability::None => run_show::words(rt, b" none"),
         Stability::Share {
             fraction,
             agreeing,
             windows,
         } => {
-            run_show::float(fraction);
-            run_show::count(agreeing);
-            run_show::count(windows);
+            run_show::float(rt, fraction);
+            run_show::count(rt, agreeing);
+            run_show::count(rt, windows);
         }
     }
 }
 
-fn answer(a: Steadiness) {
-    run_show::small(a.number);
+fn answer(rt: &impl Print, a: Steadiness) {
+    run_show::small(rt, a.number);
     let s = a.stability;
-    stability_is(s);
+    stability_is(rt, s);
 }

@@ -8,8 +8,9 @@ ghost use Rattle.std.specs.Prelude.{◌≤◌};
 // but one in slot 17 and, in the slot that is told, the value by its letter or digit; how many slots of that are lent; the rows; how many slots are lent to
 // be written, of eighteen for similarity and of three for novelty; and what the line begins with. Letters from a on are numbers from ten on, and
 // rows y and z 50,000 and 50,001. A lower number goes before a higher one; a slot that the kernel never reads, 16, is judged too.
-fn refusals() {
+fn refusals(rt: &impl Print) {
     each_case(
+        rt,
         b"\
           s 101 0 z 0 similarity, 50001 rows:\n\
           s 101 0 y 0 similarity, 50000 rows without values:\n\
@@ -55,26 +56,26 @@ fn rows_of(byte: u8) -> usize {
 }
 
 // Runs each case of a text.
-fn each_case(text: &[u8]) {
+fn each_case(rt: &impl Print, text: &[u8]) {
     let n = run_cases::marks(text, b'\n');
     let mut k = 0;
     while k < n {
-        case(run_cases::part(text, b'\n', k));
+        case(rt, run_cases::part(text, b'\n', k));
         k += 1;
     }
 }
 
-fn case(c: &[u8]) {
+fn case(rt: &impl Print, c: &[u8]) {
     if c.len() < 12 {
         return;
     }
-    run_show::words(&c[12..]);
+    run_show::words(rt, &c[12..]);
     let kind = c[0];
     let n = run_cases::digit(c[6], 35);
     let rows = rows_of(c[8]);
     let room = run_cases::digit(c[10], 18);
     let lent = values_lent(c[2], run_cases::digit(c[3], 34), run_cases::value(c[4]));
-    refusal(kind, &lent[0..n], rows, room);
+    refusal(rt, kind, &lent[0..n], rows, room);
 }
 
 fn values_lent(all: u8, at: usize, value: f64) -> [f64; 35]
@@ -89,16 +90,16 @@ fn values_lent(all: u8, at: usize, value: f64) -> [f64; 35]
     values
 }
 
-fn refusal(kind: u8, values: &[f64], rows: usize, room: usize) {
+fn refusal(rt: &impl Print, kind: u8, values: &[f64], rows: usize, room: usize) {
     if kind == 115 {
         let s = similarity_of(values, rows, room);
         let slots = s.slots;
-        run_show::small(s.number);
-        run_show::words(b", slots");
-        similarity_slots(&slots, 0, 18);
+        run_show::small(rt, s.number);
+        run_show::words(rt, b", slots");
+        similarity_slots(rt, &slots, 0, 18);
         return;
     }
-    told(novelty_of(values, rows, room), 3);
+    told(rt, novelty_of(values, rows, room), 3);
 }
 
 #[derive(Drop)]
@@ -118,12 +119,12 @@ fn similarity_of(features: &[f64], rows: usize, room: usize) -> Similar {
     Similar { number, slots }
 }
 
-fn similarity_slots(slots: &[f64; 2210], from: usize, past: usize)
+fn similarity_slots(rt: &impl Print, slots: &[f64; 2210], from: usize, past: usize)
     requires { (from ≤ past) × (past ≤ 2210) }
 {
     let all = &slots[..];
-    run_show::floats(&all[from..past]);
-    run_show::end();
+    run_show::floats(rt, &all[from..past]);
+    run_show::end(rt);
 }
 
 #[derive(Drop)]
@@ -139,21 +140,21 @@ fn novelty_of(similarity: &[f64], rows: usize, room: usize) -> Novel {
 }
 
 // The end of a line: the number, and the first n slots.
-fn told(novelty: Novel, n: usize)
+fn told(rt: &impl Print, novelty: Novel, n: usize)
     requires { n ≤ 131 }
 {
     let slots = novelty.slots;
-    run_show::small(novelty.number);
-    run_show::words(b", slots");
-    novelty_slots(&slots, n);
+    run_show::small(rt, novelty.number);
+    run_show::words(rt, b", slots");
+    novelty_slots(rt, &slots, n);
 }
 
-fn novelty_slots(slots: &[f64; 131], n: usize)
+fn novelty_slots(rt: &impl Print, slots: &[f64; 131], n: usize)
     requires { n ≤ 131 }
 {
     let all = &slots[..];
-    run_show::floats(&all[0..n]);
-    run_show::end();
+    run_show::floats(rt, &all[0..n]);
+    run_show::end(rt);
 }
 
 // A value from -128 to 127.99609375.
@@ -201,39 +202,39 @@ fn small_rows() -> [f64; 2080] {
 }
 
 // The similarity of some rows, then the novelty of it; of the similarity the slots from row `from` up to row `past` are printed.
-fn both(label: &[u8], features: [f64; 2080], rows: usize, from: usize, past: usize)
+fn both(rt: &impl Print, label: &[u8], features: [f64; 2080], rows: usize, from: usize, past: usize)
     requires { (rows ≤ 130) × (from ≤ past) × (past ≤ rows) }
 {
-    run_show::words(label);
+    run_show::words(rt, label);
     let s = similarity_of(&features[0..16 * rows], rows, 17 * rows);
     let slots = s.slots;
-    run_show::small(s.number);
-    run_show::words(b", similarity");
-    similarity_slots(&slots, 17 * from, 17 * past);
-    novelty_line(&slots, rows);
+    run_show::small(rt, s.number);
+    run_show::words(rt, b", similarity");
+    similarity_slots(rt, &slots, 17 * from, 17 * past);
+    novelty_line(rt, &slots, rows);
 }
 
-fn novelty_line(similarity: &[f64; 2210], rows: usize)
+fn novelty_line(rt: &impl Print, similarity: &[f64; 2210], rows: usize)
     requires { rows ≤ 130 }
 {
     let all = &similarity[..];
-    run_show::words(b"  novelty");
-    told(novelty_of(&all[0..17 * rows], rows, rows + 1), rows + 1);
+    run_show::words(rt, b"  novelty");
+    told(rt, novelty_of(&all[0..17 * rows], rows, rows + 1), rows + 1);
 }
 
 // Rows 5 and 6 of 23 are zeros. Every row the same: one novelty, not 0, wherever the kernel lies inside. 130 rows are more than one block.
-fn some_rows() {
-    both(b"1 row:", chance(0, 0), 1, 0, 1);
-    both(b"15 rows:", chance(0, 0), 15, 0, 2);
-    both(b"16 rows:", chance(0, 0), 16, 0, 2);
-    both(b"17 rows:", chance(0, 0), 17, 0, 2);
-    both(b"23 rows, two of zeros:", chance(80, 112), 23, 4, 7);
-    both(b"20 rows of threes:", [3.0; 2080], 20, 0, 1);
-    both(b"6 rows:", small_rows(), 6, 0, 6);
-    both(b"130 rows:", chance(0, 0), 130, 110, 114);
+fn some_rows(rt: &impl Print) {
+    both(rt, b"1 row:", chance(0, 0), 1, 0, 1);
+    both(rt, b"15 rows:", chance(0, 0), 15, 0, 2);
+    both(rt, b"16 rows:", chance(0, 0), 16, 0, 2);
+    both(rt, b"17 rows:", chance(0, 0), 17, 0, 2);
+    both(rt, b"23 rows, two of zeros:", chance(80, 112), 23, 4, 7);
+    both(rt, b"20 rows of threes:", [3.0; 2080], 20, 0, 1);
+    both(rt, b"6 rows:", small_rows(), 6, 0, 6);
+    both(rt, b"130 rows:", chance(0, 0), 130, 110, 114);
 }
 
-fn main() {
-    refusals();
-    some_rows();
+fn main(rt: HostRuntime) {
+    refusals(&rt);
+    some_rows(&rt);
 }

@@ -8,45 +8,46 @@ ghost use Rattle.std.specs.Prelude.{◌≤◌, length};
 use options::TempoOpts;
 use tempo::{Candidate, Tempo, TempoEstimate};
 
-fn tempo_of(t: Tempo) {
+fn tempo_of(rt: &impl Print, t: Tempo) {
     match t {
-        Tempo::None => run_show::words(b" none"),
+        Tempo::None => run_show::words(rt, b" none"),
         Tempo::Found { bpm, clarity } => {
-            run_show::float(bpm);
-            run_show::float(clarity);
+            run_show::float(rt, bpm);
+            run_show::float(rt, clarity);
         }
     }
 }
 
-fn candidate(c: Candidate) {
-    run_show::count(c.lag);
-    run_show::float(c.salience);
+fn candidate(rt: &impl Print, c: Candidate) {
+    run_show::count(rt, c.lag);
+    run_show::float(rt, c.salience);
 }
 
-fn answer(e: TempoEstimate) {
-    run_show::small(e.number);
+fn answer(rt: &impl Print, e: TempoEstimate) {
+    run_show::small(rt, e.number);
     let t = e.tempo;
-    tempo_of(t);
-    run_show::count(e.count);
-    candidate(e.candidates[0]);
-    candidate(e.candidates[1]);
-    candidate(e.candidates[2]);
+    tempo_of(rt, t);
+    run_show::count(rt, e.count);
+    candidate(rt, e.candidates[0]);
+    candidate(rt, e.candidates[1]);
+    candidate(rt, e.candidates[2]);
 }
 
-fn main() {
-    lengths();
-    contents();
-    bounds();
-    rooms();
-    envelopes();
-    track();
+fn main(rt: HostRuntime) {
+    lengths(&rt);
+    contents(&rt);
+    bounds(&rt);
+    rooms(&rt);
+    envelopes(&rt);
+    track(&rt);
 }
 
 // ---- the cases
 
 // Rate 512, defaults: lags 1 to 4, and room for five. No slots, two, three, max_lag + 1, max_lag + 2 and eight; then one onset and none.
-fn lengths() {
+fn lengths(rt: &impl Print) {
     table(
+        rt,
         b"slots, onsets 0 2:|03010301|0|2|512|0|5|5|5|5
 slots, onsets 2 2:|03010301|2|2|512|0|5|5|5|5
 slots, onsets 3 2:|03010301|3|2|512|0|5|5|5|5
@@ -58,8 +59,9 @@ slots, onsets 8 0:|03010301|8|0|512|0|5|5|5|5\n",
     );
 }
 
-fn contents() {
+fn contents(rt: &impl Print) {
     table(
+        rt,
         b"envelope 0:|ffffffff|8|2|512|0|5|5|5|5|constant
 envelope 1:|00000000|8|2|512|0|5|5|5|5|all zero
 envelope 2:|z3z103z1|8|2|512|0|5|5|5|5|signed zeros
@@ -81,8 +83,9 @@ a NaN alone:|n|1|2|512|0|5|5|5|5\n",
     );
 }
 
-fn bounds() {
+fn bounds(rt: &impl Print) {
     table(
+        rt,
         b"bounds 0:|03010301|8|2|0|0|5|5|5|5|rate 0
 bounds 1:|03010301|8|2|1|0|5|5|5|5|rate 1, lags 1 to 2
 bounds 2:|03010301|4|2|1|0|5|5|5|5|rate 1, four slots
@@ -101,8 +104,9 @@ bounds 13:|03010301|8|2|512|8|5|5|5|5|the lower bound that makes six lags\n",
 }
 
 // Room for so many lags in each slice; the slots not lent are shown too.
-fn rooms() {
+fn rooms(rt: &impl Print) {
     table(
+        rt,
         b"room 0:|03010301|8|2|512|0|4|4|4|5|just enough room
 room 1:|03010301|8|2|512|0|3|4|4|5|clarity one short
 room 2:|03010301|8|2|512|0|4|3|4|5|weight one short
@@ -114,8 +118,9 @@ one short and a NaN:|n3010301|8|2|512|0|3|4|4|5\n",
 }
 
 // Rate 2,560, defaults: lags 2 to 20, and room for one more.
-fn envelopes() {
+fn envelopes(rt: &impl Print) {
     table(
+        rt,
         b"period 5:|0400004000040000400004000040000400004000|60|2|2560|0|20|20|20|20
 periods 6 and 4:|305030008000305030008000305030008000305030008000|60|2|2560|0|20|20|20|20
 period 7 and noise:|101800201262000116002102602220281000207102021|60|2|2560|0|20|20|20|20
@@ -154,47 +159,51 @@ const ENVELOPES: [[f64; 8]; 6] = [
 
 // ---- the tables
 
-fn table(lines: &[u8]) {
+fn table(rt: &impl Print, lines: &[u8]) {
     let n = run_cases::marks(lines, b'\n');
     let mut k = 0;
     while k < n {
-        run(run_cases::part(lines, b'\n', k));
+        run(rt, run_cases::part(lines, b'\n', k));
         k += 1;
     }
 }
 
 // The envelope that (1) spells, at most its first (2) slots, or envelope (2) of the constants where (1) is empty; and what `estimate` takes.
-fn run(line: &[u8]) {
+fn run(rt: &impl Print, line: &[u8]) {
     let text = run_cases::part(line, b'|', 1);
-    run_show::words(run_cases::part(line, b'|', 0));
+    run_show::words(rt, run_cases::part(line, b'|', 0));
     if text.len() == 0 {
-        return of_eight(ENVELOPES[run_cases::column_within(line, 2, 5)], line);
+        return of_eight(rt, ENVELOPES[run_cases::column_within(line, 2, 5)], line);
     }
     let mut e = [0.0f64; 60];
     run_cases::spell(text, &mut e);
     let n = numbers::least(text.len(), 60);
-    estimate(&e[0..run_cases::column_within(line, 2, n)], line);
+    estimate(rt, &e[0..run_cases::column_within(line, 2, n)], line);
 }
 
-fn of_eight(envelope: [f64; 8], line: &[u8]) {
-    estimate(&envelope, line);
+fn of_eight(rt: &impl Print, envelope: [f64; 8], line: &[u8]) {
+    estimate(rt, &envelope, line);
 }
 
 // (3) onsets, at rate (4), the bounds (5) of the tempo, and so many slots lent: (6) of clarity, (7) of weight, (8) of work; (9) of each are shown.
-fn estimate(envelope: &[f64], line: &[u8]) {
+fn estimate(rt: &impl Print, envelope: &[f64], line: &[u8]) {
     let mut clarity = [9.0f64; 20];
     let mut weight = [8.0f64; 20];
     let mut work = [7.0f64; 20];
-    answer(tempo::estimate(
-        envelope,
-        run_cases::column(line, 3),
-        run_cases::column_u32(line, 4),
-        bounds_of(run_cases::column(line, 5)),
-        &mut clarity[0..run_cases::column_within(line, 6, 20)],
-        &mut weight[0..run_cases::column_within(line, 7, 20)],
-        &mut work[0..run_cases::column_within(line, 8, 20)],
-    ));
+    answer(
+        rt,
+        tempo::estimate(
+            envelope,
+            run_cases::column(line, 3),
+            run_cases::column_u32(line, 4),
+            bounds_of(run_cases::column(line, 5)),
+            &mut clarity[0..run_cases::column_within(line, 6, 20)],
+            &mut weight[0..run_cases::column_within(line, 7, 20)],
+            &mut work[0..run_cases::column_within(line, 8, 20)],
+        ),
+    );
     left(
+        rt,
         &clarity,
         &weight,
         &work,
@@ -203,20 +212,20 @@ fn estimate(envelope: &[f64], line: &[u8]) {
 }
 
 // The first n slots of each lent slice afterwards, lent or not.
-fn left(clarity: &[f64; 20], weight: &[f64; 20], work: &[f64; 20], n: usize)
+fn left(rt: &impl Print, clarity: &[f64; 20], weight: &[f64; 20], work: &[f64; 20], n: usize)
     requires { n ≤ 20 }
 {
-    first(b", clarity", clarity, n);
-    first(b", weight", weight, n);
-    first(b", work", work, n);
-    run_show::end();
+    first(rt, b", clarity", clarity, n);
+    first(rt, b", weight", weight, n);
+    first(rt, b", work", work, n);
+    run_show::end(rt);
 }
 
-fn first(name: &[u8], xs: &[f64], n: usize)
+fn first(rt: &impl Print, name: &[u8], xs: &[f64], n: usize)
     requires { n ≤ length xs.now }
 {
-    run_show::words(name);
-    run_show::floats(&xs[0..n]);
+    run_show::words(rt, name);
+    run_show::floats(rt, &xs[0..n]);
 }
 
 // The bounds of a case: 0 are the defaults.
@@ -236,41 +245,44 @@ fn bounds_of(k: usize) -> TempoOpts {
 
 // ---- a longer track
 
-fn track() {
+fn track(rt: &impl Print) {
     let mut e = [0.0f64; 400];
     e[10] = 1.0;
     e[104] = 1.0;
     e[198] = 1.0;
     e[292] = 1.0;
     e[386] = 1.0;
-    of_track(b"376 slots:", &e[0..376]);
-    of_track(b"377 slots:", &e[0..377]);
-    of_track(b"400 slots:", &e);
+    of_track(rt, b"376 slots:", &e[0..376]);
+    of_track(rt, b"377 slots:", &e[0..377]);
+    of_track(rt, b"400 slots:", &e);
 }
 
 // The default bounds at rate 48,000: lags 38 to 375.
-fn of_track(label: &[u8], envelope: &[f64]) {
+fn of_track(rt: &impl Print, label: &[u8], envelope: &[f64]) {
     let mut clarity = [9.0f64; 338];
     let mut weight = [8.0f64; 338];
     let mut work = [7.0f64; 338];
-    run_show::words(label);
-    answer(tempo::estimate(
-        envelope,
-        2,
-        48000,
-        TempoOpts::new(),
-        &mut clarity,
-        &mut weight,
-        &mut work,
-    ));
-    slot(b", slot 0", clarity[0], weight[0]);
-    slot(b", slot 56", clarity[56], weight[56]);
-    slot(b", slot 337", clarity[337], weight[337]);
-    run_show::end();
+    run_show::words(rt, label);
+    answer(
+        rt,
+        tempo::estimate(
+            envelope,
+            2,
+            48000,
+            TempoOpts::new(),
+            &mut clarity,
+            &mut weight,
+            &mut work,
+        ),
+    );
+    slot(rt, b", slot 0", clarity[0], weight[0]);
+    slot(rt, b", slot 56", clarity[56], weight[56]);
+    slot(rt, b", slot 337", clarity[337], weight[337]);
+    run_show::end(rt);
 }
 
-fn slot(name: &[u8], clarity: f64, weight: f64) {
-    run_show::words(name);
-    run_show::float(clarity);
-    run_show::float(weight);
+fn slot(rt: &impl Print, name: &[u8], clarity: f64, weight: f64) {
+    run_show::words(rt, name);
+    run_show::float(rt, clarity);
+    run_show::float(rt, weight);
 }

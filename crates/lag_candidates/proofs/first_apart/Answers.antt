@@ -21,4 +21,4 @@ returns c =
     let s = c.args in
     let ws = s.weight.now in
     let e : l.i ≡ length ws = omega arith in
-    l.invariant.1 ∙ ap (λ (k : ℕ). first_passing (stands_apart s.min-lag (s.a ∷ s.b ∷ [])) (ranked_to ws k) (length ws)) e
+    l.invariant.1 ∙ ap (λ (k : ℕ). first_passing (stands_apart s.min_lag (s.a ∷ s.b ∷ [])) (ranked_to ws k) (length ws)) e

@@ -33,7 +33,7 @@ loop-i-preserved c =
     let v = c.loop-i.invariant in
     let i = c.loop-i.i in
     let from = c.least-from.result in
-    let rule = clarity_from a.envelope.now a.mean a.ac0 a.min-lag in
+    let rule = clarity_from a.envelope.now a.mean a.ac0 a.min_lag in
     let was : List Float = a.clarity.now in
     let same = c.fill_thirty_two.ensures ∙ ap (λ (x : List Float). filled rule x from (from + 32)) v.2
     ∙ filled-over rule was 0 from i (from + 32) zero-le (omega arith) (omega arith) nan (omega arith) in
@@ -43,5 +43,5 @@ pub returns : goal.returns
 returns c =
     let a = c.args in
     let v = c.loop-i.invariant in
-    let all : c.loop-i.i ≡ lag_room a.min-lag a.max-lag = omega arith in
-    v.2 ∙ ap (filled (clarity_from a.envelope.now a.mean a.ac0 a.min-lag) a.clarity.now 0) all
+    let all : c.loop-i.i ≡ lag_room a.min_lag a.max_lag = omega arith in
+    v.2 ∙ ap (filled (clarity_from a.envelope.now a.mean a.ac0 a.min_lag) a.clarity.now 0) all

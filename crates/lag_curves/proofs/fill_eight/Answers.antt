@@ -19,14 +19,14 @@ loop-j-init c =
     let a = c.args in (
       search rules,
       refl,
-      sym (rw (add-zero a.from) (filled_none (clarity_from a.envelope.now a.mean a.ac0 a.min-lag)
+      sym (rw (add-zero a.from) (filled_none (clarity_from a.envelope.now a.mean a.ac0 a.min_lag)
           a.clarity.now a.from)),
     )
 
 pub lag_rest-sum-requires : goal.lag_rest-sum-requires
 lag_rest-sum-requires c =
     let a = c.args in
-    let lag = a.min-lag + a.from in
+    let lag = a.min_lag + a.from in
     let past = a.t + (length a.envelope.now - lag - 7 - a.t) / 2 * 2 in (
       omega arith,
       eight_at a.envelope.now a.mean lag past c.eight_sums-s.result c.eight_sums-s.ensures c.loop-j.j (omega arith),
@@ -38,8 +38,8 @@ loop-j-preserved c =
     let a = c.args in
     let v = c.loop-j.invariant in
     let at = a.from + c.loop-j.j in
-    let rule = clarity_from a.envelope.now a.mean a.ac0 a.min-lag in
-    let slot : a.min-lag + a.from + c.loop-j.j ≡ a.min-lag + at = omega arith in
+    let rule = clarity_from a.envelope.now a.mean a.ac0 a.min_lag in
+    let slot : a.min_lag + a.from + c.loop-j.j ≡ a.min_lag + at = omega arith in
     let e : c.clarity_of.result ≡ rule at = c.clarity_of.ensures
     ∙ rw c.lag_rest-sum.ensures (ap (clarity_at a.envelope.now a.mean a.ac0) slot) in (
       omega arith,
@@ -52,4 +52,4 @@ returns c =
     let l = c.loop-j in
     let a = c.args in
     let e : a.from + l.j ≡ a.from + 8 = omega arith in
-    l.invariant.2 ∙ ap (filled (clarity_from a.envelope.now a.mean a.ac0 a.min-lag) a.clarity.now a.from) e
+    l.invariant.2 ∙ ap (filled (clarity_from a.envelope.now a.mean a.ac0 a.min_lag) a.clarity.now a.from) e

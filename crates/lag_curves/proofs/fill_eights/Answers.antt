@@ -14,14 +14,14 @@ loop-i-init c = (search rules, search rules, refl, sym (filled_none _ _ _))
 pub fill_eight-requires : goal.fill_eight-requires
 fill_eight-requires c =
     let a = c.args in
-    ((omega arith, omega arith, omega arith), c.eight_noughts-z.ensures ∙ eight_none a.envelope.now a.mean (a.min-lag + c.loop-i.i))
+    record { from_in_bounds = (omega arith, omega arith, omega arith); below_value = c.eight_noughts-z.ensures ∙ eight_none a.envelope.now a.mean (a.min_lag + c.loop-i.i) }
 
 pub loop-i-preserved : goal.loop-i-preserved
 loop-i-preserved c =
     let a = c.args in
     let v = c.loop-i.invariant in
     let i = c.loop-i.i in
-    let rule = clarity_from a.envelope.now a.mean a.ac0 a.min-lag in (
+    let rule = clarity_from a.envelope.now a.mean a.ac0 a.min_lag in (
       omega arith,
       omega arith,
       joined_length rule a.clarity.now _ _ a.from i (i + 8) (i + 8) v.0 (omega arith) refl (omega arith) v.3 c.fill_eight.ensures,
@@ -32,5 +32,5 @@ pub returns : goal.returns
 returns c =
     let a = c.args in
     let v = c.loop-i.invariant in
-    joined (clarity_from a.envelope.now a.mean a.ac0 a.min-lag) a.clarity.now _ _ a.from c.loop-i.i a.past a.past v.0
+    joined (clarity_from a.envelope.now a.mean a.ac0 a.min_lag) a.clarity.now _ _ a.from c.loop-i.i a.past a.past v.0
     v.1 refl (omega arith) v.3 c.fill_singly.ensures

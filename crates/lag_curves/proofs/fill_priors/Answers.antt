@@ -19,7 +19,7 @@ loop-i-preserved c =
     let v = c.loop-i.invariant in (
       omega arith,
       simp length-set v.1,
-      rw (c.prior_at.ensures, v.2) (filled-to (prior_from a.rate a.min-lag) a.priors.now 0 c.loop-i.i (c.loop-i.i + 1)
+      rw (c.prior_at.ensures, v.2) (filled-to (prior_from a.rate a.min_lag) a.priors.now 0 c.loop-i.i (c.loop-i.i + 1)
           (omega arith) nan (omega arith) refl),
     )
 
@@ -27,5 +27,5 @@ pub returns : goal.returns
 returns c =
     let l = c.loop-i in
     let a = c.args in
-    let e : l.i ≡ lag_room a.min-lag a.max-lag = omega arith in
-    l.invariant.2 ∙ ap (filled (prior_from a.rate a.min-lag) a.priors.now 0) e
+    let e : l.i ≡ lag_room a.min_lag a.max_lag = omega arith in
+    l.invariant.2 ∙ ap (filled (prior_from a.rate a.min_lag) a.priors.now 0) e

@@ -17,7 +17,7 @@ unfolding clarity_at
 loop-i-preserved c =
     let a = c.args in
     let v = c.loop-i.invariant in
-    let rule = clarity_from a.envelope.now a.mean a.ac0 a.min-lag in
+    let rule = clarity_from a.envelope.now a.mean a.ac0 a.min_lag in
     let e : c.clarity_of.result ≡ rule c.loop-i.i = c.clarity_of.ensures ∙ rw c.lag_sum.ensures in (
       omega arith,
       omega arith,
@@ -30,4 +30,4 @@ returns c =
     let l = c.loop-i in
     let a = c.args in
     let e : l.i ≡ a.past = omega arith in
-    l.invariant.3 ∙ ap (filled (clarity_from a.envelope.now a.mean a.ac0 a.min-lag) a.clarity.now a.from) e
+    l.invariant.3 ∙ ap (filled (clarity_from a.envelope.now a.mean a.ac0 a.min_lag) a.clarity.now a.from) e

@@ -11,6 +11,6 @@ fill_eight-requires-2 c = record { from_in_bounds = (omega arith, omega arith, o
 pub returns : goal.returns
 returns c =
     let a = c.args in
-    joined (clarity_from a.envelope.now a.mean a.ac0 a.min-lag) a.clarity.now _ _ a.from (a.from + 8) (a.from + 16)
+    joined (clarity_from a.envelope.now a.mean a.ac0 a.min_lag) a.clarity.now _ _ a.from (a.from + 8) (a.from + 16)
     (a.from + 8 + 8) (omega arith) (omega arith) (omega arith) (omega arith)
     c.fill_eight.ensures c.fill_eight-2.ensures

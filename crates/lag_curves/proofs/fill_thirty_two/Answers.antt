@@ -26,25 +26,19 @@ module _ (env : List Float) (mean : Float) (least from t : ℕ) (s : ThirtyTwo) 
 pub fill_sixteen-requires : goal.fill_sixteen-requires
 fill_sixteen-requires c =
     let a = c.args in
-    let t = (length a.envelope.now - (a.min-lag + a.from) - 32) / 128 * 128 in (
-      (omega arith, omega arith, omega arith),
-      eights-low a.envelope.now a.mean a.min-lag a.from t c.block_sums-s.result
-          c.block_sums-s.ensures,
-    )
+    let t = (length a.envelope.now - (a.min_lag + a.from) - 32) / 128 * 128 in record { from_in_bounds = (omega arith, omega arith, omega arith); low_value = eights-low a.envelope.now a.mean a.min_lag a.from t c.block_sums-s.result
+          c.block_sums-s.ensures }
 
 pub fill_sixteen-requires-2 : goal.fill_sixteen-requires-2
 fill_sixteen-requires-2 c =
     let a = c.args in
-    let t = (length a.envelope.now - (a.min-lag + a.from) - 32) / 128 * 128 in (
-      (omega arith, omega arith, omega arith),
-      eights-high a.envelope.now a.mean a.min-lag a.from t c.block_sums-s.result
-          c.block_sums-s.ensures,
-    )
+    let t = (length a.envelope.now - (a.min_lag + a.from) - 32) / 128 * 128 in record { from_in_bounds = (omega arith, omega arith, omega arith); low_value = eights-high a.envelope.now a.mean a.min_lag a.from t c.block_sums-s.result
+          c.block_sums-s.ensures }
 
 pub returns : goal.returns
 returns c =
     let a = c.args in
     let room : a.from + 16 + 16 ≤ length a.clarity.now = omega (arith, c.requires.1) in
-    joined (clarity_from a.envelope.now a.mean a.ac0 a.min-lag) a.clarity.now _ _ a.from (a.from + 16) (a.from + 32)
+    joined (clarity_from a.envelope.now a.mean a.ac0 a.min_lag) a.clarity.now _ _ a.from (a.from + 16) (a.from + 32)
     (a.from + 16 + 16) (omega arith) (omega arith) (omega arith) room
     c.fill_sixteen.ensures c.fill_sixteen-2.ensures

@@ -17,7 +17,7 @@ pub loop-i-preserved : goal.loop-i-preserved
 loop-i-preserved c =
     let a = c.args in
     let v = c.loop-i.invariant in
-    let rule = weighted a.clarity.now a.rate a.min-lag in (
+    let rule = weighted a.clarity.now a.rate a.min_lag in (
       omega arith,
       simp length-set v.1,
       rw (c.prior_at.ensures, v.2) (filled-to rule a.weight.now 0 c.loop-i.i (c.loop-i.i + 1) (omega arith) nan (omega arith) refl),
@@ -27,5 +27,5 @@ pub returns : goal.returns
 returns c =
     let l = c.loop-i in
     let a = c.args in
-    let e : l.i ≡ lag_room a.min-lag a.max-lag = omega arith in
-    l.invariant.2 ∙ ap (filled (weighted a.clarity.now a.rate a.min-lag) a.weight.now 0) e
+    let e : l.i ≡ lag_room a.min_lag a.max_lag = omega arith in
+    l.invariant.2 ∙ ap (filled (weighted a.clarity.now a.rate a.min_lag) a.weight.now 0) e

@@ -59,9 +59,9 @@ returns c =
     let sums : List Float = c.loop-k.sums in
     let m : length sums ≡ 17 = c.loop-k.invariant.1 in (
       simp length-set m,
-      get_or-set_same sums 0 a.own_val nan (omega arith),
+      get_or-set_same sums 0 a.own nan (omega arith),
       λ d p q.
-          get_or-set_other sums 0 d a.own_val nan (λ (z : d ≡ 0). omega arith)
+          get_or-set_other sums 0 d a.own nan (λ (z : d ≡ 0). omega arith)
           ∙ sym (dot_end (get_or sums d nan) a.row.now (turned_column a.turned.now (a.c + d)) c.loop-k.k (omega arith))
           ∙ c.loop-k.invariant.2 d p q,
     )

@@ -1,0 +1,19 @@
+-- `flux_rows::rise_at` meets its contract: both rows are there, of one length and fine. Assumes nothing.
+use mathlib.Core.Path.{refl, sym, ◌∙◌}
+use Prim.Native.Nat.{◌-◌}
+use native.Mathlib.Omega.{arith}
+use Rattle.numbers.proofs.Overs.{length-row, every-row}
+use Rattle.numbers.specs.Limits.{magnitude_fine}
+use Rattle.flux_rows.proofs.rise_at.Goals as goal
+
+pub rise-requires : goal.rise-requires
+rise-requires c =
+    let s = c.args.magnitudes.now in
+    let n = c.args.slab.rows in
+    let b = c.args.slab.bins in
+    let t = c.args.t in
+    let long = length-row s n b (t - 1) c.requires.magnitudes_len (omega arith) in
+    rw (c.row_at-prev.ensures, c.row_at-cur.ensures) record { cur_len = length-row s n b t c.requires.magnitudes_len (omega arith) ∙ sym long; prev_value = (every-row magnitude_fine s b (t - 1) c.requires.magnitudes_value, every-row magnitude_fine s b t c.requires.magnitudes_value); from_in_bounds = omega (arith, long) }
+
+pub returns : goal.returns
+returns c = c.rise.ensures ∙ rw (c.row_at-prev.ensures, c.row_at-cur.ensures) refl
