@@ -36,10 +36,10 @@ unfolding gap_of ceil_of of_int of_bits mul div
 gap_48000 = refl
 
 -- "Shape (4, 1) with 0, 0, 5, 0": the onset is frame 2
-pub example-onsets :
+pub example_onsets :
     let s = map real (0 ∷ 0 ∷ 5 ∷ 0 ∷ []) in
     let flux = curve (flux_at s (slab_of 4 1)) 4 in
     onsets_of flux (curve (threshold_at flux) 4) 48000 ≡ 2 ∷ []
 unfolding onsets_of peaks_of those is_peak suppressed bests gap_of ceil_of threshold_at threshold_of around median_of mad_of sort insert distance absolute key
     turned flux_at rises row sum_from positive_part of_int of_bits to_bits add sub mul div neg lt le
-example-onsets = refl
+example_onsets = refl

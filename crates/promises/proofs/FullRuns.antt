@@ -305,6 +305,6 @@ module _
             (same_entries (downbeats_in env rate o) results₀.downbeats full_results₀.downbeats refl);
         same_scores = λ some. rw (ex, ey) (same_entries (scores_of env n) results₀.score full_results₀.score ((scored env n (rw beats at some)).0 ∙ l));
         same_links = λ some. rw (ex, ey) (same_entries (links_of env n) results₀.back full_results₀.back ((scored env n (rw beats at some)).1 ∙ l));
-        same-clarity = λ written. rw (ex, ey) (same-lags env rate o results₀ full_results₀ (rw onsets at written)).0;
-        same-weight = λ written. rw (ex, ey) (same-lags env rate o results₀ full_results₀ (rw onsets at written)).1;
+        same_clarity = λ written. rw (ex, ey) (same-lags env rate o results₀ full_results₀ (rw onsets at written)).0;
+        same_weight = λ written. rw (ex, ey) (same-lags env rate o results₀ full_results₀ (rw onsets at written)).1;
       }

@@ -42,7 +42,7 @@ use Rattle.promises.proofs.Determined.{pick-onsets, estimate, stability_of, beat
 use Rattle.promises.proofs.FullRuns.{begun_is_fresh, begun_is_sound, used_keeps, same_as_full_run, same_elsewhere}
 
 -- However a track began and whatever was done with it, an analysis of its flux is a full run on its rows.
-pub repaired-is-a-full-run :
+pub repaired_is_a_full_run :
     (slab : Slab) {first patched : MagnitudeTrack}
     -- First the curves of some rows, by `analyse_magnitudes`, the full run, or call by call; none of the calls refused.
     → Begun slab first
@@ -61,14 +61,14 @@ pub repaired-is-a-full-run :
     → MagnitudesPromise patched.magnitudes slab rate opts flux lent spare full_answer full_flux full_results full_left
     -- The full run isn't refused, and flux, threshold, answer and all eight results are the same.
     → SameRun slab patched answer results full_answer full_flux full_results
-repaired-is-a-full-run slab begun used rate opts fine flux flux_room lent spare room again full =
+repaired_is_a_full_run slab begun used rate opts fine flux flux_room lent spare room again full =
     let now = used_keeps slab used (begun_is_fresh slab begun) (begun_is_sound slab begun) in
     same_as_full_run slab now.1 stays rate opts flux lent spare
     (by_bounds slab.rows rate opts (slab_fits slab now.1.shape).rows_fit ∙ fine) flux_room room
     now.0 again full
 
 -- The same where the two are lent different slices, as a grid that is kept and one that is made to compare it with.
-pub repaired-is-a-full-run-elsewhere :
+pub repaired_is_a_full_run_elsewhere :
     -- A track that began and was used as above, and a rate and bounds that are fine.
     (slab : Slab) {first patched : MagnitudeTrack} → Begun slab first → Used slab first patched
     → (rate : ℕ) (opts : TempoOpts) → bounds_fine rate opts ≡ true
@@ -83,7 +83,7 @@ pub repaired-is-a-full-run-elsewhere :
     → MagnitudesPromise patched.magnitudes slab rate opts flux full_lent full_spare full_answer full_flux full_results full_left
     -- The full run isn't refused, flux, threshold and answer are the same, and so are the listed frames and each curve where it is written.
     → SameElsewhere slab rate opts patched answer results full_answer full_flux full_results
-repaired-is-a-full-run-elsewhere slab begun used rate opts fine lent spare room again flux flux_room full_lent full_spare full-room full =
+repaired_is_a_full_run_elsewhere slab begun used rate opts fine lent spare room again flux flux_room full_lent full_spare full-room full =
     let now = used_keeps slab used (begun_is_fresh slab begun) (begun_is_sound slab begun) in
     same_elsewhere slab now.0 now.1 rate opts (by_bounds slab.rows rate opts (slab_fits slab now.1.shape).rows_fit ∙ fine)
     lent spare room flux flux_room full_lent full_spare full-room again full

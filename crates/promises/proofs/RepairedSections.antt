@@ -38,7 +38,7 @@ use Rattle.promises.proofs.Determined.{boundaries}
 use Rattle.promises.proofs.SectionRuns.{full_run_is_fresh, full_run_is_sound, used_keeps, same_as_full_run, same_elsewhere}
 
 -- Whatever was done with a track after a full run, the sections of its novelty are those of a full run on its rows.
-pub repaired-is-a-full-run :
+pub repaired_is_a_full_run :
     (rows : ℕ) {features : List Float}
     -- First `similarity` and `novelty`, the calls of a full run that leave a curve, on these rows, into any slices. Neither is refused.
     {similarity₀ similarity₁ novelty₀ novelty₁ : List Float}
@@ -62,12 +62,12 @@ pub repaired-is-a-full-run :
     → BoundariesPromise (take rows full_novelty) samples rate max_sections begins work full_answer full_begins full_work
     -- No call of the full run is refused, and similarity, novelty, answer and listed rows are the same.
     → SameSections rows patched answer begins' m full_similarity n full_novelty full_answer full_begins
-repaired-is-a-full-run rows first second used samples rate max_sections grid similarity novelty r t begins work u v again one two three =
+repaired_is_a_full_run rows first second used samples rate max_sections grid similarity novelty r t begins work u v again one two three =
     let now = used_keeps rows used (full_run_is_fresh _ rows _ _ first second) (full_run_is_sound _ rows _ _ first second) in
     same_as_full_run rows now.1 stays samples rate max_sections grid similarity novelty r t begins work u v one two three now.0 again
 
 -- The same where the two are lent different slices, as sections that are kept and those that are made to compare them with.
-pub repaired-is-a-full-run-elsewhere :
+pub repaired_is_a_full_run_elsewhere :
     -- A track that began and was used as above, a row's length and a rate that are fine, and any cap on sections.
     (rows : ℕ) {features similarity₀ similarity₁ novelty₀ novelty₁ : List Float}
     → SimilarityPromise features rows similarity₀ 0 similarity₁
@@ -87,7 +87,7 @@ pub repaired-is-a-full-run-elsewhere :
     → BoundariesPromise (take rows full_novelty) samples rate max_sections full_lent full_spare full_answer full_begins full_work
     -- No call of the full run is refused, and similarity, novelty, answer and listed rows are the same, as many as there are.
     → SameSectionsElsewhere rows patched answer begins' m full_similarity n full_novelty full_answer full_begins
-repaired-is-a-full-run-elsewhere rows first second used samples rate most grid begins work u v again similarity novelty r t lent spare x y one two three =
+repaired_is_a_full_run_elsewhere rows first second used samples rate most grid begins work u v again similarity novelty r t lent spare x y one two three =
     let now = used_keeps rows used (full_run_is_fresh _ rows _ _ first second) (full_run_is_sound _ rows _ _ first second) in
     same_elsewhere rows now.0 now.1 samples rate most grid begins work u v similarity novelty r t lent spare x y one two three again
 

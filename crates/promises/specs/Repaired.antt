@@ -93,9 +93,9 @@ pub record SameElsewhere
   pub same_scores : 1 ≤ answer.beats → take slab.rows results.score ≡ take slab.rows full_results.score
   pub same_links : 1 ≤ answer.beats → take slab.rows results.back ≡ take slab.rows full_results.back
   -- where they are written, the L slots of both lag curves
-  pub same-clarity :
+  pub same_clarity :
       unwritten (take slab.rows patched.flux) answer.onsets (max_lag rate opts) ≡ false
       → take (lags_of rate opts) results.clarity ≡ take (lags_of rate opts) full_results.clarity
-  pub same-weight :
+  pub same_weight :
       unwritten (take slab.rows patched.flux) answer.onsets (max_lag rate opts) ≡ false
       → take (lags_of rate opts) results.weight ≡ take (lags_of rate opts) full_results.weight

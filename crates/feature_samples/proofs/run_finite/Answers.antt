@@ -1,0 +1,25 @@
+use mathlib.Core.Path.{sym, ap, ◌∙◌}
+use mathlib.Core.Bool.{Bool, ◌&&◌}
+use Prim.Native.Nat.{◌+◌}
+use native.Mathlib.Omega.{arith}
+use lib.ListN.{drop}
+use lib.Ieee.{nan}
+use Rattle.feature_levels.specs.Levels.{sample_fine}
+use Rattle.numbers.specs.Lists.{every}
+use Rattle.numbers.proofs.Tests.{and-true}
+use Rattle.numbers.proofs.Everys.{every_step_1, every_end}
+use Rattle.feature_samples.proofs.run_finite.Goals as goal
+
+pub loop-i-init : goal.loop-i-init
+loop-i-init c = (omega arith, and-true _)
+
+pub loop-i-preserved : goal.loop-i-preserved
+loop-i-preserved c =
+    let s = c.args.s.now in
+    let i = c.loop-i.i in
+    let e = c.loop-i.invariant.1 ∙ every_step_1 sample_fine s i nan c.loop-i.fine (omega arith) in
+    (omega arith, e ∙ ap (λ (b : Bool). every sample_fine (drop (i + 1) s) && b) (sym c.still_finite-fine.ensures))
+
+pub returns : goal.returns
+returns c =
+    sym (c.loop-i.invariant.1 ∙ ap (λ (b : Bool). b && c.loop-i.fine) (every_end sample_fine _ _ c.loop-i-test.false))
