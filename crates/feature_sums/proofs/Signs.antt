@@ -47,7 +47,7 @@ pub record From (x : Float) : Type 0 where
 pub sum_from_from : {acc : Float} {xs : List Float} → Plus acc → Each From xs → Plus (sum_from acc xs)
 unfolding sum_from
 sum_from_from h none = h
-sum_from_from h (more {x = x} a k) = sum_from_from (add-from binary64 x h a.from) k
+sum_from_from {acc = acc} h (more {x = x} {xs = xs} a k) = sum_from_from {acc = add binary64 acc x} (add-from binary64 x h a.from) k
 
 pub sum_of_from : {xs : List Float} → Each From xs → Plus (sum_of xs)
 sum_of_from h = sum_from_from nought_plus h
