@@ -14,6 +14,7 @@ module _ (time : Float) (downbeats beats : List Float) (bar : ℕ) (e : bar ≡ 
   nowhere : bar ≡ 0 → bar_beat_says Nowhere ≡ (0, bar_and_beat time downbeats beats)
   unfolding bar_and_beat in_bar
   nowhere z = ap (λ (k : ℕ). (0, in_bar k time downbeats beats)) (sym z ∙ e)
+
   at : (heard beat : ℕ) → 0 < bar → heard ≡ passing (during (get_or downbeats (bar - 1) nan ⊖ slack) (time ⊕ slack)) beats → beat ≡ max 1 heard
       → bar_beat_says (At bar beat) ≡ (0, bar_and_beat time downbeats beats)
   unfolding bar_and_beat in_bar beat_in

@@ -18,6 +18,7 @@ module _ (test : Float → Bool) (ts : List Float) (i : ℕ) where
   turn : i < length ts → passing test (drop i ts) ≡ pick (test (get_or ts i nan)) (suc (passing test (drop (i + 1) ts))) (passing test (drop (i + 1) ts))
   unfolding passing
   turn h = rw (add-one, drop-cons ts i nan)
+
   end : length ts ≤ i → passing test (drop i ts) ≡ 0
   unfolding passing
   end h = rw drop_of_length-le

@@ -20,22 +20,27 @@ module _ (envelope : List Float) (beats : List ℕ) (o : TempoOpts) (room : ℕ)
   rows : most_rows < length envelope → 1 ≡ downbeat_refusal envelope beats o room
   unfolding downbeat_refusal downbeat_numbers_fine downbeat_room_fine
   rows h = rw (lt-leb (length envelope) most_rows h)
+
   module _ (h1 : length envelope ≤ most_rows) where
     listed : every frame_fine beats ≡ false → 1 ≡ downbeat_refusal envelope beats o room
     unfolding downbeat_refusal downbeat_numbers_fine downbeat_room_fine
     listed e = rw (le-leb (length envelope) most_rows h1, e)
+
     module _ (h2 : every frame_fine beats ≡ true) where
       metered : options_fine o ≡ false → 1 ≡ downbeat_refusal envelope beats o room
       unfolding downbeat_refusal downbeat_numbers_fine downbeat_room_fine
       metered e = rw (le-leb (length envelope) most_rows h1, h2, e)
+
       module _ (h3 : options_fine o ≡ true) where
         short : room < length beats → 3 ≡ downbeat_refusal envelope beats o room
         unfolding downbeat_refusal downbeat_numbers_fine downbeat_room_fine
         short h = rw (le-leb (length envelope) most_rows h1, h2, h3, lt-leb (length beats) room h)
+
         module _ (h4 : length beats ≤ room) where
           wrong : every value_fine envelope ≡ false → 4 ≡ downbeat_refusal envelope beats o room
           unfolding downbeat_refusal downbeat_numbers_fine downbeat_room_fine
           wrong e = rw (le-leb (length envelope) most_rows h1, h2, h3, le-leb (length beats) room h4, e)
+
           fine : every value_fine envelope ≡ true → 0 ≡ downbeat_refusal envelope beats o room
           unfolding downbeat_refusal downbeat_numbers_fine downbeat_room_fine
           fine e = rw (le-leb (length envelope) most_rows h1, h2, h3, le-leb (length beats) room h4, e)

@@ -27,12 +27,14 @@ module _ (envelope : List Float) (beats : List ℕ) (o : TempoOpts) where
         (leb-true 1 o.meter (and_left _ (leb o.meter most_meter) m), leb-true o.meter most_meter (and_right (leb 1 o.meter) _ m)),
         leb-true (length beats) room p.room,
       )
+
   module _ (before : List ℕ) where
     refused : (n : ℕ) → n ≡ downbeat_refusal envelope beats o (length before) → (n ≡ 0 → ⊥)
         → DownbeatsPromise envelope beats o before (record { number = n; count = 0 }) before
     refused n e h =
         let z : downbeat_refusal envelope beats o (length before) ≡ 0 → ⊥ = λ q. h (e ∙ q) in
         record { number_is = e; count_is = sym (refused_keeps _ _ 0 z); frames_are = sym (refused_keeps _ _ before z) }
+
     answered : (phase count : ℕ) (after : List ℕ) → downbeat_refusal envelope beats o (length before) ≡ 0 → phase ≡ downbeat_phase envelope beats o.meter
         → count ≡ length (in_phase o.meter phase 0 beats) → after ≡ listed (in_phase o.meter phase 0 beats) before
         → DownbeatsPromise envelope beats o before (record { number = 0; count = count }) after

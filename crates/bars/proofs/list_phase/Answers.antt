@@ -25,6 +25,7 @@ module _ (beats : List ℕ) (meter phase : ℕ) (frames₀ frames : List ℕ) (c
       let n = length_phase meter phase 0 (take i beats) in
       let m = length-take-le i beats h in
       (omega (arith, was.0, n, m), ap length was.1 ∙ length-listed (in_phase meter phase 0 (take i beats)) frames₀ (omega (arith, n, m)))
+
   -- one beat more, by whether it belongs to the phase
   more : (frames' : List ℕ) (count' : ℕ) (b : Bool) → i < length beats → eqb (i % meter) phase ≡ b
       → count' ≡ pick b (count + 1) count → frames' ≡ pick b (set frames count (get_or beats i 0)) frames
@@ -77,7 +78,7 @@ loop-i-preserved c =
     in (
       omega arith,
       elim c.if-i-meter.branch [
-          then-i-meter w ↦ go true h (eq-eqb _ _ w.if-i-meter.true) w.count-is w.frames-is
+        | then-i-meter w ↦ go true h (eq-eqb _ _ w.if-i-meter.true) w.count-is w.frames-is
         | else-i-meter w ↦ go false h (ne_eqb _ _ w.if-i-meter.false) w.count-is w.frames-is
       ],
     )

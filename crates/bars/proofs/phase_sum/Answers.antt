@@ -23,7 +23,7 @@ loop-i-preserved c =
     let step = phase_sum_step a.meter a.phase (beat_flux a.envelope.now) c.loop-i.sum c.if-i-meter.sum a.beats.now i in (
       omega arith,
       elim c.if-i-meter.branch [
-          then-i-meter w ↦ step true h (eq-eqb _ _ w.if-i-meter.true) (w.sum-is ∙ ap (λ (x : Float). c.loop-i.sum ⊕ x) w.flux_at-sum.ensures)
+        | then-i-meter w ↦ step true h (eq-eqb _ _ w.if-i-meter.true) (w.sum-is ∙ ap (λ (x : Float). c.loop-i.sum ⊕ x) w.flux_at-sum.ensures)
         | else-i-meter w ↦ step false h (ne_eqb _ _ w.if-i-meter.false) w.sum-is
       ] ∙ c.loop-i.invariant.1,
     )

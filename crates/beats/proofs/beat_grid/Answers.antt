@@ -49,10 +49,12 @@ module _ (envelope : List Float) (period : ℕ) where
   empty : length envelope ≡ 0 → beatless envelope period ≡ true
   unfolding beatless
   empty e = rw (eq-eqb (length envelope) 0 e)
+
   module _ (some : length envelope ≡ 0 → ⊥) where
     still : period ≡ 0 → beatless envelope period ≡ true
     unfolding beatless
     still e = rw (ne_eqb (length envelope) 0 some, eq-eqb period 0 e)
+
     by-variance : (period ≡ 0 → ⊥) → (v : Float) → v ≡ variance_of envelope → beatless envelope period ≡ le v epsilon
     unfolding beatless
     by-variance h v e = rw (ne_eqb (length envelope) 0 some, ne_eqb period 0 h, e)
@@ -69,6 +71,7 @@ module _ (envelope : List Float) (period : ℕ) (score₀ : List Float) (back₀
         back_is = sym (refused_keeps _ _ back₀ no);
         beats_are = sym (refused_keeps _ _ beats₀ no);
       }
+
   module _ (passed : grid_refusal envelope period (length score₀) (length back₀) (length beats₀) ≡ 0) where
     -- what is answered, by the three lists
     answered : (count : ℕ) (score : List Float) (back beats : List ℕ) → count ≡ length (grid_of envelope period)
@@ -82,6 +85,7 @@ module _ (envelope : List Float) (period : ℕ) (score₀ : List Float) (back₀
           back_is = k ∙ sym (passed_does _ _ back₀ passed);
           beats_are = b ∙ sym (passed_does _ _ beats₀ passed);
         }
+
     silent : beatless envelope period ≡ true → GridPromise envelope period score₀ back₀ beats₀ (record { number = 0; count = 0 }) score₀ back₀ beats₀
     unfolding scores_of links_of grid_of
     silent e =
@@ -92,6 +96,7 @@ module _ (envelope : List Float) (period : ℕ) (score₀ : List Float) (back₀
         (sym (ap (λ (l : List Float). listed l score₀) scores-none ∙ listed-none score₀))
         (sym (ap (λ (l : List ℕ). listed l back₀) links-none ∙ listed-none back₀))
         (sym (ap (λ (l : List ℕ). listed l beats₀) beats-none ∙ listed-none beats₀))
+
     laid : (scale : Float) (count : ℕ) (score : List Float) (back beats : List ℕ) → beatless envelope period ≡ false → scale ≡ scale_of envelope
         → GridLaid period (scaled_by scale envelope) (length envelope) score₀ score back₀ back beats₀ beats count
         → GridPromise envelope period score₀ back₀ beats₀ (record { number = 0; count = count }) score back beats

@@ -20,14 +20,17 @@ module _ (envelope : List Float) (period score back beats : ℕ) where
   rows : most_rows < length envelope → 1 ≡ grid_refusal envelope period score back beats
   unfolding grid_refusal grid_numbers_fine
   rows h = rw (lt-leb (length envelope) most_rows h)
+
   module _ (h1 : length envelope ≤ most_rows) where
     long : most_period < period → 1 ≡ grid_refusal envelope period score back beats
     unfolding grid_refusal grid_numbers_fine
     long h = rw (le-leb (length envelope) most_rows h1, lt-leb period most_period h)
+
     module _ (h2 : period ≤ most_period) where
       scores-short : score < length envelope → 3 ≡ grid_refusal envelope period score back beats
       unfolding grid_refusal grid_numbers_fine grid_room_fine
       scores-short h = rw (le-leb (length envelope) most_rows h1, le-leb period most_period h2, lt-leb (length envelope) score h)
+
       module _ (h3 : length envelope ≤ score) where
         links-short : back < length envelope → 3 ≡ grid_refusal envelope period score back beats
         unfolding grid_refusal grid_numbers_fine grid_room_fine
@@ -37,6 +40,7 @@ module _ (envelope : List Float) (period score back beats : ℕ) where
           le-leb (length envelope) score h3,
           lt-leb (length envelope) back h,
         )
+
         module _ (h4 : length envelope ≤ back) where
           beats-short : beats < length envelope → 3 ≡ grid_refusal envelope period score back beats
           unfolding grid_refusal grid_numbers_fine grid_room_fine
@@ -48,6 +52,7 @@ module _ (envelope : List Float) (period score back beats : ℕ) where
                 le-leb (length envelope) back h4,
                 lt-leb (length envelope) beats h,
               )
+
           module _ (h5 : length envelope ≤ beats) where
             values : (b : Bool) → every value_fine envelope ≡ b → unless b 4 0 ≡ grid_refusal envelope period score back beats
             unfolding grid_refusal grid_numbers_fine grid_room_fine

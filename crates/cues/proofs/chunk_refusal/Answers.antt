@@ -20,7 +20,7 @@ head-holds c = holds _ _ c.head_fine.ensures (ap not c.if-not-head_fine.false)
 
 -- so that the bytes are as many as the points say
 whole : (c : After-point_count-n) → length c.args.chunk.now ≡ chunk_length c.point_count-n.result
-whole c = 
+whole c =
     let head-holds-here : head_fine c.args.chunk.now ≡ true = holds _ _ c.head_fine.ensures (ap not c.if-not-head_fine.false) in
     (head_says _ (head-holds-here)).whole ∙ ap chunk_length (sym c.point_count-n.ensures)
 

@@ -24,13 +24,13 @@ count : (c : After-point_count-n) → c.point_count-n.result ≡ count_of c.args
 count c = c.point_count-n.ensures
 
 whole : (c : After-point_count-n) → length c.args.chunk.now ≡ 12 + 24 * c.point_count-n.result
-whole c = 
+whole c =
     let ready-here : Readable c.args.chunk.now
     × (count_of c.args.chunk.now ≤ length c.args.frames.now) = let t = read_told _ _ (sym c.read_refusal-no.ensures ∙ c.if-no-ne0.false) in (chunk_told _ t.0, t.1) in
     (ready-here).0.whole ∙ ap (λ (k : ℕ). 12 + 24 * k) (sym (count c))
 
 fits : (c : After-point_count-n) → c.point_count-n.result ≤ length c.args.frames.now
-fits c = 
+fits c =
     let ready-here : Readable c.args.chunk.now
     × (count_of c.args.chunk.now ≤ length c.args.frames.now) = let t = read_told _ _ (sym c.read_refusal-no.ensures ∙ c.if-no-ne0.false) in (chunk_told _ t.0, t.1) in
     omega (arith, (ready-here).1, count c)

@@ -8,11 +8,10 @@ use Rattle.feature_bins.proofs.class_slot.Goals as goal
 
 pub returns-then-hz-2 : goal.returns-then-hz-2
 unfolding class_slot pitch_of pitched
-returns-then-hz-2 c =     let e = c.class_of.ensures in
-    (
-      rw (c.if-hz.true, c.if-hz-2.true) (e.0 ∙ ap (λ (y : Float). class_of (pitch_of_a ⊕ octave ⊗ y)) c.log2.ensures),
-      omega (arith, e.1),
-    )
+returns-then-hz-2 c = let e = c.class_of.ensures in (
+  rw (c.if-hz.true, c.if-hz-2.true) (e.0 ∙ ap (λ (y : Float). class_of (pitch_of_a ⊕ octave ⊗ y)) c.log2.ensures),
+  omega (arith, e.1),
+)
 
 pub returns-else-hz-2 : goal.returns-else-hz-2
 unfolding class_slot pitched

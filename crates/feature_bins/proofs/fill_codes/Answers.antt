@@ -18,18 +18,18 @@ overflow_add-codes c = omega (arith, c.class_slot.ensures.1, c.band_of.ensures.1
 
 pub loop-k-preserved : goal.loop-k-preserved
 unfolding code_at
-loop-k-preserved c =     let a = c.args in (
-      omega arith,
-      simp length-set c.loop-k.invariant.1,
-      rw (c.loop-k.invariant.2, c.class_slot.ensures.0, c.band_of.ensures.0, c.bin_hz-hz.ensures)
-          (filled_more (code_at a.rate) a.codes.now 0 c.loop-k.k (omega arith) 0 (omega (arith, c.requires))),
-    )
+loop-k-preserved c = let a = c.args in (
+  omega arith,
+  simp length-set c.loop-k.invariant.1,
+  rw (c.loop-k.invariant.2, c.class_slot.ensures.0, c.band_of.ensures.0, c.bin_hz-hz.ensures)
+      (filled_more (code_at a.rate) a.codes.now 0 c.loop-k.k (omega arith) 0 (omega (arith, c.requires))),
+)
 
 pub returns : goal.returns
-returns c =     record {
-      whole = c.loop-k.invariant.1;
-      code = λ k h.
-          ap (λ (x : List ℕ). get_or x k 0) c.loop-k.invariant.2
-          ∙ get_or_filled_in (code_at c.args.rate) c.args.codes.now 0 c.loop-k.k (omega arith) (omega (arith, c.requires)) k 0
-          (omega arith) (omega arith);
-    }
+returns c = record {
+  whole = c.loop-k.invariant.1;
+  code = λ k h.
+      ap (λ (x : List ℕ). get_or x k 0) c.loop-k.invariant.2
+      ∙ get_or_filled_in (code_at c.args.rate) c.args.codes.now 0 c.loop-k.k (omega arith) (omega (arith, c.requires)) k 0
+      (omega arith) (omega arith);
+}

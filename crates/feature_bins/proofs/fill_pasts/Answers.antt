@@ -11,16 +11,16 @@ pub loop-k-init : goal.loop-k-init
 loop-k-init c = (omega arith, last-stretch c.args.codes.now c.args.pasts.now c.requires.1)
 
 pub past_at-requires : goal.past_at-requires
-past_at-requires c =     let e : c.loop-k.k - 1 + 1 ≡ c.loop-k.k = omega arith in
+past_at-requires c = let e : c.loop-k.k - 1 + 1 ≡ c.loop-k.k = omega arith in
     (omega arith, c.requires.0, rw e c.loop-k.invariant.1)
 
 pub bounds-pasts-k-in-loop-k : goal.bounds-pasts-k-in-loop-k
 bounds-pasts-k-in-loop-k c = omega (arith, c.loop-k.invariant.1.whole)
 
 pub loop-k-preserved : goal.loop-k-preserved
-loop-k-preserved c =     let e : c.loop-k.k - 1 + 1 ≡ c.loop-k.k = omega arith in
+loop-k-preserved c = let e : c.loop-k.k - 1 + 1 ≡ c.loop-k.k = omega arith in
     (omega arith, more-stretch c.args.codes.now c.loop-k.pasts (c.loop-k.k - 1) _ (omega arith) (rw e c.loop-k.invariant.1) c.past_at.ensures)
 
 pub returns : goal.returns
-returns c =     let e : c.loop-k.k ≡ 0 = omega arith in
+returns c = let e : c.loop-k.k ≡ 0 = omega arith in
     rw e at c.loop-k.invariant.1

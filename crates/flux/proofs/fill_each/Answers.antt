@@ -14,13 +14,12 @@ pub flux_slot-requires : goal.flux_slot-requires
 flux_slot-requires c = record { magnitudes_len = c.requires.magnitudes_len; magnitudes_value = c.requires.magnitudes_value; t_lt_rows = omega arith }
 
 pub loop-t-preserved : goal.loop-t-preserved
-loop-t-preserved c =
-    (
-      omega arith,
-      omega arith,
-      simp length-set c.loop-t.invariant.2,
-      rw (c.loop-t.invariant.3, c.flux_slot.ensures) (filled_more _ _ _ _ (omega arith) nan (omega arith)),
-    )
+loop-t-preserved c = (
+  omega arith,
+  omega arith,
+  simp length-set c.loop-t.invariant.2,
+  rw (c.loop-t.invariant.3, c.flux_slot.ensures) (filled_more _ _ _ _ (omega arith) nan (omega arith)),
+)
 
 pub returns : goal.returns
 returns c =

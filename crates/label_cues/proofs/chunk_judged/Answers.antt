@@ -31,7 +31,7 @@ head-holds c = holds _ _ c.head_fine.ensures (ap not c.if-not-head_fine.false)
 
 whole : (c : After-point_count-n) → length c.args.chunk.now ≡ chunk_length
     c.point_count-n.result
-whole c = 
+whole c =
     let head-holds-here : head_fine c.args.chunk.now ≡ true = holds _ _ c.head_fine.ensures (ap not c.if-not-head_fine.false) in
     (head_says _ (head-holds-here)).whole ∙ ap chunk_length (sym c.point_count-n.ensures)
 
@@ -44,7 +44,7 @@ long c = c.line_length-total.ensures ∙ ap (λ (u : ℕ). length (label_line u)
 most : (c : After-line_length-total) → c.line_length-total.result ≤ 41
 most c =
     let rate-holds-here : rate_fine c.args.rate ≡ true = holds _ _ c.rate_fine.ensures (ap not c.if-not-rate_fine.false) in
-        omega (
+    omega (
       arith,
       long c,
       line_most c.args.rate (rate-holds-here)
@@ -57,7 +57,7 @@ judged : (c : After-read_refusal-no) → c.read_refusal-no.result ≡ first_of (
 judged c =
     let rate-holds-here : rate_fine c.args.rate ≡ true = holds _ _ c.rate_fine.ensures (ap not c.if-not-rate_fine.false) in
     let head-holds-here : head_fine c.args.chunk.now ≡ true = holds _ _ c.head_fine.ensures (ap not c.if-not-head_fine.false) in
-        let chunk = c.args.chunk.now in
+    let chunk = c.args.chunk.now in
     let n = c.point_count-n.result in
     let same = c.point_count-n.ensures in
     let past = c.loop-i-test.false in

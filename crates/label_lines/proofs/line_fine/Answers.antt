@@ -51,7 +51,7 @@ tab-there c =
 
 starts-here : (c : Else-not-stands-2) → c.args.at ≤
     c.digits_end-end.result
-starts-here c = 
+starts-here c =
     let end_is-here : c.digits_end-end.result ≡ c.digits_end-dot.result + 7 = omega (arith, c.if-end-dot-ne7.false, c.digits_end-end.ensures) in
     omega (arith, c.digits_end-dot.ensures, end_is-here)
 

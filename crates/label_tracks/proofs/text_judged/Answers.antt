@@ -28,7 +28,7 @@ judged : (c : After-read_refusal-no) → c.read_refusal-no.result ≡ first_of (
     c.args.rate c.args.text.now)
 judged c =
     let rate-holds-here : rate_fine c.args.rate ≡ true = holds _ _ c.rate_fine.ensures (ap not c.if-not-rate_fine.false) in
-        let text = c.args.text.now in
+    let text = c.args.text.now in
     let rate = c.args.rate in
     let none = from_end text c.loop-at.at c.loop-at-test.false in
     c.read_refusal-no.ensures

@@ -39,8 +39,12 @@ frame_at-requires c =
     let at = c.loop-at.at in
     let n = c.loop-at.n in
     let r = ready (goal.at.frame_at-requires c).Else-no-ne0 in
-    let long = frames_long rate (text_times text) in record { text_value = from_line text at (omega arith) c.loop-at.invariant.1; rate_value = r.0.rated; text_value_2 = times_here rate text at (at + line_length (drop at text)) (omega arith) refl
-            c.loop-at.invariant.2 }
+    let long = frames_long rate (text_times text) in record {
+      text_value = from_line text at (omega arith) c.loop-at.invariant.1;
+      rate_value = r.0.rated;
+      text_value_2 = times_here rate text at (at + line_length (drop at text)) (omega arith) refl
+          c.loop-at.invariant.2;
+    }
 
 pub offset_bounds-frames-n : goal.offset_bounds-frames-n
 offset_bounds-frames-n c =

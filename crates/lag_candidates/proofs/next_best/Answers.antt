@@ -28,7 +28,7 @@ slot : (c : Else-best-weight) → let a = c.args in a.best < length a.weight.now
 slot c =
     let maximum-here : let a = c.args in maximum_at a.weight.now a.i ≡ true = sym c.is_maximum.ensures ∙ not-false _ (ap not c.if-not-is_maximum.false) in
     let apart-here : let a = c.args in stands_apart a.min_lag (a.a ∷ a.b ∷ []) a.i ≡ true = sym c.is_apart.ensures ∙ not-false _ (ap not c.if-not-is_apart.false) in
-        let b = best_below _ _ _ _ _ c.requires.i_in_bounds.0 c.requires.i_in_bounds.1 (maximum-here) (apart-here) c.if-best-weight.false in
+    let b = best_below _ _ _ _ _ c.requires.i_in_bounds.0 c.requires.i_in_bounds.1 (maximum-here) (apart-here) c.if-best-weight.false in
     omega (arith, b, c.requires.i_in_bounds.0)
 
 pub returns-then-not-is_maximum : goal.returns-then-not-is_maximum

@@ -7,5 +7,8 @@ use Rattle.lag_curves.proofs.fill_lag_curves.Goals as goal
 
 pub returns : goal.returns
 returns c =
-    let a = c.args in record { clarity_after = c.fill_clarity.ensures; weight_after = c.fill_weight.ensures ∙ weighted-is a.envelope.now a.mean a.ac0 a.rate a.min_lag
-          (lag_room a.min_lag a.max_lag) _ a.clarity.now a.weight.now (omega arith) c.fill_clarity.ensures }
+    let a = c.args in record {
+      clarity_after = c.fill_clarity.ensures;
+      weight_after = c.fill_weight.ensures ∙ weighted-is a.envelope.now a.mean a.ac0 a.rate a.min_lag
+          (lag_room a.min_lag a.max_lag) _ a.clarity.now a.weight.now (omega arith) c.fill_clarity.ensures;
+    }

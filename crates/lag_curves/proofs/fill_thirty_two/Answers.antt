@@ -16,9 +16,11 @@ use Rattle.lag_curves.proofs.fill_thirty_two.Goals as goal
 module _ (env : List Float) (mean : Float) (least from t : ℕ) (s : ThirtyTwo) (e : s ≡ thirty_two_sums env mean (least + from) t) where
   at-lag : (l k : ℕ) → l ≡ k → eight_sums env mean l t ≡ eight_sums env mean k t
   at-lag l k h = ap (λ (n : ℕ). eight_sums env mean n t) h
+
   eights-low : (s.a ≡ eight_sums env mean (least + from) t) × (s.b ≡ eight_sums env mean (least + (from + 8)) t)
   unfolding thirty_two_sums
   eights-low = (ap (λ (x : ThirtyTwo). x.a) e, ap (λ (x : ThirtyTwo). x.b) e ∙ at-lag _ _ (omega arith))
+
   eights-high : (s.c ≡ eight_sums env mean (least + (from + 16)) t) × (s.d ≡ eight_sums env mean (least + (from + 16 + 8)) t)
   unfolding thirty_two_sums
   eights-high = (ap (λ (x : ThirtyTwo). x.c) e ∙ at-lag _ _ (omega arith), ap (λ (x : ThirtyTwo). x.d) e ∙ at-lag _ _ (omega arith))
@@ -26,14 +28,20 @@ module _ (env : List Float) (mean : Float) (least from t : ℕ) (s : ThirtyTwo) 
 pub fill_sixteen-requires : goal.fill_sixteen-requires
 fill_sixteen-requires c =
     let a = c.args in
-    let t = (length a.envelope.now - (a.min_lag + a.from) - 32) / 128 * 128 in record { from_in_bounds = (omega arith, omega arith, omega arith); low_value = eights-low a.envelope.now a.mean a.min_lag a.from t c.block_sums-s.result
-          c.block_sums-s.ensures }
+    let t = (length a.envelope.now - (a.min_lag + a.from) - 32) / 128 * 128 in record {
+      from_in_bounds = (omega arith, omega arith, omega arith);
+      low_value = eights-low a.envelope.now a.mean a.min_lag a.from t c.block_sums-s.result
+          c.block_sums-s.ensures;
+    }
 
 pub fill_sixteen-requires-2 : goal.fill_sixteen-requires-2
 fill_sixteen-requires-2 c =
     let a = c.args in
-    let t = (length a.envelope.now - (a.min_lag + a.from) - 32) / 128 * 128 in record { from_in_bounds = (omega arith, omega arith, omega arith); low_value = eights-high a.envelope.now a.mean a.min_lag a.from t c.block_sums-s.result
-          c.block_sums-s.ensures }
+    let t = (length a.envelope.now - (a.min_lag + a.from) - 32) / 128 * 128 in record {
+      from_in_bounds = (omega arith, omega arith, omega arith);
+      low_value = eights-high a.envelope.now a.mean a.min_lag a.from t c.block_sums-s.result
+          c.block_sums-s.ensures;
+    }
 
 pub returns : goal.returns
 returns c =

@@ -18,6 +18,7 @@ module _ (rate : ℕ) (o : TempoOpts) where
   min-is : (bpm : Float) (lag r : ℕ) → bpm ≡ high_bpm o → lag ≡ round_of (minute_over rate bpm) → r ≡ max 1 lag → r ≡ min_lag rate o
   unfolding min_lag
   min-is bpm lag r e h k = k ∙ ap (max 1) (h ∙ ap (λ (x : Float). round_of (minute_over rate x)) e)
+
   max-is : (bpm : Float) (least lag r : ℕ) → bpm ≡ low_bpm o → lag ≡ round_of (minute_over rate bpm) → least ≡ min_lag rate o → r ≡ max (least + 1) lag
       → r ≡ max_lag rate o
   unfolding max_lag

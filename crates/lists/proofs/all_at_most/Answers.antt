@@ -13,12 +13,11 @@ returns-then-list-i c =
     ∙ simp (lt-leb _ _ c.if-list-i.true))
 
 pub loop-i-preserved : goal.loop-i-preserved
-loop-i-preserved c =
-    (
-      omega arith,
-      c.loop-i.invariant.1 ∙ every_step (at_most c.args.most) c.args.list.now c.loop-i.i 0 (omega arith)
-          ∙ simp (le-leb _ _ c.if-list-i.false),
-    )
+loop-i-preserved c = (
+  omega arith,
+  c.loop-i.invariant.1 ∙ every_step (at_most c.args.most) c.args.list.now c.loop-i.i 0 (omega arith)
+      ∙ simp (le-leb _ _ c.if-list-i.false),
+)
 
 pub returns : goal.returns
 returns c =

@@ -31,10 +31,13 @@ overflow_cast-gap c =
 
 pub put_event-at-requires : goal.put_event-at-requires
 put_event-at-requires c =
-    let i = c.loop-i.i in record { gap_bound = omega (arith, c.gap_at-gap.ensures, gap_most c.args.rate c.args.beats.now c.requires.beats_value.0 i (omega arith)); at_in_bounds = omega (
+    let i = c.loop-i.i in record {
+      gap_bound = omega (arith, c.gap_at-gap.ensures, gap_most c.args.rate c.args.beats.now c.requires.beats_value.0 i (omega arith));
+      at_in_bounds = omega (
         arith,
         place c.args.beats.now c.args.rate c.args.from i c.loop-i.at c.loop-i.file c.args.file.now c.loop-i.invariant.0 c.loop-i.invariant.2,
-      ) }
+      );
+    }
 
 pub loop-i-preserved : goal.loop-i-preserved
 loop-i-preserved c =

@@ -28,7 +28,9 @@ put_words-from-requires c = omega (arith, (ready (goal.at.put_words-from-require
 pub put_events-end-requires : goal.put_events-end-requires
 put_events-end-requires c =
     let r = ready (goal.at.put_events-end-requires c).Start in
-    record { rate_nonzero = (r.rate_some, omega (arith, r.two-beats)); beats_value = (
+    record {
+      rate_nonzero = (r.rate_some, omega (arith, r.two-beats));
+      beats_value = (
         r.fits,
         omega (
           arith,
@@ -37,7 +39,8 @@ put_events-end-requires c =
           ap length c.front-head.ensures,
           put-length c.put_words-from.ensures,
         ),
-      ) }
+      );
+    }
 
 pub put_end-requires : goal.put_end-requires
 put_end-requires c =

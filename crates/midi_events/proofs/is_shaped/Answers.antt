@@ -24,7 +24,7 @@ events : (c : After-events_stand) → let file = c.args.file.now in
     shaped file ≡ (c.events_stand.result && starts track_end (drop (22 + count_in file * 7) file))
 events c =
     let whole-here : let file = c.args.file.now in length file ≡ track_room (count_in file) = omega arith in
-        let file = c.args.file.now in
+    let file = c.args.file.now in
     let s = c.stands.ensures ∙ ap (λ (r : List ℕ). starts r file) c.front-head.ensures in
     by_events file c.if-file-lt33.false (whole-here) c.if-count-gt-MOST_GAPS.false c.events_stand.result (holds _ _ s (ap not c.if-not-stands.false))
     c.events_stand.ensures

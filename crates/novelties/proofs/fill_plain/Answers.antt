@@ -11,13 +11,12 @@ pub loop-i-init : goal.loop-i-init
 loop-i-init c = (omega arith, omega arith, refl, sym (filled_none _ _ _))
 
 pub loop-i-preserved : goal.loop-i-preserved
-loop-i-preserved c =
-    (
-      omega arith,
-      omega arith,
-      simp length-set c.loop-i.invariant.2,
-      rw (c.loop-i.invariant.3, c.novelty_slot.ensures) (filled_more _ _ _ _ (omega arith) nan (omega arith)),
-    )
+loop-i-preserved c = (
+  omega arith,
+  omega arith,
+  simp length-set c.loop-i.invariant.2,
+  rw (c.loop-i.invariant.3, c.novelty_slot.ensures) (filled_more _ _ _ _ (omega arith) nan (omega arith)),
+)
 
 pub returns : goal.returns
 returns c =

@@ -18,7 +18,7 @@ abbrev quarters : Float → List Float → ℕ → Bool
 quarters top s q = part top s 0 q && (part top s q (2 * q) && (part top s (2 * q) (3 * q) && part top s (3 * q) (4 * q)))
 
 pub returns-then-quarters : goal.returns-then-quarters
-returns-then-quarters c =     let args = c.args in
+returns-then-quarters c = let args = c.args in
     let top = args.top in
     let s = args.s.now in
     let q = length s / 4 in
@@ -26,7 +26,7 @@ returns-then-quarters c =     let args = c.args in
     c.run_sized-rest.ensures ∙ and-held (quarters top s q) (part top s (4 * q) (length s)) (sym e ∙ c.if-quarters.true) ∙ sym (every_quarters (sized top) s q)
 
 pub returns-else-quarters : goal.returns-else-quarters
-returns-else-quarters c =     let args = c.args in
+returns-else-quarters c = let args = c.args in
     let top = args.top in
     let s = args.s.now in
     let q = length s / 4 in

@@ -14,10 +14,10 @@ pub loop-i-init : goal.loop-i-init
 loop-i-init c = (omega arith, and-true _)
 
 pub loop-i-preserved : goal.loop-i-preserved
-loop-i-preserved c =     let s = c.args.s.now in
+loop-i-preserved c = let s = c.args.s.now in
     let i = c.loop-i.i in
     let e = c.loop-i.invariant.1 ∙ every_step_1 magnitude_fine s i nan c.loop-i.fine (omega arith) in
     (omega arith, e ∙ ap (λ (b : Bool). every magnitude_fine (drop (i + 1) s) && b) (sym c.still_fine-fine.ensures))
 
 pub returns : goal.returns
-returns c =     sym (c.loop-i.invariant.1 ∙ ap (λ (b : Bool). b && c.loop-i.fine) (every_end magnitude_fine _ _ c.loop-i-test.false))
+returns c = sym (c.loop-i.invariant.1 ∙ ap (λ (b : Bool). b && c.loop-i.fine) (every_end magnitude_fine _ _ c.loop-i-test.false))

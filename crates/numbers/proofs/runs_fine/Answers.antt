@@ -19,7 +19,7 @@ pub loop-i-init : goal.loop-i-init
 loop-i-init c = (omega arith, refl)
 
 pub loop-i-preserved : goal.loop-i-preserved
-loop-i-preserved k =     let g = k.args in
+loop-i-preserved k = let g = k.args in
     let i = k.loop-i.i in
     let a = g.a.now in
     let b = g.b.now in
@@ -34,7 +34,7 @@ loop-i-preserved k =     let g = k.args in
     (omega arith, k.loop-i.invariant.1 ∙ step ∙ ap (every_4 magnitude_fine a b c d (i + 1)) (sym e₄))
 
 pub returns : goal.returns
-returns k =     let g = k.args in
+returns k = let g = k.args in
     let a = g.a.now in
     let b = g.b.now in
     let c = g.c.now in

@@ -11,7 +11,7 @@ pub loop-j-init : goal.loop-j-init
 loop-j-init c = (omega arith, refl, paste-zero c.args.magnitudes.now c.args.at c.args.new.now)
 
 pub loop-j-preserved : goal.loop-j-preserved
-loop-j-preserved c =     let g = c.args in
+loop-j-preserved c = let g = c.args in
     let j = c.loop-j.j in (
       omega arith,
       simp length-set c.loop-j.invariant.1,
@@ -20,6 +20,6 @@ loop-j-preserved c =     let g = c.args in
 
 pub returns : goal.returns
 unfolding over
-returns c =     let g = c.args in
+returns c = let g = c.args in
     let e : c.loop-j.j ≡ length g.new.now = omega arith in
     c.loop-j.invariant.2 ∙ ap (paste g.magnitudes.now g.at g.new.now) e

@@ -7,7 +7,7 @@ use lib.Seq.{paste}
 use Rattle.patches.proofs.copy_magnitudes.Given as goal
 
 abbrev pub invariant-loop-j : goal.invariant-loop-j
-invariant-loop-j l =     (l.j ≤ length l.new) × (length l.magnitudes ≡ length l.initial.magnitudes) × (l.magnitudes ≡ paste l.initial.magnitudes l.at l.new l.j)
+invariant-loop-j l = (l.j ≤ length l.new) × (length l.magnitudes ≡ length l.initial.magnitudes) × (l.magnitudes ≡ paste l.initial.magnitudes l.at l.new l.j)
 
 abbrev pub decreases-loop-j : goal.decreases-loop-j
 decreases-loop-j l = length l.new - l.j

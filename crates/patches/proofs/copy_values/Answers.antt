@@ -11,7 +11,7 @@ pub loop-k-init : goal.loop-k-init
 loop-k-init c = (omega arith, refl, paste-zero c.args.values.now c.args.at c.args.new.now)
 
 pub loop-k-preserved : goal.loop-k-preserved
-loop-k-preserved c =     let g = c.args in
+loop-k-preserved c = let g = c.args in
     let k = c.loop-k.k in (
       omega arith,
       simp length-set c.loop-k.invariant.1,
@@ -20,6 +20,6 @@ loop-k-preserved c =     let g = c.args in
 
 pub returns : goal.returns
 unfolding over
-returns c =     let g = c.args in
+returns c = let g = c.args in
     let e : c.loop-k.k ≡ length g.new.now = omega arith in
     c.loop-k.invariant.2 ∙ ap (paste g.values.now g.at g.new.now) e

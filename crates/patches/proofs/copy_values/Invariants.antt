@@ -7,7 +7,7 @@ use lib.Seq.{paste}
 use Rattle.patches.proofs.copy_values.Given as goal
 
 abbrev pub invariant-loop-k : goal.invariant-loop-k
-invariant-loop-k l =     (l.k ≤ length l.new) × (length l.values ≡ length l.initial.values) × (l.values ≡ paste l.initial.values l.at l.new l.k)
+invariant-loop-k l = (l.k ≤ length l.new) × (length l.values ≡ length l.initial.values) × (l.values ≡ paste l.initial.values l.at l.new l.k)
 
 abbrev pub decreases-loop-k : goal.decreases-loop-k
 decreases-loop-k l = length l.new - l.k

@@ -10,5 +10,5 @@ unfolding new_rows
 returns-then-added-width-ne0 c = simp (ne_eqb _ _ c.if-added-width-ne0.true)
 
 pub returns : goal.returns
-returns c =     let g = c.args in
+returns c = let g = c.args in
     fits_left g.rows g.width g.start g.added (omega arith) c.if-added-width-ne0.false

@@ -38,11 +38,14 @@ slice_bounds-take_row-end-2 c = omega (arith, pair_fits c.requires)
 pub take_row-still-requires : goal.take_row-still-requires
 take_row-still-requires c =
     let fewer : c.args.t < c.args.rows = omega (arith, (rows-within c.requires).row_is, c.if-t-rows.false) in
-    let bins = c.args.bins in record { bytes_len = (
+    let bins = c.args.bins in record {
+      bytes_len = (
         part_length (bins * 4) _ (simp length-set (width_fits c.requires)),
         part_length (2 * bins) _ (pair_fits c.requires),
         row_fits c.requires fewer,
-      ); kept_value = λ f. rw part_is ((rows-within c.requires).kept_fine f) }
+      );
+      kept_value = λ f. rw part_is ((rows-within c.requires).kept_fine f);
+    }
 
 pub overflow_add-next : goal.overflow_add-next
 overflow_add-next c = omega

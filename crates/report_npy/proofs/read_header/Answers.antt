@@ -32,7 +32,7 @@ comma-holds c = holds _ _ c.stands-2.ensures (ap not c.if-not-stands-2.false)
 columns-decide : (c : Else-not-stands-2) → header_of c.args.text.now
     ≡ columns_of (number_from 0 (leading (drop 51 c.args.text.now))) (drop (c.digits_end-rows_end.result + 2)
     c.args.text.now)
-columns-decide c = 
+columns-decide c =
     let front-holds-here : starts front c.args.text.now ≡ true = holds _ _ c.stands.ensures (ap not c.if-not-stands.false) in
     let rows-hold-here : plain (leading (drop 51 c.args.text.now)) ≡ true = holds _ _ c.plain_number.ensures (ap not c.if-not-plain_number.false) in
     rows_at _ (front-holds-here) _ c.digits_end-rows_end.ensures

@@ -8,22 +8,22 @@ use Rattle.report_text.proofs.Puts.{put_then, put_as, first_entry}
 use Rattle.report_text.proofs.put_report.Goals as goal
 
 pub put_line-e-requires : goal.put_line-e-requires
-put_line-e-requires c =     omega (arith, c.put_line-d.ensures.end_most, c.put_line-c.ensures.end_most, c.put_line-b.ensures.end_most, c.put_line-a.ensures.end_most, c.requires)
+put_line-e-requires c = omega (arith, c.put_line-d.ensures.end_most, c.put_line-c.ensures.end_most, c.put_line-b.ensures.end_most, c.put_line-a.ensures.end_most, c.requires)
 
 pub put_stability-requires : goal.put_stability-requires
-put_stability-requires c =     omega (
-      arith,
-      c.put_line-e.ensures.end_most,
-      c.put_line-d.ensures.end_most,
-      c.put_line-c.ensures.end_most,
-      c.put_line-b.ensures.end_most,
-      c.put_line-a.ensures.end_most,
-      c.requires,
-    )
+put_stability-requires c = omega (
+  arith,
+  c.put_line-e.ensures.end_most,
+  c.put_line-d.ensures.end_most,
+  c.put_line-c.ensures.end_most,
+  c.put_line-b.ensures.end_most,
+  c.put_line-a.ensures.end_most,
+  c.requires,
+)
 
 pub returns : goal.returns
 unfolding report_text
-returns c =     let cs = c.args.candidates.now in
+returns c = let cs = c.args.candidates.now in
     let k = c.least-lag.result in
     let short : length (take (k - 0) cs) ≤ 1 = simp length-take (omega (arith, c.least-lag.ensures)) in
     let lag = put_as {k = 20} (ap (line_text lag_word) (first_entry cs k c.least-lag.ensures)) (omega arith) c.put_line-b.ensures in

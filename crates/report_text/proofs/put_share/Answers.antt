@@ -9,6 +9,6 @@ returns-then-windows-eq0 c = put_as (sym (share-none _ _ c.if-windows-eq0.true))
     (put_whole c.put_words.ensures)
 
 pub returns : goal.returns
-returns c =     put_as (sym (share-some _ _ c.if-windows-eq0.false)) (omega arith)
+returns c = put_as (sym (share-some _ _ c.if-windows-eq0.false)) (omega arith)
     (put_then (put_then c.put_spaced-first_end.ensures
     (put_whole c.put_byte-slash_end.ensures)) c.put_number.ensures)

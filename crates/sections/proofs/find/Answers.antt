@@ -34,12 +34,11 @@ slice_bounds-confidence_of-end c =
     omega (arith, few (goal.at.slice_bounds-confidence_of-end c).After-pick_boundaries-count)
 
 pub confidence_of-sure-requires : goal.confidence_of-sure-requires
-confidence_of-sure-requires c =
-    (
-      c.median_in-med.ensures.value,
-      rw (picked_part _ _ _ _ (picked (goal.at.confidence_of-sure-requires c).After-pick_boundaries-count).picked)
-          (picked-inside c.args.novelty.now c.args.gap c.args.most),
-    )
+confidence_of-sure-requires c = (
+  c.median_in-med.ensures.value,
+  rw (picked_part _ _ _ _ (picked (goal.at.confidence_of-sure-requires c).After-pick_boundaries-count).picked)
+      (picked-inside c.args.novelty.now c.args.gap c.args.most),
+)
 
 pub overflow_add-result : goal.overflow_add-result
 overflow_add-result c = omega (arith, few (goal.at.overflow_add-result c).After-pick_boundaries-count)

@@ -12,19 +12,19 @@ use Rattle.texts.proofs.Texts.{leading-fits, leading-first, plain-none, plain-on
 use Rattle.texts.proofs.plain_number.Goals as goal
 
 pub returns-then-count-eq0 : goal.returns-then-count-eq0
-returns-then-count-eq0 c =     let ds = leading (drop c.args.at c.args.text.now) in
+returns-then-count-eq0 c = let ds = leading (drop c.args.at c.args.text.now) in
     sym (plain-none ds (omega arith))
 
 pub returns-then-count-eq1 : goal.returns-then-count-eq1
-returns-then-count-eq1 c =     let ds = leading (drop c.args.at c.args.text.now) in
+returns-then-count-eq1 c = let ds = leading (drop c.args.at c.args.text.now) in
     sym (plain-one ds (omega arith))
 
 pub bounds-text-at : goal.bounds-text-at
-bounds-text-at c =     let rest = drop c.args.at c.args.text.now in
+bounds-text-at c = let rest = drop c.args.at c.args.text.now in
     omega (arith, leading-fits rest, length-drop c.args.at c.args.text.now)
 
 pub returns : goal.returns
-returns c =     let text = c.args.text.now in
+returns c = let text = c.args.text.now in
     let at = c.args.at in
     let rest = drop at text in
     let first : get_or (leading rest) 0 0 ≡ get_or text at 0

@@ -93,8 +93,11 @@ returns-then-values_fine c =
     let past = c.args.past in
     let th = c.args.threshold.now in
     let rule = threshold_at flux in
-    let m : last ≤ length th = le_trans g.end p.2 in record { threshold_after = c.fill_slots-then-values_fine.ensures.threshold_after
+    let m : last ≤ length th = le_trans g.end p.2 in record {
+      threshold_after = c.fill_slots-then-values_fine.ensures.threshold_after
           ∙ ap (λ (l : List Float). filled rule l last past)
           (c.fill_whole.ensures ∙ ap (λ (l : List Float). filled rule l first last) c.fill_slots.ensures.threshold_after
           ∙ filled_join rule th from first last g.begin (le_of_lt g.more) nan m)
-          ∙ filled_join rule th from last past (le_trans g.begin (le_of_lt g.more)) g.end nan p.2; work_unchanged = c.fill_slots-then-values_fine.ensures.work_unchanged ∙ c.fill_slots.ensures.work_unchanged }
+          ∙ filled_join rule th from last past (le_trans g.begin (le_of_lt g.more)) g.end nan p.2;
+      work_unchanged = c.fill_slots-then-values_fine.ensures.work_unchanged ∙ c.fill_slots.ensures.work_unchanged;
+    }

@@ -79,13 +79,13 @@ loop-t-preserved c =
     let y = c.one_zero-comes.ensures in
     let next = next_window flux f t eleven room part x y c.loop-t.s v.4 in
     let moved : c.if-leaves-comes.s ≡ sorted_at flux f t = elim c.if-leaves-comes.branch [
-        then-leaves-comes z ↦ z.s-is ∙ z.replace.ensures ∙ next
+      | then-leaves-comes z ↦ z.s-is ∙ z.replace.ensures ∙ next
       | else-leaves-comes z ↦ z.s-is ∙ v.4 ∙ same-window flux f t eleven room part x y (not-false _ z.if-leaves-comes.false)
     ] in
     let value : c.if-leaves-comes.value ≡ threshold_at flux t = elim c.if-leaves-comes.branch [
-        then-leaves-comes z ↦
-        z.value-is ∙ z.over_sorted-value-then-leaves-comes.ensures ∙ ap sorted_threshold (z.replace.ensures ∙ next)
-        ∙ sorted_threshold_lem flux f t ten room (λ i a b. part i (omega arith) b)
+      | then-leaves-comes z ↦
+          z.value-is ∙ z.over_sorted-value-then-leaves-comes.ensures ∙ ap sorted_threshold (z.replace.ensures ∙ next)
+          ∙ sorted_threshold_lem flux f t ten room (λ i a b. part i (omega arith) b)
       | else-leaves-comes z ↦ z.value-is ∙ v.5 ∙ same_threshold flux f t eleven room part x y (not-false _ z.if-leaves-comes.false)
     ] in (
       omega arith,

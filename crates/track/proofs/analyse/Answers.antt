@@ -8,13 +8,17 @@ use Rattle.track.proofs.analyse.Goals as goal
 pub follow-after-requires : goal.follow-after-requires
 follow-after-requires c =
     let r = c.requires in
-    let long = work_long _ _ _ _ _ _ _ _ _ _ _ _ _ _ r _ _ _ _ c.list_onsets-heard.ensures _ _ _ _ c.estimate-found.ensures in record { envelope_len_bound = (
+    let long = work_long _ _ _ _ _ _ _ _ _ _ _ _ _ _ r _ _ _ _ c.list_onsets-heard.ensures _ _ _ _ c.estimate-found.ensures in record {
+      envelope_len_bound = (
         r.rows,
         r.values,
         lag_most _ _ _ _ _ _ _ _ _ _ _ _ _ _ r _ _ _ _ c.list_onsets-heard.ensures _ _ _ _ c.estimate-found.ensures _
             c.winners_lag-lag.ensures,
         r.bounds,
-      ); envelope_in_bounds = (r.scores, r.links, r.beat_lists, r.downbeat_lists); opts_in_bounds = (r.window_clarities, r.window_weights, omega (arith, r.lag_works, long)) }
+      );
+      envelope_in_bounds = (r.scores, r.links, r.beat_lists, r.downbeat_lists);
+      opts_in_bounds = (r.window_clarities, r.window_weights, omega (arith, r.lag_works, long));
+    }
 
 pub shape_of-threshold : goal.shape_of-threshold
 shape_of-threshold c = c.list_onsets-heard.auto.threshold

@@ -19,6 +19,7 @@ module _ (f : ℕ → Float) (lo m end : ℕ) (value : Float) (at : ℕ) (all : 
   has_one : at < end → Scan f lo m end value at → Reached f lo end at value
   has_one h (nothing z e none) = absurd (omega arith)
   has_one h (something g r) = rw all at r
+
   has-none : end ≤ at → Scan f lo m end value at → unlinked ≡ greatest f lo (end - lo) unlinked
   has-none h (nothing z e none) = none_above f lo end (λ i p q. none i p (omega arith))
   has-none h (something g r) = absurd (omega arith)
@@ -38,11 +39,14 @@ loop-u-preserved c =
     ap (lt c.loop-u.value) (sym c.top_of_eight-top.ensures) in (
       omega arith,
       omega arith,
-      elim c.if-value-top.branch [ then-value-top w ↦           moved f a.lo (s + 8) (min (u + 8) a.end) a.end c.if-value-top.value (top_of_eight f s) c.if-value-top.at s m (w.value-is ∙ c.top_of_eight-top.ensures) w.at-is
-          (rises f a.lo (min u a.end) a.end c.loop-u.value c.loop-u.at s (s + 8) (omega arith) (omega arith) refl (omega arith)
-          (omega arith) c.loop-u.invariant.2 (now-lt ∙ w.if-value-top.true)) | else-value-top w ↦           moved f a.lo (s + 8) (min (u + 8) a.end) a.end c.if-value-top.value c.loop-u.value c.if-value-top.at c.loop-u.at m w.value-is w.at-is
-          (stays f a.lo (min u a.end) a.end c.loop-u.value c.loop-u.at s (s + 8) (omega arith) (omega arith) refl (omega arith)
-          (omega arith) c.loop-u.invariant.2 (now-lt ∙ w.if-value-top.false)) ],
+      elim c.if-value-top.branch [
+        | then-value-top w ↦ moved f a.lo (s + 8) (min (u + 8) a.end) a.end c.if-value-top.value (top_of_eight f s) c.if-value-top.at s m (w.value-is ∙ c.top_of_eight-top.ensures) w.at-is
+            (rises f a.lo (min u a.end) a.end c.loop-u.value c.loop-u.at s (s + 8) (omega arith) (omega arith) refl (omega arith)
+            (omega arith) c.loop-u.invariant.2 (now-lt ∙ w.if-value-top.true))
+        | else-value-top w ↦ moved f a.lo (s + 8) (min (u + 8) a.end) a.end c.if-value-top.value c.loop-u.value c.if-value-top.at c.loop-u.at m w.value-is w.at-is
+            (stays f a.lo (min u a.end) a.end c.loop-u.value c.loop-u.at s (s + 8) (omega arith) (omega arith) refl (omega arith)
+            (omega arith) c.loop-u.invariant.2 (now-lt ∙ w.if-value-top.false))
+      ],
     )
 
 pub first_reaching-requires : goal.first_reaching-requires

@@ -39,17 +39,17 @@ loop-u-preserved c =
       omega arith,
       c.loop-u.invariant.1,
       elim c.if-reached-prev.branch [
-          then-reached-prev+then-value-prev+then-value-extension w ↦
-          step w.extended_at-extension.result b c.if-reached-prev.at true h w.extended_at-extension.ensures w.if-value-extension.true w.value-is w.at-is
+        | then-reached-prev+then-value-prev+then-value-extension w ↦
+            step w.extended_at-extension.result b c.if-reached-prev.at true h w.extended_at-extension.ensures w.if-value-extension.true w.value-is w.at-is
         | then-reached-prev+then-value-prev+else-value-extension w ↦
-          step w.extended_at-extension.result b c.if-reached-prev.at false h w.extended_at-extension.ensures w.if-value-extension.false w.value-is w.at-is
+            step w.extended_at-extension.result b c.if-reached-prev.at false h w.extended_at-extension.ensures w.if-value-extension.false w.value-is w.at-is
         | then-reached-prev+else-value-prev w ↦
-          step (f u) b c.if-reached-prev.at false h refl (not-above a.period a.score.now a.t u v holds w.if-value-prev.false) w.value-is w.at-is
+            step (f u) b c.if-reached-prev.at false h refl (not-above a.period a.score.now a.t u v holds w.if-value-prev.false) w.value-is w.at-is
         | else-reached-prev w ↦
-          ap (λ (y : Float). greatest f (u + 1) (a.end - (u + 1)) (best y c.if-reached-prev.at)) w.value-is
-          ∙ ap (λ (k : ℕ). greatest f (u + 1) (a.end - (u + 1)) (best v k)) w.at-is
-          ∙ greatest_skip f u a.end v c.up-reached.result b h reaches
-          (not_reached a.period a.score.now a.t u c.up-reached.result holds w.if-reached-prev.false)
+            ap (λ (y : Float). greatest f (u + 1) (a.end - (u + 1)) (best y c.if-reached-prev.at)) w.value-is
+            ∙ ap (λ (k : ℕ). greatest f (u + 1) (a.end - (u + 1)) (best v k)) w.at-is
+            ∙ greatest_skip f u a.end v c.up-reached.result b h reaches
+            (not_reached a.period a.score.now a.t u c.up-reached.result holds w.if-reached-prev.false)
       ]
           ∙ c.loop-u.invariant.2,
     )

@@ -16,6 +16,7 @@ module _ (f : Float → Float) (acc : Float) (xs : List Float) (i : ℕ) where
   sum_step : i < length xs → sum_from (acc ⊕ f (get_or xs i nan)) (map f (drop (i + 1) xs)) ≡ sum_from acc (map f (drop i xs))
   unfolding sum_from
   sum_step h = rw (add-one, drop-cons xs i nan)
+
   sum_end : length xs ≤ i → acc ≡ sum_from acc (map f (drop i xs))
   unfolding sum_from
   sum_end h = rw drop_of_length-le
@@ -25,11 +26,10 @@ loop-i-init c = (omega arith, refl)
 
 pub loop-i-preserved : goal.loop-i-preserved
 unfolding square_about
-loop-i-preserved c =
-    (
-      omega arith,
-      sum_step (square_about c.mean_of-mean.result) c.loop-i.sum c.args.xs.now c.loop-i.i (omega arith) ∙ c.loop-i.invariant.1,
-    )
+loop-i-preserved c = (
+  omega arith,
+  sum_step (square_about c.mean_of-mean.result) c.loop-i.sum c.args.xs.now c.loop-i.i (omega arith) ∙ c.loop-i.invariant.1,
+)
 
 pub returns : goal.returns
 unfolding variance_of

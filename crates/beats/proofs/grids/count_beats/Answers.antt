@@ -13,8 +13,10 @@ use Rattle.beats.proofs.grids.count_beats.Goals as goal
 module _ (back : List ℕ) (end t : ℕ) (down : Descends (link_at back) end) (in_List : end < length back) (h : t ≤ end) (has : get_or back t 0 ≡ no_link → ⊥) where
   is : get_or back t 0 ≡ link_at back t
   is = link_read back t (omega arith)
+
   falls : get_or back t 0 < t
   falls = let d = down t h (λ e. has (is ∙ e)) in omega (arith, d, is)
+
   longer : length (beats_to (link_at back) t) ≡ length (beats_to (link_at back) (get_or back t 0)) + 1
   longer =
       ap length (beats-after (link_at back) end down t h (λ e. has (is ∙ e))) ∙ length-append (beats_to (link_at back) (link_at back t)) (t ∷ [])

@@ -23,14 +23,17 @@ module _ (period : ℕ) (flux : ℕ → Float) (n : ℕ) (score₀ score : List 
   value_read : (t : ℕ) → t < n → value_at score t ≡ value_at (scores period flux n) t
   value_read t h = ap (λ (l : List Float). get_or l t nan) w.scores_are
       ∙ get_or_listed_in (scores period flux n) score₀ t nan (omega (arith, length-scores period flux n))
+
   link-written : (t : ℕ) → t < n → link_at back t ≡ link_at (links period flux n) t
   link-written t h = ap (λ (l : List ℕ). get_or l t no_link) w.links_are
       ∙ get_or_listed_in (links period flux n) back₀ t no_link (omega (arith, length-links period flux n))
+
   module _ (end : ℕ) (inside : end < n) where
     down : Descends (link_at back) end
     down u h has =
         let e = link-written u (omega arith) in
         omega (arith, e, links_descend period flux n some end inside u h (λ z. has (e ∙ z)))
+
     -- the beats are the definition's
     walks : end ≡ first_greatest (value_at score) n → beats_to (link_at back) end ≡ grid period flux n
     unfolding grid

@@ -16,16 +16,21 @@ module _ (back : List ℕ) (end t i : ℕ) (down : Descends (link_at back) end) 
     (n : i ≡ length (beats_to (link_at back) t)) where
   is : get_or back t 0 ≡ link_at back t
   is = link_read back t (omega arith)
+
   -- more than one beat: t has a link
   linked : 1 < i → link_at back t ≡ no_link → ⊥
   linked m e = omega (arith, m, n, ap length (beats-alone (link_at back) t e))
+
   falls : 1 < i → get_or back t 0 < t
   falls m = let d = down t h (linked m) in omega (arith, d, is)
+
   -- and the beats that end at t are those of its link, and t
   ends_at : 1 < i → beats_to (link_at back) t ≡ beats_to (link_at back) (get_or back t 0) ++ (t ∷ [])
   ends_at m = beats-after (link_at back) end down t h (linked m) ∙ ap (λ (k : ℕ). beats_to (link_at back) k ++ (t ∷ [])) (sym is)
+
   shorter : 1 < i → i - 1 ≡ length (beats_to (link_at back) (get_or back t 0))
   shorter m = omega (arith, n, ap length (ends_at m) ∙ length-append (beats_to (link_at back) (get_or back t 0)) (t ∷ []))
+
   -- one beat: it is t
   last : i ≤ 1 → beats_to (link_at back) t ≡ t ∷ []
   last m =

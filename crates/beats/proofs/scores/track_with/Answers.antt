@@ -21,6 +21,7 @@ module _ (period : ℕ) (flux : ℕ → Float) (score₀ score : List Float) (t 
     (was : score ≡ listed (scores period flux t) score₀) (is : best ≡ extension period score t) where
   before : (u : ℕ) → u < t → get_or score u nan ≡ get_or (scores period flux t) u nan
   before u h = ap (λ (l : List Float). get_or l u nan) was ∙ get_or_listed_in (scores period flux t) score₀ u nan (omega (arith, length-scores period flux t))
+
   scored : t < length score₀ → set score t (flux t ⊕ best.value) ≡ listed (scores period flux (t + 1)) score₀
   scored h =
       let ss = scores period flux t in
@@ -32,6 +33,7 @@ module _ (period : ℕ) (flux : ℕ → Float) (score₀ score : List Float) (t 
       ∙ ap (λ (k : ℕ). set (listed ss score₀) k v) (sym n)
       ∙ listed_more ss score₀ v nan (omega (arith, n))
       ∙ ap (λ (l : List Float). listed l score₀) (sym (grown period flux t) ∙ ap (scores period flux) (sym (add-one t)))
+
   linked : (n : ℕ) → t ≤ n → best.at ≡ link_of period (scores period flux n) t
   unfolding link_of
   linked n h =

@@ -6,14 +6,14 @@ use Rattle.floats.proofs.logs.log2.Goals as goal
 pub returns-then-in_sequence : goal.returns-then-in_sequence
 unfolding log2_of
 returns-then-in_sequence c = let v = c.reduced-v.ensures in rw (
-      ← c.bits_of-n.ensures,
-      sym c.in_sequence.ensures ∙ c.if-in_sequence.true,
-      c.upper_half-hi.ensures,
-      v.0,
-      v.1,
-      v.2,
-      v.3,
-    )
+  ← c.bits_of-n.ensures,
+  sym c.in_sequence.ensures ∙ c.if-in_sequence.true,
+  c.upper_half-hi.ensures,
+  v.0,
+  v.1,
+  v.2,
+  v.3,
+)
 
 pub returns : goal.returns
 unfolding log2_of

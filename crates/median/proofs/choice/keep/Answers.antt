@@ -30,7 +30,7 @@ pub overflow_add-n : goal.overflow_add-n
 overflow_add-n c = omega (arith, c.loop-i.invariant.0.fewer)
 
 pub loop-i-preserved : goal.loop-i-preserved
-loop-i-preserved c =     let v = c.loop-i.invariant in
+loop-i-preserved c = let v = c.loop-i.invariant in
     let l : c.loop-i.i < length c.args.a.now = omega (arith, c.requires) in
     elim c.if-on_side.branch [ then-on_side w ↦ rw w.n-is (keeping_in v.0 l (sym c.on_side.ensures ∙ w.if-on_side.true), omega arith) | else-on_side w ↦ rw w.n-is (keeping_out v.0 l (sym c.on_side.ensures ∙ w.if-on_side.false), omega arith) ]
 
@@ -38,7 +38,7 @@ pub shape_of-a : goal.shape_of-a
 shape_of-a c = c.loop-i.invariant.0.room
 
 pub returns : goal.returns
-returns c =     let v = c.loop-i.invariant.0 in
+returns c = let v = c.loop-i.invariant.0 in
     let e : c.loop-i.i ≡ c.args.m = omega arith in
     record {
       room = v.room;

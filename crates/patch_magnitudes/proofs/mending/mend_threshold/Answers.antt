@@ -13,7 +13,11 @@ lent c = length-take-le (c.args.rows - 0) c.args.flux.now (omega arith) ∙ sub-
 
 pub returns : goal.returns
 returns c =
-    let f = c.fill_threshold in record { first_value = (
+    let f = c.fill_threshold in record {
+      first_value = (
         c.less-threshold_first.ensures,
         c.least-threshold_past.ensures,
-      ); threshold_after = rw (sub-zero c.args.rows) at f.ensures.threshold_after; work_unchanged = rw (lent (goal.at.returns c).Start) at f.ensures.work_unchanged }
+      );
+      threshold_after = rw (sub-zero c.args.rows) at f.ensures.threshold_after;
+      work_unchanged = rw (lent (goal.at.returns c).Start) at f.ensures.work_unchanged;
+    }

@@ -10,13 +10,12 @@ pub loop-i-init : goal.loop-i-init
 loop-i-init c = (omega arith, refl, sym (filled_none _ _ 0))
 
 pub loop-i-preserved : goal.loop-i-preserved
-loop-i-preserved c =
-    (
-      omega arith,
-      simp length-set c.loop-i.invariant.1,
-      shift_more c.args.kept.now c.args.bins c.requires c.loop-i.kept
-          c.loop-i.i (omega arith) c.loop-i.invariant.2,
-    )
+loop-i-preserved c = (
+  omega arith,
+  simp length-set c.loop-i.invariant.1,
+  shift_more c.args.kept.now c.args.bins c.requires c.loop-i.kept
+      c.loop-i.i (omega arith) c.loop-i.invariant.2,
+)
 
 pub returns : goal.returns
 returns c =

@@ -55,8 +55,12 @@ flux_slot-requires c =
     let passed = not-false c.magnitudes_fine.result (ap not c.if-not-magnitudes_fine.false) in
     let told = part_fine kept _ bytes bins _ c.requires.bytes_len.1 c.requires.bytes_len.0 c.keep_row.ensures c.magnitudes_fine.ensures in
     let d = before-length kept bins c.requires.bytes_len.1 in
-    let v = row-length bytes bins c.requires.bytes_len.0 in record { magnitudes_len = ap length c.keep_row.ensures ∙ length-append (drop bins kept) (values_of bytes) ∙ omega arith; magnitudes_value = ap (every magnitude_fine) c.keep_row.ensures
-            ∙ every_append magnitude_fine (drop bins kept) (values_of bytes) (every_drop magnitude_fine kept bins (c.requires.kept_value on)) (sym told ∙ passed); t_lt_rows = omega (arith, c.least.ensures) }
+    let v = row-length bytes bins c.requires.bytes_len.0 in record {
+      magnitudes_len = ap length c.keep_row.ensures ∙ length-append (drop bins kept) (values_of bytes) ∙ omega arith;
+      magnitudes_value = ap (every magnitude_fine) c.keep_row.ensures
+          ∙ every_append magnitude_fine (drop bins kept) (values_of bytes) (every_drop magnitude_fine kept bins (c.requires.kept_value on)) (sym told ∙ passed);
+      t_lt_rows = omega (arith, c.least.ensures);
+    }
 
 pub returns : goal.returns
 returns c =

@@ -15,12 +15,11 @@ prominence_of-sum-requires c =
     ltb-true _ _ (every-at (λ x. ltb x (length c.args.novelty.now)) c.args.rows.now c.loop-i.i 0 c.requires (omega arith))
 
 pub loop-i-preserved : goal.loop-i-preserved
-loop-i-preserved c =
-    (
-      omega arith,
-      rw c.prominence_of-sum.ensures (sym (map_sum_step (prominence c.args.novelty.now c.args.med) _
-          c.args.rows.now c.loop-i.i (omega arith)) ∙ c.loop-i.invariant.1),
-    )
+loop-i-preserved c = (
+  omega arith,
+  rw c.prominence_of-sum.ensures (sym (map_sum_step (prominence c.args.novelty.now c.args.med) _
+      c.args.rows.now c.loop-i.i (omega arith)) ∙ c.loop-i.invariant.1),
+)
 
 pub returns : goal.returns
 returns c =

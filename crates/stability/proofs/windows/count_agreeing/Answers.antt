@@ -58,12 +58,15 @@ pub window_lag-lag-requires : goal.window_lag-lag-requires
 window_lag-lag-requires c =
     let l = c.windows.invariant in
     let a = c.args in
-    let p = open_filled _ _ _ _ c.requires.max_lag_in_bounds.2 c.fill_priors.ensures in record { min_lag_le_max_lag = (
+    let p = open_filled _ _ _ _ c.requires.max_lag_in_bounds.2 c.fill_priors.ensures in record {
+      min_lag_le_max_lag = (
         c.requires.min_lag_le_max_lag.0,
         c.requires.min_lag_le_max_lag.1,
         part_long a.envelope.now a.windows c.windows.i a.max_lag c.requires.le_windows.0 c.requires.le_windows.1
             c.windows-test.true,
-      ); max_lag_in_bounds = (omega (arith, p.same_length), omega (arith, l.3.same_length), omega (arith, l.4.same_length)) }
+      );
+      max_lag_in_bounds = (omega (arith, p.same_length), omega (arith, l.3.same_length), omega (arith, l.4.same_length));
+    }
 
 pub windows-preserved-then-lag-eq0 : goal.windows-preserved-then-lag-eq0
 windows-preserved-then-lag-eq0 c =
