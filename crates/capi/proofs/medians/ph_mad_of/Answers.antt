@@ -1,0 +1,6 @@
+-- `capi::medians::ph_mad_of` meets its contract: `value-told` of what the proved call promises and of what is handed over. Assumes nothing.
+use Rattle.capi.proofs.Tellings.{value-told}
+use Rattle.capi.proofs.medians.ph_mad_of.Goals as goal
+
+pub returns : goal.returns
+returns c = value-told c.mad_of.ensures c.told.ensures
