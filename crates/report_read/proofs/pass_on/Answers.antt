@@ -3,6 +3,4 @@ use Rattle.report_head.proofs.Heads.{part_is}
 use Rattle.report_read.proofs.pass_on.Goals as goal
 
 pub returns : goal.returns
-returns c =
-    let a = c.args in
-    rw (← part_is a.got a.bytes.now) c.take_bytes.ensures
+returns c = rw (← part_is c.args.got c.args.bytes.now) c.take_bytes.ensures

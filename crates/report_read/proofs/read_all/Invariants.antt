@@ -6,9 +6,9 @@ use Rattle.report_read.specs.Reads.{Coming}
 use Rattle.report_read.proofs.read_all.Given as goal
 
 abbrev pub invariant-loop-turns : goal.invariant-loop-turns
-invariant-loop-turns l =
-    (length l.initial.turns ≡ length l.initial.input) × (length l.input ≡ length l.initial.bytes) × (length l.bytes ≡ length l.initial.held) × (length l.held ≡ length l.initial.kept)
-    × Coming l.kept l.input l.bytes l.initial.kept l.held
+invariant-loop-turns g l =
+    (length l.bytes ≡ length l.initial.bytes) × (length l.held ≡ length l.initial.held) × (length l.kept ≡ length l.initial.kept)
+    × (length l.flux ≡ length l.initial.flux) × Coming l.feed l.held l.kept l.initial.flux l.flux
 
 abbrev pub decreases-loop-turns : goal.decreases-loop-turns
-decreases-loop-turns l = l.flux
+decreases-loop-turns g l = l.turns
