@@ -8,7 +8,7 @@ use Rattle.numbers.proofs.Tests.{refused_keeps}
 use Rattle.numbers.specs.Limits.{feature_width}
 use Rattle.numbers.specs.Lists.{filled}
 use Rattle.patches.proofs.Wholes.{empty_keeps, full_does}
-use Rattle.patches.proofs.Answers.{same_number, same-slots, some-slots, refused-returns}
+use Rattle.patches.proofs.Answers.{same_number, same-slots, some-slots, refused_returns}
 use Rattle.patches.specs.Patches.{Patch, past_row, edited, unless_empty, ranges, ranges_named, returned}
 use Rattle.novelties.specs.Novelty.{novelty_at}
 use Rattle.patch_features.specs.declared.PatchedFeatures.{PatchedFeatures}
@@ -59,7 +59,7 @@ module _ (rows : ℕ) (was : FeatureTrack) (patch : Patch) where
   unfolding features_after
   refused k e h =
       record {
-        answer_is = refused-returns k (features_named rows patch) h ∙ ap (λ (n : ℕ). returned n (features_named rows patch)) e;
+        answer_is = refused_returns k (features_named rows patch) h ∙ ap (λ (n : ℕ). returned n (features_named rows patch)) e;
         track_is = sym (refused_keeps (feature_patch_number rows was patch) _ was (λ z. h (e ∙ z)));
       }
 

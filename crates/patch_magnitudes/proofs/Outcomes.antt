@@ -10,7 +10,7 @@ use Rattle.numbers.specs.declared.Slab.{Slab}
 use Rattle.flux.specs.Flux.{flux_at}
 use Rattle.threshold.specs.Threshold.{threshold_at, window_room}
 use Rattle.patches.proofs.Wholes.{empty_keeps, full_does}
-use Rattle.patches.proofs.Answers.{same_number, same-slots, some-slots, refused-returns}
+use Rattle.patches.proofs.Answers.{same_number, same-slots, some-slots, refused_returns}
 use Rattle.patches.specs.Patches.{Patch, edited, unless_empty, ranges, ranges_named, returned}
 use Rattle.patch_magnitudes.specs.declared.Patched.{Patched}
 use Rattle.patch_magnitudes.specs.declared.Patched.TheVariants.{Refused, Wrote}
@@ -59,7 +59,7 @@ module _ (slab : Slab) (was : MagnitudeTrack) (patch : Patch) (work : List Float
   unfolding after
   refused k e h =
       record {
-        answer_is = refused-returns k (rows_named slab patch) h ∙ ap (λ (n : ℕ). returned n (rows_named slab patch)) e;
+        answer_is = refused_returns k (rows_named slab patch) h ∙ ap (λ (n : ℕ). returned n (rows_named slab patch)) e;
         track_is = sym (refused_keeps number _ was (λ z. h (e ∙ z)));
         works = record { same_length = refl; kept = refl };
       }

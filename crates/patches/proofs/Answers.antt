@@ -16,6 +16,6 @@ module _ {m n : ℕ} {x y : List ℕ} (e : ◌≡◌ {A = ℕ × List ℕ} (m, x
 pub some-slots : {a b c d : ℕ} → [] ≡ ranges a b c d → ⊥
 some-slots e = let z : ◌≡◌ {A = ℕ} 0 1 = cc in omega arith
 
-pub refused-returns : (n : ℕ) (slots : List ℕ) → (n ≡ 0 → ⊥) → (n, []) ≡ returned n slots
-refused-returns zero slots h = absurd (h refl)
-refused-returns (suc k) slots h = refl
+pub refused_returns : (n : ℕ) (slots : List ℕ) → (n ≡ 0 → ⊥) → (n, []) ≡ returned n slots
+refused_returns zero slots h = absurd (h refl)
+refused_returns (suc k) slots h = refl

@@ -33,21 +33,21 @@ pub put_refused : (reading : Reading) (flux : List Float) {bytes bytes' : List �
 unfolding text_of
 put_refused reading flux some p = put_as (sym (refused_keeps reading.number _ _ some)) (omega arith) p
 
-pub put-reported : (reading : Reading) (flux : List Float) {bytes bytes' : List ℕ} {end : ℕ} → reading.number ≡ 0
+pub put_reported : (reading : Reading) (flux : List Float) {bytes bytes' : List ℕ} {end : ℕ} → reading.number ≡ 0
     → PutWithin bytes 0 (report_of (take (reading.rows - 0) flux)) text_room end bytes' → PutWithin bytes 0 (text_of reading flux) text_room end bytes'
 unfolding text_of
-put-reported reading flux z p =
+put_reported reading flux z p =
     put_as (ap (λ (k : ℕ). report_of (take k flux)) (sub-zero reading.rows) ∙ sym (passed_does reading.number _ _ z)) (omega arith) p
 
 -- ---- what is read
 
 module _ {was flux : List Float} {reading : Reading} (r : InputRead was reading flux) where
   pub putable : most_reported ≤ length flux → reading.number ≡ 0 → Putable reading flux
-  putable h z = let a = accepted r.told z in record { rows-there = omega (arith, a.rows_fit); rows_fit = a.rows_fit; fine = a.fine_is }
+  putable h z = let a = accepted r.told z in record { rows_there = omega (arith, a.rows_fit); rows_fit = a.rows_fit; fine = a.fine_is }
 
-  read-text : text_of reading flux ≡ answer_of r.input
+  read_text : text_of reading flux ≡ answer_of r.input
   unfolding text_of answer_of
-  read-text = by reading.number refl ∙ ap (λ (n : ℕ). unless_refused n (report_of (report_flux r.input)) (refusal_text n)) r.told.number_is
+  read_text = by reading.number refl ∙ ap (λ (n : ℕ). unless_refused n (report_of (report_flux r.input)) (refusal_text n)) r.told.number_is
     where
       by : (n : ℕ) → reading.number ≡ n → unless_refused n (report_of (take reading.rows flux)) (refusal_text n) ≡ unless_refused n
           (report_of (report_flux r.input)) (refusal_text n)
@@ -55,4 +55,4 @@ module _ {was flux : List Float} {reading : Reading} (r : InputRead was reading 
       by (suc k) e = refl
 
   pub answered : {bytes bytes' : List ℕ} {end : ℕ} → PutWithin bytes 0 (text_of reading flux) text_room end bytes' → TextAnswered bytes end bytes'
-  answered p = record { input = r.input; text-is = put_as read-text (omega arith) p }
+  answered p = record { input = r.input; text_is = put_as read_text (omega arith) p }

@@ -16,7 +16,7 @@ text_of reading flux = unless_refused reading.number (report_of (take reading.ro
 
 -- a reading that nothing refuses: its rows are there, and an analysis takes their flux
 pub record Putable (reading : Reading) (flux : List Float) : Type 0 where
-  pub rows-there : reading.rows ≤ length flux
+  pub rows_there : reading.rows ≤ length flux
   pub rows_fit : reading.rows ≤ most_reported
   pub fine : every value_fine (take reading.rows flux) ≡ true
 
@@ -24,4 +24,4 @@ pub record Putable (reading : Reading) (flux : List Float) : Type 0 where
 -- runs show it.
 pub record TextAnswered (bytes : List ℕ) (end : ℕ) (bytes' : List ℕ) : Type 0 where
   pub input : List ℕ
-  pub text-is : PutWithin bytes 0 (answer_of input) text_room end bytes'
+  pub text_is : PutWithin bytes 0 (answer_of input) text_room end bytes'

@@ -171,14 +171,14 @@ pub record HeaderWritten (text : List ℕ) (p q : ℕ) : Type 0 where
   pub rows : ℕ
   pub bins : ℕ
   pub spaces : ℕ
-  pub text-is : text ≡ header_text rows bins spaces
+  pub text_is : text ≡ header_text rows bins spaces
   pub rows-held : p ≡ held_number rows
   pub bins-held : q ≡ held_number bins
 
 record Columns (n : ℕ) (text : List ℕ) (p q : ℕ) : Type 0 where
   bins : ℕ
   spaces : ℕ
-  text-is : text ≡ decimal bins ++ (closing ++ (replicate spaces 32 ++ (10 ∷ [])))
+  text_is : text ≡ decimal bins ++ (closing ++ (replicate spaces 32 ++ (10 ∷ [])))
   rows-held : p ≡ held_number n
   bins-held : q ≡ held_number bins
 
@@ -194,7 +194,7 @@ columns-written n text p q e =
     record {
       bins = number_from 0 (leading text);
       spaces = end.0;
-      text-is = number_split text good
+      text_is = number_split text good
           ∙ ap (λ (r : List ℕ). decimal (number_from 0 (leading text)) ++ r) (shut ∙ ap (λ (r : List ℕ). closing ++ r) end.1);
       rows-held = sym (shape-rows _ _ _ _ w.1);
       bins-held = sym (shape-bins _ _ _ _ w.1);
@@ -203,7 +203,7 @@ columns-written n text p q e =
 record Rows (text : List ℕ) (p q : ℕ) : Type 0 where
   rows : ℕ
   rest : List ℕ
-  text-is : text ≡ decimal rows ++ (comma ++ rest)
+  text_is : text ≡ decimal rows ++ (comma ++ rest)
   columns : Columns rows rest p q
 
 rows_written : (text : List ℕ) (p q : ℕ) → rows_of text ≡ Shape p q → Rows text p q
@@ -215,7 +215,7 @@ rows_written text p q e =
     record {
       rows = number_from 0 (leading text);
       rest = drop 2 (behind text);
-      text-is = number_split text good ∙ ap (λ (r : List ℕ). decimal (number_from 0 (leading text)) ++ r) between;
+      text_is = number_split text good ∙ ap (λ (r : List ℕ). decimal (number_from 0 (leading text)) ++ r) between;
       columns = columns-written (number_from 0 (leading text)) (drop 2 (behind text)) p q w.1;
     }
 
@@ -230,8 +230,8 @@ header_written text p q e =
       rows = r.rows;
       bins = c.bins;
       spaces = c.spaces;
-      text-is = starts_split front text w.0
-          ∙ ap (λ (t : List ℕ). front ++ t) (r.text-is ∙ ap (λ (t : List ℕ). decimal r.rows ++ (comma ++ t)) c.text-is);
+      text_is = starts_split front text w.0
+          ∙ ap (λ (t : List ℕ). front ++ t) (r.text_is ∙ ap (λ (t : List ℕ). decimal r.rows ++ (comma ++ t)) c.text_is);
       rows-held = c.rows-held;
       bins-held = c.bins-held;
     }

@@ -40,10 +40,10 @@ module _ (rate min_lag : ℕ) (cs ws : List Float) (w : ℕ) (first : Candidate)
         ∙ ap (λ (x : Candidate). answer_with bpm first (candidate_at min_lag cs w ∷ x ∷ unused ∷ []) 2) is-second
         ∙ answer_is (w ∷ b ∷ []) e
 
-    pub found-three : (c : ℕ) (third : Candidate) → third ≡ candidate_at min_lag cs c → candidates_of min_lag ws ≡ w ∷ b ∷ c ∷ []
+    pub found_three : (c : ℕ) (third : Candidate) → third ≡ candidate_at min_lag cs c → candidates_of min_lag ws ≡ w ∷ b ∷ c ∷ []
         → answer_with bpm first (first ∷ second ∷ third ∷ []) 3 ≡ found_of rate min_lag cs ws
     unfolding pairs_of
-    found-three c third is-third e =
+    found_three c third is-third e =
         ap (λ (x : Candidate). answer_with bpm first (x ∷ second ∷ third ∷ []) 3) is-first
         ∙ ap (λ (x : Candidate). answer_with bpm first (candidate_at min_lag cs w ∷ x ∷ third ∷ []) 3) is-second
         ∙ ap (λ (x : Candidate). answer_with bpm first (candidate_at min_lag cs w ∷ candidate_at min_lag cs b ∷ x ∷ []) 3) is-third

@@ -4,7 +4,7 @@ use Prim.Native.Nat.{◌<◌}
 use lib.ListN.{length}
 use Rattle.lag_candidates.proofs.Rankings.{first_slot}
 use Rattle.lag_candidates.proofs.Accepts.{one_candidate, two_candidates, three_candidates}
-use Rattle.tempo.proofs.Answers.{found-one, found-two, found-three}
+use Rattle.tempo.proofs.Answers.{found-one, found-two, found_three}
 use borrow.Author.Rules.{rules}
 use Rattle.tempo.proofs.found.Goals as goal
 
@@ -41,7 +41,7 @@ candidate_at-third-requires c =
 
 pub returns : goal.returns
 returns c =
-    found-three _ _ _ _ _ _ _ c.requires.winner_value.0 c.candidate_at-first.ensures c.bpm_at.ensures _ _
+    found_three _ _ _ _ _ _ _ c.requires.winner_value.0 c.candidate_at-first.ensures c.bpm_at.ensures _ _
     c.candidate_at-second.ensures
     _
     _
