@@ -1,4 +1,4 @@
--- The order of keys is IEEE's total_order: one key for each value, a value below another has the smaller key, and -0 stands
+-- The order of keys is IEEE's totalOrder: one key for each value, a value below another has the smaller key, and -0 stands
 -- before +0. The bits of a magnitude grow with it, since it keeps its leading digits and counts the others. Assumes nothing.
 use Rattle.std.proofs.Common.{◌≡◌, ℕ, zero, suc, ◌+◌, ◌-◌, ◌*◌, ◌/◌, ◌%◌, ◌^◌, ◌<◌, ◌≤◌, Bool, true, false, cond, ◌&&◌, T, eqb, ltb, leb, ◌⊎◌, ℤ, pos, sym, refl, ap, ◌∙◌, subst, inl, inr, ⊎_elim, le_trans, le_of_eq, lt_of_le_of_lt, le_of_lt, add_assoc, lt_irrefl, mul-le-mul_right, div-lt_iff_lt-mul, eq-or-lt_of_le, mul-lt-mul_of_pos_right, mul-pos, le-div_iff_mul-le, zero-mul, mul_right_comm, arith, lit<, ltb→lt, pow_pos, pow-add, ltb-false, ltb-true}
 use lib.Pow.{shr_mono}

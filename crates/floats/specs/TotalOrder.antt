@@ -1,4 +1,4 @@
--- Document 01, Leaves: "sort by IEEE total_order". The order of two values is the order of their keys: negative values from the
+-- Document 01, Leaves: "sort by IEEE totalOrder". The order of two values is the order of their keys: negative values from the
 -- largest down, -0, +0, positive values upwards, and the one NaN last.
 use Rattle.std.specs.Prelude.{ℕ, ◌+◌, ◌-◌, nat_lt, to_bits, Float}
 use Rattle.std.specs.Float.{binary64}

@@ -41,7 +41,7 @@ pub fn whole_of(x: f64) -> u64
     0
 }
 
-// Inner: the key of x, whose order is IEEE's total_order.
+// Inner: the key of x, whose order is IEEE's totalOrder.
 pub fn key_of(x: f64) -> u64
     ensures { result ≡ key x }
 {

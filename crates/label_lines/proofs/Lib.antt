@@ -1,2 +1,2 @@
--- The laws that other crates cite: `Line-read` and `line_written`, that what is read is exactly what is written.
+-- The laws that other crates cite: `line_read` and `line_written`, that what is read is exactly what is written.
 pub mod Lines

@@ -26,7 +26,7 @@ unfoldable pub maximum_at : List Float → ℕ → Bool
 unfolding left_fine right_fine
 maximum_at ws i = left_fine ws i && (right_fine ws i && lt nought (get_or ws i nan))
 
--- "by falling weight, then lower lag": slot i comes before slot j. Weights above 0 have one order, IEEE 754's `<` and total_order alike.
+-- "by falling weight, then lower lag": slot i comes before slot j. Weights above 0 have one order, IEEE 754's `<` and totalOrder alike.
 unfoldable pub ahead : List Float → (i j : ℕ) → Bool
 ahead ws i j =
     pick (lt (get_or ws j nan) (get_or ws i nan)) true

@@ -1,10 +1,10 @@
--- Document 01, Sections: "over .. boundaries, keep the greatest by total_order, ties to the earlier, listed ascending".
+-- Document 01, Sections: "over .. boundaries, keep the greatest by totalOrder, ties to the earlier, listed ascending".
 use Rattle.std.specs.Prelude.{ℕ, Bool, ◌&&◌, ◌||◌, List, leb, ltb, eqb, length, Float}
 use Rattle.numbers.specs.Rounded.{pick}
 use Rattle.floats.specs.TotalOrder.{key}
 use Rattle.onsets.specs.Peaks.{at, those}
 
--- row x goes before row y: its novelty is greater by total_order, or the same and x is the earlier row
+-- row x goes before row y: its novelty is greater by totalOrder, or the same and x is the earlier row
 abbrev pub goes_before : List Float → (x y : ℕ) → Bool
 goes_before novelty x y = ltb (key (at novelty y)) (key (at novelty x)) || (eqb (key (at novelty y)) (key (at novelty x)) && ltb x y)
 
