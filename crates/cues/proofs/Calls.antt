@@ -15,7 +15,7 @@ use Rattle.numbers.proofs.Firsts.{first_refused, first_then, first-zero}
 use Rattle.lists.specs.declared.Reading.{Reading}
 use Rattle.lists.specs.Grids.{grid_rows, unread, read_number}
 use Rattle.lists.proofs.Readings.{read_one, read_missed, read_later}
-use Rattle.lists.proofs.Grids.{Grid, grid_of}
+use Rattle.lists.proofs.Grids.{Grid, grid_of_lem}
 use Rattle.numbers.specs.Limits.{frame_fine}
 use Rattle.cue_points.specs.Chunks.{chunk_length, count_of, head_fine, all_from, point_fine, chunk_fine, offset_at, offset_fine, offset_read, point_frame, chunk_frames}
 use Rattle.cue_points.proofs.Heads.{head_says, offset_counts, offset_misses}
@@ -165,7 +165,7 @@ module _ (frames : List ℕ) (room : ℕ) where
       let all = first-zero (grid_rows frames ++ bytes) refl z in
       let a1 = and_right (every frame_fine frames) _ all in
       let a2 = and_right (ascending 0 frames) _ a1 in (
-        grid_of frames (and_left (every frame_fine frames) _ all) (and_left (ascending 0 frames) _ a1),
+        grid_of_lem frames (and_left (every frame_fine frames) _ all) (and_left (ascending 0 frames) _ a1),
         leb-true _ _ (and_left (leb (chunk_length
             (length frames)) room) _ a2),
       )

@@ -12,7 +12,7 @@ use borrow.Author.Tests.{eq-eqb, eqb-true, le-leb, leb-true, ltb-true, lt-ltb}
 use Rattle.numbers.specs.Limits.{most_frame, frame_fine}
 use Rattle.numbers.specs.Lists.{every, tab, curve}
 use Rattle.numbers.proofs.Tests.{and_left, and_right, and_both}
-use Rattle.numbers.proofs.Tabs.{tab_ext, curve_of, length-tab}
+use Rattle.numbers.proofs.Tabs.{tab_ext, curve_of_lem, length-tab}
 use Rattle.numbers.proofs.Everys.{every-at}
 use Rattle.times.specs.Micros.{sample_of}
 use Rattle.words.specs.Words.{word, word_at, byte_fine, word_fine}
@@ -163,7 +163,7 @@ module _ (os : List ℕ) (few : length os < 100000000) (fit : every word_fine os
   offsets_own =
       ap (curve (offset_at (chunk_of os))) count_own
       ∙ tab_ext (offset_at (chunk_of os)) (λ i. get_or os i 0) 0 (length os) (λ i h k. (point_own i (omega arith)).offset)
-      ∙ curve_of os 0
+      ∙ curve_of_lem os 0
 
 -- ---- what is read was so written
 

@@ -11,11 +11,11 @@ use Rattle.numbers.specs.Limits.{most_frame, frame_fine}
 use Rattle.numbers.specs.Lists.{every, tab, curve, ascending}
 use Rattle.numbers.specs.Refusals.{first_of}
 use Rattle.numbers.proofs.Tests.{and_left, and_right, and_both}
-use Rattle.numbers.proofs.Tabs.{tab_ext, curve_of}
+use Rattle.numbers.proofs.Tabs.{tab_ext, curve_of_lem}
 use Rattle.numbers.proofs.Everys.{every-at}
 use Rattle.times.specs.Micros.{sample_of}
 use Rattle.words.specs.Words.{byte_fine, word_fine}
-use Rattle.lists.proofs.Grids.{Grid, grid_of}
+use Rattle.lists.proofs.Grids.{Grid, grid_of_lem}
 use Rattle.cue_points.specs.Chunks.{offsets_of, chunk_of, cue_bytes, count_of, all_from, chunk_fine, offset_at, offset_fine, offset_frame, point_frame, chunk_frames}
 use Rattle.cues.specs.Calls.{chunk_rows}
 use Rattle.cues.proofs.Runs.{all-at, all_of}
@@ -92,7 +92,7 @@ module _ (ts : List ℕ) (grid : Grid ts) where
   cue_frames =
       ap (curve (point_frame (cue_bytes ts))) count_is
       ∙ tab_ext (point_frame (cue_bytes ts)) (λ i. get_or ts i 0) 0 (length ts) (λ i h k. ap offset_frame (offset_is i (omega arith)) ∙ offset_back (get_or ts i 0))
-      ∙ curve_of ts 0
+      ∙ curve_of_lem ts 0
 
   pub cue_read : first_of (chunk_rows (cue_bytes ts)) ≡ 0
   unfolding cue_bytes
@@ -117,5 +117,5 @@ cue_written c bytes r =
 pub cue_grid : (c : List ℕ) → Readable c → Grid (chunk_frames c)
 unfolding chunk_frames
 cue_grid c r =
-    grid_of (chunk_frames c) (frames_fine (offset_at c) 0 (count_of c) (λ i h k. all-at (λ i. offset_fine (offset_at c i)) (count_of c) 0 i r.offsets
+    grid_of_lem (chunk_frames c) (frames_fine (offset_at c) 0 (count_of c) (λ i h k. all-at (λ i. offset_fine (offset_at c i)) (count_of c) 0 i r.offsets
     (omega arith) (omega arith))) r.ascend

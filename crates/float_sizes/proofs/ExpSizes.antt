@@ -657,20 +657,20 @@ by_plus (inf t) m e s u = absurd u
 by_plus (fin true k g) m e s u = absurd s
 by_plus (fin false k g) m e s u = rounded_below (k * up g * (m * up e)) (down g * down e)
 
-half_of : (s : Bool) (m : ℕ) (e : ℤ) → neg half ⊗ fin s m e ≡ round binary64 (unlike true s) (1 * 1 * (m * up e)) (2 * down e)
+half_of_lem : (s : Bool) (m : ℕ) (e : ℤ) → neg half ⊗ fin s m e ≡ round binary64 (unlike true s) (1 * 1 * (m * up e)) (2 * down e)
 unfolding mul neg of_bits
-half_of s m e = refl
+half_of_lem s m e = refl
 
 square-below : (z : Float) → parts_up_to (2 ^ 32) (neg half ⊗ z) → size_up_to 4096 z → lt nought (neg half ⊗ z ⊗ z) ≡ false
 square-below nan h k = absurd k
 square-below (inf s) h k = absurd k
 square-below (fin false m e) h k =
     let p = round binary64 false (1 * 1 * (m * up e)) (2 * down e) in
-    let i : neg half ⊗ fin false m e ≡ neg p = half_of false m e ∙ round_neg binary64 (1 * 1 * (m * up e)) (2 * down e) in
+    let i : neg half ⊗ fin false m e ≡ neg p = half_of_lem false m e ∙ round_neg binary64 (1 * 1 * (m * up e)) (2 * down e) in
     rw i (by_minus p m e (round_plus binary64 (1 * 1 * (m * up e)) (2 * down e)).sign (subst (λ (y : Float). parts_up_to (2 ^ 32) y) i h))
 square-below (fin true m e) h k =
     let p = round binary64 false (1 * 1 * (m * up e)) (2 * down e) in
-    let i : neg half ⊗ fin true m e ≡ p = half_of true m e in
+    let i : neg half ⊗ fin true m e ≡ p = half_of_lem true m e in
     rw i (by_plus p m e (round_plus binary64 (1 * 1 * (m * up e)) (2 * down e)).sign (subst (λ (y : Float). parts_up_to (2 ^ 32) y) i h))
 
 module _ {z : Float} (h : AtMost 4096 z) where

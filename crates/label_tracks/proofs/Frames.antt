@@ -17,7 +17,7 @@ use Rattle.numbers.proofs.Tabs.{listed_more, length-listed}
 use Rattle.times.specs.Micros.{microseconds}
 use Rattle.lists.specs.declared.Reading.{Reading}
 use Rattle.lists.specs.Grids.{unread, read_number}
-use Rattle.lists.proofs.Grids.{Grid, grid_of}
+use Rattle.lists.proofs.Grids.{Grid, grid_of_lem}
 use Rattle.lists.proofs.Readings.{read_one, read_missed, read_later}
 use Rattle.label_times.specs.Frames.{frame_for, time_fine, time_read}
 use Rattle.label_times.proofs.Frames.{rate_some, rate_most, time_back, time_listed, time_is, time_frame, time_counts, time_misses}
@@ -117,7 +117,7 @@ module _ (rate : ℕ) (text : List ℕ) where
         rated = r;
         lines = and_left (text_fine text) _ a1;
         times = t;
-        grid = grid_of (text_frames rate text) (frames_listed rate r (text_times text) t) (and_left (ascending 0 (text_frames rate text)) _ a3);
+        grid = grid_of_lem (text_frames rate text) (frames_listed rate r (text_times text) t) (and_left (ascending 0 (text_frames rate text)) _ a3);
       }
 
 -- Whatever bytes are read are the track of the frames that were read.

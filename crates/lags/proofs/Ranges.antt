@@ -132,9 +132,9 @@ pub record Answered (rate : ℕ) (o : TempoOpts) : Type 0 where
   pub most-max : max_lag rate o ≤ most_period
 
 -- the bounds are fine
-pub range_of : (rate : ℕ) (o : TempoOpts) → bounds_fine rate o ≡ true → Answered rate o
+pub range_of_lem : (rate : ℕ) (o : TempoOpts) → bounds_fine rate o ≡ true → Answered rate o
 unfolding lag_range
-range_of rate o e =
+range_of_lem rate o e =
     record {
       fine = e;
       least = ap (λ (r : LagRange). r.min_lag) (pick_true (bounds_fine rate o) _ _ e);
@@ -151,7 +151,7 @@ unfolding lag_range
 answered rate o e = go (bounds_fine rate o) refl
   where
     go : (b : Bool) → bounds_fine rate o ≡ b → Answered rate o
-    go true f = range_of rate o f
+    go true f = range_of_lem rate o f
     go false f = absurd (one_not_zero (sym (ap (λ (r : LagRange). r.number) (pick-false (bounds_fine rate o) _ _ f)) ∙ e))
       where
         one_not_zero : ◌≡◌ {A = ℕ} 1 0 → ⊥

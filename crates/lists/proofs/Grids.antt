@@ -25,15 +25,15 @@ module _ (frames : List ℕ) where
     pub ascend : ascending 0 frames ≡ true
     pub few : length frames ≤ most_frame + 1
 
-  pub grid_of : every frame_fine frames ≡ true → ascending 0 frames ≡ true → Grid
-  grid_of e h = record { listed = e; ascend = h; few = omega (arith, ascending-count 0 most_frame frames (omega arith) h e) }
+  pub grid_of_lem : every frame_fine frames ≡ true → ascending 0 frames ≡ true → Grid
+  grid_of_lem e h = record { listed = e; ascend = h; few = omega (arith, ascending-count 0 most_frame frames (omega arith) h e) }
 
   pub grid-told : first_of (grid_rows frames) ≡ 0 → Grid
   unfolding every
   grid-told z =
       let all = first-zero (grid_rows frames) refl z in
       let rest = and_right (every frame_fine frames) _ all in
-      grid_of (and_left (every frame_fine frames) _ all) (and_left (ascending 0 frames) _ rest)
+      grid_of_lem (and_left (every frame_fine frames) _ all) (and_left (ascending 0 frames) _ rest)
 
 -- ---- a number and a count: a refusal and an answer each meet `Counted`, and number 0 tells the count
 

@@ -22,9 +22,9 @@ pub count_in_lem : (file : List ℕ) → length (gaps_in file) ≡ count_in file
 unfolding gaps_in
 count_in_lem file = length-tab (gap_in file) 0 (count_in file)
 
-pub gap_at : (file : List ℕ) (i : ℕ) → i < count_in file → get_or (gaps_in file) i 0 ≡ gap_in file i
+pub gap_at_lem : (file : List ℕ) (i : ℕ) → i < count_in file → get_or (gaps_in file) i 0 ≡ gap_in file i
 unfolding gaps_in
-gap_at file i h = get_or-curve (gap_in file) (count_in file) i 0 h
+gap_at_lem file i h = get_or-curve (gap_in file) (count_in file) i 0 h
 
 -- ---- the events of a file, from event i on
 
@@ -50,7 +50,7 @@ module _ (file : List ℕ) where
         let k : 22 + i * 7 + 7 ≡ 22 + (i + 1) * 7 = omega arith in
         ap (λ (r : List ℕ). starts r text && every tempo_some (drop i gs)) (events_step gs i l)
         ∙ ap (λ (t : Bool). starts (tempo_event (delta_of i) (get_or gs i 0) ++ rest) text && t) (every_step tempo_some gs i 0 l)
-        ∙ ap (λ (g : ℕ). starts (tempo_event (delta_of i) g ++ rest) text && (tempo_some g && every tempo_some (drop (i + 1) gs))) (gap_at file i h)
+        ∙ ap (λ (g : ℕ). starts (tempo_event (delta_of i) g ++ rest) text && (tempo_some g && every tempo_some (drop (i + 1) gs))) (gap_at_lem file i h)
         ∙ ap (λ (t : Bool). t && (tempo_some (gap_in file i) && every tempo_some (drop (i + 1) gs)))
         (starts-append (tempo_event (delta_of i) (gap_in file i)) rest text
         ∙ ap (λ (r : List ℕ). starts (tempo_event (delta_of i) (gap_in file i)) text && starts rest r)
@@ -236,7 +236,7 @@ gaps-back gaps =
     ext_get_or 0 _ _ (count_in_lem (file_of gaps) ∙ count-back gaps)
     (λ i h.
     let l : i < length gaps = omega (arith, count_in_lem (file_of gaps), count-back gaps) in
-    gap_at (file_of gaps) i (omega (arith, count-back gaps)) ∙ gap_back gaps i l)
+    gap_at_lem (file_of gaps) i (omega (arith, count-back gaps)) ∙ gap_back gaps i l)
 
 -- the file of one gap or more, none of which is 0, has the shape where its track's length has 32 bits
 pub shaped-back : (gaps : List ℕ) → 1 ≤ length gaps → length gaps * 7 + 4 < 4294967296 → every tempo_some gaps ≡ true → shaped (file_of gaps) ≡ true

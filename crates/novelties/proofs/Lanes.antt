@@ -89,9 +89,9 @@ module _ (similarity near : List Float) (rows i j : ℕ) (low : 8 ≤ i) (high :
       (λ (h : v ≤ u). rw (slot_falling u v h) (slot_falling (i + j + u - 8) (i + j + v - 8) (omega arith) ∙ omega arith))
       (lt_or_le u v)
 
-  lane_term : (u v : ℕ) → u < 16 → v < 16 → (sum : Float) → near_term near j u v sum ≡ add_term similarity rows (i + j) u v sum
+  lane_term_lem : (u v : ℕ) → u < 16 → v < 16 → (sum : Float) → near_term near j u v sum ≡ add_term similarity rows (i + j) u v sum
   unfolding near_term likeness
-  lane_term u v at-u at-v sum =
+  lane_term_lem u v at-u at-v sum =
       ap (λ (x : Float). sum ⊕ kernel_at u v ⊗ x)
       (near_value similarity near ((i - 8) * 17) u v j g at-u at-v lane ∙ ap (λ (n : ℕ). get_or similarity n nan) (sym (lane_slot u v at-u at-v)))
       ∙ sym (term_added similarity rows (i + j) u v sum
@@ -103,4 +103,4 @@ module _ (similarity near : List Float) (rows i j : ℕ) (low : 8 ≤ i) (high :
   unfolding lane_whole near_row novelty_at add_row
   lane-novelty =
       turns_same (near_row near j) (add_row similarity rows (i + j)) 0 16 nought
-      (λ u l h y. turns_same (near_term near j u) (add_term similarity rows (i + j) u) 0 16 y (λ v m k x. lane_term u v (omega arith) (omega arith) x))
+      (λ u l h y. turns_same (near_term near j u) (add_term similarity rows (i + j) u) 0 16 y (λ v m k x. lane_term_lem u v (omega arith) (omega arith) x))

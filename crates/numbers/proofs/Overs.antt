@@ -88,9 +88,9 @@ module _ {A : Type 0} where
         row_same s _ b t z (length_over s (a * b) new patch_fits)
         (λ i h. get_or_over_out s (a * b) new patch_fits (t * b + i) z (inr (omega (arith, add-mul a k b, mul-le-mul_right b u))))
 
-    written_in : (i : ℕ) → i < length new → get_or (over s (a * b) new) (a * b + i) z ≡ get_or new i z
+    written_in_lem : (i : ℕ) → i < length new → get_or (over s (a * b) new) (a * b + i) z ≡ get_or new i z
     unfolding over
-    written_in i h =
+    written_in_lem i h =
         let l : length (take (a * b) s) ≡ a * b = length-take-le (a * b) s (omega (arith, patch_fits)) in
         let e : length (take (a * b) s ++ take (length new) new) ≡ a * b + length new =
         length_paste_head s (a * b) new (length new) (omega (arith, patch_fits)) (omega arith) in
@@ -106,4 +106,4 @@ module _ {A : Type 0} where
         let v : i < b = omega (arith, length-row (over s (a * b) new) n b (a + j) length_patched (omega arith)) in
         let p : (a + j) * b + i ≡ a * b + (j * b + i) = omega (arith, add-mul a j b) in
         get_or-row _ b (a + j) i z v ∙ ap (λ (m : ℕ). get_or (over s (a * b) new) m z) p
-        ∙ written_in (j * b + i) (omega (arith, row_end j k b h)) ∙ sym (get_or-row new b j i z v))
+        ∙ written_in_lem (j * b + i) (omega (arith, row_end j k b h)) ∙ sym (get_or-row new b j i z v))

@@ -37,8 +37,8 @@ module _ {A : Type 0} where
   tab_snoc f s (suc n) = ap (λ (r : List A). f s ∷ r) (tab_snoc f (suc s) n ∙ ap (λ (k : ℕ). tab f (suc s) n ++ (f k ∷ [])) (omega arith))
 
   -- a list is the curve of its entries
-  pub curve_of : (xs : List A) (d : A) → curve (λ i. get_or xs i d) (length xs) ≡ xs
-  curve_of xs d =
+  pub curve_of_lem : (xs : List A) (d : A) → curve (λ i. get_or xs i d) (length xs) ≡ xs
+  curve_of_lem xs d =
       ext_get_or d _ _ (length-tab _ 0 (length xs))
       (λ i h. get_or-curve (λ i. get_or xs i d) (length xs) i d (omega (arith, length-tab (λ i. get_or xs i d) 0 (length xs))))
 

@@ -19,7 +19,7 @@ use Rattle.numbers.proofs.Tests.{passed_does, lt_or_le}
 use Rattle.times.specs.Micros.{microseconds}
 use Rattle.times.proofs.Times.{rising}
 use Rattle.words.specs.Words.{byte_fine}
-use Rattle.lists.proofs.Grids.{Grid, grid_of, grid-none}
+use Rattle.lists.proofs.Grids.{Grid, grid_of_lem, grid-none}
 use Rattle.cue_points.specs.Chunks.{offsets_of, cue_bytes, chunk_length, chunk_frames}
 use Rattle.cues.specs.Calls.{WriteCuesPromise, ReadCuesPromise}
 use Rattle.cues.proofs.Chunks.{chunk_length_lem, offsets_length}
@@ -110,7 +110,7 @@ pub labels_round_trip : (frames : List ℕ) (rate : ℕ) {before slots : List �
     → (r.number ≡ 0) × (r.count ≡ length frames) × (after ≡ listed frames slots)
 labels_round_trip frames rate {before} {slots} {w} {r} {text} {after} p n q room =
     let t = labels.write_told frames rate (length before) (was_zero p n) in
-    let grid = grid_of frames t.1 t.2 in
+    let grid = grid_of_lem frames t.1 t.2 in
     let bytes = first_are p n in
     let own = label_frames rate t.0 frames grid in
     let long : length (text_times (label_bytes rate frames)) ≡ length frames = sym (frames_long rate (text_times (label_bytes rate frames))) ∙ ap length own in
@@ -177,7 +177,7 @@ module _ (frames : List ℕ) (rate : ℕ) (good : rate_fine rate ≡ true) (fine
   pub labels_become_cues : {before : List ℕ} {r : Listing} {after : List ℕ} → LabelsToCuesPromise (label_bytes rate frames) rate before r after
       → chunk_length (length frames) ≤ length before → (r.number ≡ 0) × (r.count ≡ length (cue_bytes frames)) × (after ≡ listed (cue_bytes frames) before)
   labels_become_cues {before} p room =
-      let grid = grid_of frames fine order in
+      let grid = grid_of_lem frames fine order in
       let own = label_frames rate good frames grid in
       let long = ap length own in
       answered p (conversions.labels_none (label_bytes rate frames) rate (length before) (labels_read rate good frames grid) (omega arith)) (ap cue_bytes own)
@@ -186,7 +186,7 @@ module _ (frames : List ℕ) (rate : ℕ) (good : rate_fine rate ≡ true) (fine
       → length (label_bytes rate frames) ≤ length before → (r.number ≡ 0) × (r.count ≡ length (label_bytes rate frames))
       × (after ≡ listed (label_bytes rate frames) before)
   cues_become_labels {before} p room =
-      let grid = grid_of frames fine order in
+      let grid = grid_of_lem frames fine order in
       let own = cue_frames frames grid in
       let long = ap (λ (ts : List ℕ). length (label_bytes rate ts)) own in
       answered p
@@ -235,5 +235,5 @@ module _ (frames : List ℕ) (rate : ℕ) (good : rate_fine rate ≡ true) (fine
       → (r'.number ≡ 0) × (r'.count ≡ length (cue_bytes frames)) × (after ≡ listed (cue_bytes frames) before')
   cues_there_and_back p room q room' =
       let there = cues_become_labels frames rate good fine order p room in
-      let own = cue_frames frames (grid_of frames fine order) in
+      let own = cue_frames frames (grid_of_lem frames fine order) in
       labels_become_cues frames rate good fine order (rw (first_are p there.0 ∙ ap (label_bytes rate) own) at q) room'

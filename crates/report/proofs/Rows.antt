@@ -8,7 +8,7 @@ use lib.Ieee.{Float, nan}
 use lib.ListN.{length, get_or, set, take, drop, length-drop, length-append, drop_of_length-le}
 use lib.Seq.{get_or-drop, drop_at, take_at, take_all, take-append-le, drop-append-le}
 use Rattle.numbers.proofs.Overs.{row_end}
-use Rattle.numbers.proofs.Tabs.{filled_more, filled-whole, get_or_filled_high, tab_ext, curve_of}
+use Rattle.numbers.proofs.Tabs.{filled_more, filled-whole, get_or_filled_high, tab_ext, curve_of_lem}
 use Rattle.numbers.specs.Limits.{slab_of}
 use Rattle.numbers.specs.Lists.{tab, filled, row, every}
 use Rattle.numbers.specs.Rounded.{sum_of}
@@ -42,7 +42,7 @@ module _ (was : List Float) (bins : ℕ) (e : length was ≡ 2 * bins) where
       filled-whole (ahead was bins) was bins
       ∙ ap (λ (r : List Float). r ++ d)
       (tab_ext (ahead was bins) (λ j. get_or d j nan) 0 bins (λ j p q. sym (get_or-drop bins was j nan))
-      ∙ ap (tab (λ j. get_or d j nan) 0) (sym l) ∙ curve_of d nan)
+      ∙ ap (tab (λ j. get_or d j nan) 0) (sym l) ∙ curve_of_lem d nan)
 
 -- the row of these bytes is read behind it
 pub kept_put : (kept whole ys : List Float) (bytes : List ℕ) (bins : ℕ) → length kept ≡ 2 * bins → length bytes ≡ bins * 4

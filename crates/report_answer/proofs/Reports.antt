@@ -18,7 +18,7 @@ use Rattle.numbers.proofs.Tests.{and_both, lowest_0, passed_does, lt_or_le}
 use Rattle.options.specs.declared.TempoOpts.{TempoOpts}
 use Rattle.options.specs.Options.{default_options, options_fine}
 use Rattle.lags.specs.Lags.{min_lag, max_lag, bounds_fine}
-use Rattle.lags.proofs.Ranges.{range_of}
+use Rattle.lags.proofs.Ranges.{range_of_lem}
 use Rattle.tempo.specs.declared.Candidate.{Candidate}
 use Rattle.tempo.specs.Answers.{search_refusal, estimate_of}
 use Rattle.tempo.proofs.Promises.{Kept, kept}
@@ -85,7 +85,7 @@ module _ (env : List Float) (rate : ℕ) (o : TempoOpts) (few : length env ≤ m
   lags-fit : LagsFit (estimate_in env rate o).candidates
   lags-fit i z h =
       ⊎_elim
-      (λ (p : i < (estimate_in env rate o).count). omega (arith, (estimate_kept.used i z p).1, (range_of rate o bounds).most-max))
+      (λ (p : i < (estimate_in env rate o).count). omega (arith, (estimate_kept.used i z p).1, (range_of_lem rate o bounds).most-max))
       (λ (p : (estimate_in env rate o).count ≤ i). omega (arith, ap (λ (x : Candidate). x.lag) (estimate_kept.rest i z p h)))
       (lt_or_le i (estimate_in env rate o).count)
 

@@ -50,8 +50,8 @@ fn answer(rt: &impl Input, flux: &mut [f64], bytes: &mut [u8]) -> usize
     put_answer(reading, flux, bytes)
 }
 
-// Reads standard input, to its end or until it is refused, and writes the report of it, or its refusal. A program has no status: what was not written
-// whole is told on standard error, and ./report, which writes the text itself, ends with a status.
+// Reads standard input, to its end or until it is refused, and writes the report of it, or its refusal. The programs end well either way: what was not
+// written whole is told on standard error, and ./report, which writes the text itself, ends with a status.
 pub fn report(rt: &(impl Input + Print + Eprint)) {
     let mut flux = curve_room();
     let mut text = text_room();

@@ -19,6 +19,6 @@ module _ (bytes : List ℕ) where
   unfolding preamble_of
   preamble_short e h = pick-false _ _ _ (sym (and-held (starts magic bytes) _ e) ∙ lt-leb 10 (length bytes) h)
 
-  pub preamble_length : starts magic bytes ≡ true → 10 ≤ length bytes → preamble_of bytes ≡ Length (get_or bytes 8 0 + get_or bytes 9 0 * 256)
+  pub preamble_length_lem : starts magic bytes ≡ true → 10 ≤ length bytes → preamble_of bytes ≡ Length (get_or bytes 8 0 + get_or bytes 9 0 * 256)
   unfolding preamble_of
-  preamble_length e h = pick_true _ _ _ (and_both (starts magic bytes) _ e (le-leb 10 (length bytes) h))
+  preamble_length_lem e h = pick_true _ _ _ (and_both (starts magic bytes) _ e (le-leb 10 (length bytes) h))

@@ -4,8 +4,8 @@
 // which it is cut into reads; here each read's bytes are passed on, until a read gives none or the input is refused. An input that is refused before its
 // end is told what it would be told if it were read on, whatever comes (`stopped_early`, and `stopped_agrees` for two runs: report_feed/proofs/Cuts), so
 // that a wrong header is refused without the gigabyte behind it. What is proved here is that there is an input of which the number and the flux are right.
-// That this input is standard input, read that far, is what the lines of `read_all` say; the kit's contract of `read` says nothing of the bytes, so it is
-// not proved: runs show it. A read that fails is taken for the end of the input.
+// That this input is standard input, read that far, is what the lines of `read_all` say; `read`'s contract says which bytes come only where the reader
+// knows what it has left, which standard input doesn't, so it is not proved: runs show it. A read that fails is taken for the end of the input.
 #![tactic(auto)]
 
 ghost use Rattle.std.specs.Prelude.{◌≡◌, true, ◌*◌, ◌≤◌, length, take};

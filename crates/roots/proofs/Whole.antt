@@ -50,9 +50,9 @@ pub record Root (n r : ℕ) : Type 0 where
   pub most : r * r ≤ n
   pub next : n < (r + 1) * (r + 1)
 
-next_root : (n s : ℕ) (b : Bool) → leb ((s + 1) * (s + 1)) n ≡ b → s * s ≤ n → n < (s + 2) * (s + 2) → Root n (pick b (s + 1) s)
-next_root n s true e h k = record { most = leb-true _ _ e; next = let q : s + 1 + 1 ≡ s + 2 = omega arith in rw q k }
-next_root n s false e h k = record { most = h; next = leb-false _ _ e }
+next_root_lem : (n s : ℕ) (b : Bool) → leb ((s + 1) * (s + 1)) n ≡ b → s * s ≤ n → n < (s + 2) * (s + 2) → Root n (pick b (s + 1) s)
+next_root_lem n s true e h k = record { most = leb-true _ _ e; next = let q : s + 1 + 1 ≡ s + 2 = omega arith in rw q k }
+next_root_lem n s false e h k = record { most = h; next = leb-false _ _ e }
 
 root_digits_lem : (k n : ℕ) → n < 4 ^ k → Root n (root_digits k n)
 unfolding root_digits
@@ -65,7 +65,7 @@ root_digits_lem (suc k) n h =
     let f : 2 * r + 2 ≡ (r + 1) * 2 = omega arith in
     let lo : 2 * r * (2 * r) ≤ n = rw e (omega (arith, twice_sq r, p.most)) in
     let hi : n < (2 * r + 2) * (2 * r + 2) = rw f (omega (arith, twice_sq (r + 1), p.next)) in
-    next_root n (2 * r) (leb ((2 * r + 1) * (2 * r + 1)) n) refl lo hi
+    next_root_lem n (2 * r) (leb ((2 * r + 1) * (2 * r + 1)) n) refl lo hi
 
 four_power : (k : ℕ) → 4 ^ k ≡ 2 ^ (k + k)
 four_power zero = refl

@@ -1,4 +1,4 @@
-// What the programs behind `rt check` read their cases with: parts of a text between marks, and the numbers and the curves that they spell; and how
+// What the programs of the gate read their cases with: parts of a text between marks, and the numbers and the curves that they spell; and how
 // many slots of two curves differ.
 #![tactic(auto)]
 

@@ -1,4 +1,4 @@
-// What the programs behind `rt check` print with: each answer as words and numbers on standard output, to be compared with the file stdout.
+// What the programs of the gate print with: each answer as words and numbers on standard output, to be compared with the file stdout.
 //
 // A write that fails is not told: the comparison then does.
 #![tactic(auto)]

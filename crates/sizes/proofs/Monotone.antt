@@ -63,19 +63,19 @@ noughts : (s t : Bool) → T (le (fin s 0 (pos 0)) (fin t 0 (pos 0)))
 unfolding le
 noughts s t = signed→test s (0 * 1 * 1) t (0 * 1 * 1) (signed_nought s (0 * 1 * 1) t (0 * 1 * 1) refl refl)
 
-round_of : (f : Format) (s : Bool) (a c : ℕ) (t : Bool) (b d : ℕ) → 0 < c → 0 < d → signed_le s (a * d) t (b * c) → T (le (round f s a c) (round f t b d))
-round_of f false a c false b d C D h = round_mono f a c b d C D h
-round_of f false a c true b d C D h =
+round_of_lem : (f : Format) (s : Bool) (a c : ℕ) (t : Bool) (b d : ℕ) → 0 < c → 0 < d → signed_le s (a * d) t (b * c) → T (le (round f s a c) (round f t b d))
+round_of_lem f false a c false b d C D h = round_mono f a c b d C D h
+round_of_lem f false a c true b d C D h =
     let A : a ≡ 0 = null a d D (omega arith) in
     let B : b ≡ 0 = null b c C (omega arith) in
     rw (A, B, round_nought f false c C, round_nought f true d D) (noughts false true)
-round_of f true a c false b d C D h = rw (round_neg f a c) (opposite (round f false a c) (round f false b d) (round_plus f a c).sign (round_plus f b d).sign)
-round_of f true a c true b d C D h = rw (round_neg f a c, round_neg f b d) (neg_of (round f false b d) (round f false a c) (round_mono f b d a c D C h))
+round_of_lem f true a c false b d C D h = rw (round_neg f a c) (opposite (round f false a c) (round f false b d) (round_plus f a c).sign (round_plus f b d).sign)
+round_of_lem f true a c true b d C D h = rw (round_neg f a c, round_neg f b d) (neg_of (round f false b d) (round f false a c) (round_mono f b d a c D C h))
 
 -- ±a / c ≤ ±b / d
 pub round_signed : (f : Format) (s : Bool) (a c : ℕ) (t : Bool) (b d : ℕ) → 0 < c → 0 < d → signed_le s (a * d) t (b * c)
     → le (round f s a c) (round f t b d) ≡ true
-round_signed f s a c t b d C D h = is_true (le (round f s a c) (round f t b d)) (round_of f s a c t b d C D h)
+round_signed f s a c t b d C D h = is_true (le (round f s a c) (round f t b d)) (round_of_lem f s a c t b d C D h)
 
 unlike_swap : (s t : Bool) → unlike s t ≡ unlike t s
 unlike_swap false false = refl
@@ -127,14 +127,14 @@ at_scaled f s a u c D w A =
     spread x y z w = omega arith
 
 -- the sums of a / C and c / C, of b / D and d / D, with signs
-sum_of : (f : Format) (s : Bool) (a : ℕ) (u : Bool) (c C : ℕ) (t : Bool) (b : ℕ) (v : Bool) (d D : ℕ) → 0 < C → 0 < D
+sum_of_lem : (f : Format) (s : Bool) (a : ℕ) (u : Bool) (c C : ℕ) (t : Bool) (b : ℕ) (v : Bool) (d D : ℕ) → 0 < C → 0 < D
     → signed_le s (a * D) t (b * C) → signed_le u (c * D) v (d * C) → T (le (sum f s a u c C) (sum f t b v d D))
-sum_of f s a u c C t b v d D P Q h k =
+sum_of_lem f s a u c C t b v d D P Q h k =
     let A = added f s a u c C in
     let B = added f t b v d D in
     subst (λ (z : Float). T (le z (sum f t b v d D))) (sym A.is)
     (subst (λ (z : Float). T (le (round f A.sign A.size C) z)) (sym B.is)
-    (round_of f A.sign A.size C B.sign B.size D P Q
+    (round_of_lem f A.sign A.size C B.sign B.size D P Q
     (sums→signed A.sign (A.size * D) B.sign (B.size * C)
     (parts (plus A.sign (A.size * D)) (minus A.sign (A.size * D)) (plus B.sign (B.size * C)) (minus B.sign (B.size * C))
     (plus s (a * D)) (minus s (a * D)) (plus t (b * C)) (minus t (b * C)) (plus u (c * D)) (minus u (c * D)) (plus v (d * C)) (minus v (d * C))
@@ -191,7 +191,7 @@ add_of f (fin s m e) (inf true) (fin u k c) (fin v o g) Z W h l = absurd h
 add_of f (fin s m e) (inf false) (fin u k c) (fin v o g) Z W h l =
     top (sum f s (m * up e * down c) u (k * up c * down e) (down e * down c)) (sum_not_nan f s (m * up e * down c) u (k * up c * down e) (down e * down c))
 add_of f (fin s m e) (fin t n d) (fin u k c) (fin v o g) Z W h l =
-    sum_of f s (m * up e * down c) u (k * up c * down e) (down e * down c) t (n * up d * down g) v (o * up g * down d) (down d * down g)
+    sum_of_lem f s (m * up e * down c) u (k * up c * down e) (down e * down c) t (n * up d * down g) v (o * up g * down d) (down d * down g)
     (mul-pos (down_pos e) (down_pos c)) (mul-pos (down_pos d) (down_pos g))
     (over_left s t (m * up e) (n * up d) (down e) (down d) (down c) (down g) (test→signed s (m * up e * down d) t (n * up d * down e) h))
     (over_right u v (k * up c) (o * up g) (down c) (down g) (down e) (down d) (test→signed u (k * up c * down g) v (o * up g * down c) l))
@@ -325,7 +325,7 @@ mul_of f (fin s m e) (inf t) z X Y Z N h = absurd Y
 mul_of f (fin s m e) (fin t n d) nan X Y Z N h = absurd Z
 mul_of f (fin s m e) (fin t n d) (inf u) X Y Z N h = absurd Z
 mul_of f (fin s m e) (fin t n d) (fin u k c) X Y Z N h =
-    round_of f (unlike s u) (m * up e * (k * up c)) (down e * down c) (unlike t u) (n * up d * (k * up c)) (down d * down c)
+    round_of_lem f (unlike s u) (m * up e * (k * up c)) (down e * down c) (unlike t u) (n * up d * (k * up c)) (down d * down c)
     (mul-pos (down_pos e) (down_pos c)) (mul-pos (down_pos d) (down_pos c))
     (mul_signed s t u (m * up e) (n * up d) (down e) (down d) (k * up c) (down c)
     (minus-nought u (k * up c) (down c) (test→signed false (0 * 1 * down c) u (k * up c * 1) N))
@@ -387,7 +387,7 @@ div_by f (fin s m e) (inf false) k c K h = subst (λ (z : Float). T (le z (inf f
 div_by f (fin s m e) (fin t n d) k c K h =
     subst (λ (z : Float). T (le z (div f (fin t n d) (fin false k c)))) (sym (quotient f s m e k c K))
     (subst (λ (z : Float). T (le (round f s (m * up e * down c) (k * up c * down e)) z)) (sym (quotient f t n d k c K))
-    (round_of f s (m * up e * down c) (k * up c * down e) t (n * up d * down c) (k * up c * down d) (mul-pos (mul-pos K (up_pos c)) (down_pos e))
+    (round_of_lem f s (m * up e * down c) (k * up c * down e) t (n * up d * down c) (k * up c * down d) (mul-pos (mul-pos K (up_pos c)) (down_pos e))
     (mul-pos (mul-pos K (up_pos c)) (down_pos d))
     (div_signed s t (m * up e) (n * up d) (down e) (down d) (k * up c) (down c) (test→signed s (m * up e * down d) t (n * up d * down e) h))))
 

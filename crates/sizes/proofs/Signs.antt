@@ -49,16 +49,16 @@ mul_of f (fin false m e) (fin false n d) X Y h k = round_plus f (m * up e * (n *
 pub mul_plus : {x y : Float} (f : Format) → T (finite x) → T (finite y) → Plus x → Plus y → Plus (mul f x y)
 mul_plus {x} {y} f X Y h k = mul_of f x y X Y h.sign k.sign
 
-square_of : (f : Format) (x : Float) → T (not (is_nan x)) → Plus (mul f x x)
+square_of_lem : (f : Format) (x : Float) → T (not (is_nan x)) → Plus (mul f x x)
 unfolding mul is_plus is_nan
-square_of f nan h = absurd h
-square_of f (inf true) h = record { sign = tt }
-square_of f (inf false) h = record { sign = tt }
-square_of f (fin true m e) h = round_plus f (m * up e * (m * up e)) (down e * down e)
-square_of f (fin false m e) h = round_plus f (m * up e * (m * up e)) (down e * down e)
+square_of_lem f nan h = absurd h
+square_of_lem f (inf true) h = record { sign = tt }
+square_of_lem f (inf false) h = record { sign = tt }
+square_of_lem f (fin true m e) h = round_plus f (m * up e * (m * up e)) (down e * down e)
+square_of_lem f (fin false m e) h = round_plus f (m * up e * (m * up e)) (down e * down e)
 
 pub square_plus : (f : Format) (x : Float) → T (not (is_nan x)) → Plus (mul f x x)
-square_plus f x h = square_of f x h
+square_plus f x h = square_of_lem f x h
 
 pub nought-is : nought ≡ fin false 0 (pos 0)
 unfolding of_bits

@@ -30,7 +30,7 @@ use Rattle.float_sizes.proofs.ExpSizes.{exp_square_most}
 use Rattle.options.specs.declared.TempoOpts.{TempoOpts}
 use Rattle.lags.specs.Lags.{sixty, frames_per_minute, bpm_at, lag_room, min_lag, max_lag, bounds_fine}
 use Rattle.lag_curves.specs.Curves.{likeliest, likely_width, prior_at, clarity_at, weight_at}
-use Rattle.lags.proofs.Ranges.{range_of, fine_rate, fine_rate_least}
+use Rattle.lags.proofs.Ranges.{range_of_lem, fine_rate, fine_rate_least}
 use Rattle.lag_curves.proofs.CurveSizes.{mean_within, energy_within, clarity-low, clarity-high}
 use Rattle.lag_candidates.specs.Candidates.{winner_of}
 use Rattle.lag_search.specs.Search.{weight_rule, weight_curve, ac0_of, flat, winner_above}
@@ -192,7 +192,7 @@ module _ {env : List Float} {rate least most : ℕ} (s : Searchable env rate lea
 pub searchable_in : (env : List Float) (rate : ℕ) (o : TempoOpts) → bounds_fine rate o ≡ true → every value_fine env ≡ true → length env ≤ most_rows
     → max_lag rate o < length env → flat env ≡ false → Searchable env rate (min_lag rate o) (max_lag rate o)
 searchable_in env rate o fine values rows long loud =
-    let r = range_of rate o fine in
+    let r = range_of_lem rate o fine in
     record {
       values = values;
       rows = rows;

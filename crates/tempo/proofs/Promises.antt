@@ -20,7 +20,7 @@ use Rattle.sizes.specs.Sizes.{Each, none, more}
 use Rattle.sizes.proofs.Lists.{each_at, each_append}
 use Rattle.options.specs.declared.TempoOpts.{TempoOpts}
 use Rattle.lags.specs.Lags.{min_lag, max_lag, lag_room}
-use Rattle.lags.proofs.Ranges.{min_lag_least, min_lt_max, range_of}
+use Rattle.lags.proofs.Ranges.{min_lag_least, min_lt_max, range_of_lem}
 use Rattle.tempo.specs.declared.Candidate.{Candidate}
 use Rattle.tempo.specs.declared.Tempo.{Tempo}
 use Rattle.tempo.specs.declared.Tempo.TheVariants.{None, Found}
@@ -180,7 +180,7 @@ module _ (env : List Float) (onsets rate : ℕ) (o : TempoOpts) (clarity weight 
   winner-most z =
       by_refused (λ (e : TempoEstimate). (get_or e.candidates 0 z).lag ≤ most_period) (search_refusal env rate o clarity weight work) _ _
       (λ e. first-most (tempo_of env onsets rate (min_lag rate o) (max_lag rate o)) told-kept
-      (range_of rate o (accepted env rate o clarity weight work e).bounds).most-max)
+      (range_of_lem rate o (accepted env rate o clarity weight work e).bounds).most-max)
       (omega arith)
     where
       first-most : (e : TempoEstimate) → Kept (min_lag rate o) (max_lag rate o) e → max_lag rate o ≤ most_period → (get_or e.candidates 0 z).lag ≤ most_period

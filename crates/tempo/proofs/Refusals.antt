@@ -14,7 +14,7 @@ use Rattle.numbers.proofs.Tests.{and_left, and_right, and-held, and_failed, Pass
 use Rattle.options.specs.declared.TempoOpts.{TempoOpts}
 use Rattle.lags.specs.declared.LagRange.{LagRange}
 use Rattle.lags.specs.Lags.{min_lag, max_lag, lag_room, bounds_fine, lag_range}
-use Rattle.lags.proofs.Ranges.{Answered, range_of}
+use Rattle.lags.proofs.Ranges.{Answered, range_of_lem}
 use Rattle.tempo.specs.Answers.{search_bounds, search_room, search_refusal}
 
 -- the lags that `lag_range` answered, where the bounds are fine
@@ -27,7 +27,7 @@ pub record Ranged (rate : ℕ) (o : TempoOpts) (r : LagRange) : Type 0 where
 
 pub ranged : (rate : ℕ) (o : TempoOpts) (r : LagRange) → r ≡ lag_range rate o → bounds_fine rate o ≡ true → Ranged rate o r
 ranged rate o r e fine =
-    let a = range_of rate o fine in
+    let a = range_of_lem rate o fine in
     let l : r.min_lag ≡ min_lag rate o = ap (λ (x : LagRange). x.min_lag) e ∙ a.least in
     let g : r.max_lag ≡ max_lag rate o = ap (λ (x : LagRange). x.max_lag) e ∙ a.greatest in
     record {
@@ -111,13 +111,13 @@ module _ (env : List Float) (rate : ℕ) (o : TempoOpts) (clarity weight work : 
     not_in_bounds e = sym (lowest_1 bounds true roomy fine (sym bounds_are ∙ e))
 
     module _ (b : bounds_fine rate o ≡ true) where
-      pub too_little_room : roomy ≡ false → 3 ≡ number
+      pub too_little_room_lem : roomy ≡ false → 3 ≡ number
       unfolding search_refusal
-      too_little_room e = sym (lowest_3 bounds true roomy fine (sym bounds_are ∙ b) refl e)
+      too_little_room_lem e = sym (lowest_3 bounds true roomy fine (sym bounds_are ∙ b) refl e)
 
-      pub wrong_value : roomy ≡ true → fine ≡ false → 4 ≡ number
+      pub wrong_value_lem : roomy ≡ true → fine ≡ false → 4 ≡ number
       unfolding search_refusal
-      wrong_value r e = sym (lowest_4 bounds true roomy fine (sym bounds_are ∙ b) refl r e)
+      wrong_value_lem r e = sym (lowest_4 bounds true roomy fine (sym bounds_are ∙ b) refl r e)
 
       pub nothing_refused : roomy ≡ true → fine ≡ true → 0 ≡ number
       unfolding search_refusal

@@ -146,15 +146,15 @@ plain_several (x ∷ y ∷ ys) h = refl
 held_step : (most v w d : ℕ) → min v most ≡ min w most → min (v * 10 + d) most ≡ min (w * 10 + d) most
 held_step most v w d e = omega arith
 
-held_number : (most : ℕ) (ds : List ℕ) (v w : ℕ) → min v most ≡ min w most → min (number_from v ds) most ≡ min (number_from w ds) most
+held_number_lem : (most : ℕ) (ds : List ℕ) (v w : ℕ) → min v most ≡ min w most → min (number_from v ds) most ≡ min (number_from w ds) most
 unfolding number_from
-held_number most [] v w e = e
-held_number most (x ∷ xs) v w e = held_number most xs _ _ (held_step most v w (x - 48) e)
+held_number_lem most [] v w e = e
+held_number_lem most (x ∷ xs) v w e = held_number_lem most xs _ _ (held_step most v w (x - 48) e)
 
 -- one digit of a number that is held
 pub held_more : (most x v : ℕ) (ds : List ℕ) → min (number_from v (x ∷ ds)) most ≡ min (number_from (min (v * 10 + (x - 48)) most) ds) most
 unfolding number_from
-held_more most x v ds = held_number most ds _ _ (omega arith)
+held_more most x v ds = held_number_lem most ds _ _ (omega arith)
 
 pub held_none : (most v : ℕ) → v ≤ most → min (number_from v []) most ≡ v
 unfolding number_from

@@ -40,7 +40,8 @@ pub fn lay_beats(
     frames: &mut [u32],
     downbeats: &mut [u32],
 ) -> Laid
-    requires envelope_len_bound { (length envelope.now ≤ most_rows) × (every value_fine envelope.now ≡ true) × (period ≤ most_period) × (between 1 most_meter meter ≡ true) }
+    requires envelope_len_bound { (length envelope.now ≤ most_rows) × (every value_fine envelope.now ≡ true)
+        × (period ≤ most_period) × (between 1 most_meter meter ≡ true) }
     requires envelope_in_bounds { (length envelope.now ≤ length score.old)
         × (length envelope.now ≤ length back.old)
         × (length envelope.now ≤ length frames.old)

@@ -2,7 +2,7 @@
 use mathlib.Core.Path.{sym}
 use native.Mathlib.Omega.{arith}
 use Rattle.texts.proofs.Texts.{fails, holds}
-use Rattle.report_npy.proofs.Preambles.{preamble_malformed, preamble_short, preamble_length}
+use Rattle.report_npy.proofs.Preambles.{preamble_malformed, preamble_short, preamble_length_lem}
 use mathlib.Core.Path.{ap}
 use mathlib.Core.Bool.{not}
 use Rattle.report_npy.proofs.read_preamble.Goals as goal
@@ -32,5 +32,5 @@ overflow_add-result c = omega (arith, c.shared_slice_known-3-1.given 8, c.shared
 pub returns : goal.returns
 returns c =
     let bytes = c.args.bytes.now in
-    sym (preamble_length bytes (holds _ _ c.stands.ensures (ap not c.if-not-stands.false))
+    sym (preamble_length_lem bytes (holds _ _ c.stands.ensures (ap not c.if-not-stands.false))
     c.if-bytes-lt-FIRST.false)
