@@ -6,18 +6,22 @@ use Prim.Native.Nat.{ℕ, ◌-◌}
 use lib.Dec.{ltb}
 use lib.ListN.{length, take, drop}
 use lib.Ieee.{Float}
+use Rattle.std.specs.Prelude.{Result, IsErrAnd}
+use Rattle.numbers.specs.Refusals as Refusals
+use Rattle.numbers.specs.declared.Refusal.{Refusal}
 use Rattle.numbers.specs.Lists.{curve, filled}
 use Rattle.numbers.specs.declared.Slab.{Slab}
 use Rattle.numbers.proofs.Tests.{refused_keeps, passed_does}
+use Rattle.numbers.proofs.Outcomes.{number-not_0}
 use Rattle.flux.specs.Flux.{flux_at}
 use Rattle.options.specs.declared.TempoOpts.{TempoOpts}
 use Rattle.tempo.specs.Answers.{unused}
 use Rattle.tempo.proofs.Promises.{is_found, tempo_has_lag}
 use Rattle.numbers.specs.Outcomes.{Open}
-use Rattle.track.specs.declared.Analysis.{Analysis}
 use Rattle.rooms.specs.Rooms.{Results, Spare, magnitudes_number}
 use Rattle.onsets.specs.Onsets.{onsets_in}
-use Rattle.track.specs.Analyses.{estimate_in, period_in, without_analysis, Analysed}
+use Rattle.track.specs.declared.Analysis.{Analysis}
+use Rattle.track.specs.Analyses.{AnalysisSaid, estimate_in, period_in, analysis_said, Analysed}
 use Rattle.analysis.specs.Analyses.{EnvelopePromise, MagnitudesPromise}
 use Rattle.rooms.specs.Inner.{Ready}
 use Rattle.track_parts.proofs.Lists.{written_part}
@@ -30,12 +34,12 @@ use Rattle.track.proofs.Whole.{analysed_refused, analysed_passed}
 pub open_coincide : {room : ℕ} {was xs ys : List Float} → Open room was xs → Open room was ys → (length xs ≡ length ys) × (drop room xs ≡ drop room ys)
 open_coincide p q = (p.same_length ∙ sym q.same_length, p.kept ∙ sym q.kept)
 
-pub coincide : {number : ℕ} {env : List Float} {rate : ℕ} {o : TempoOpts} {was : Results} {lent : Spare} {a b : Analysis} {x y : Results} {s t : Spare}
+pub coincide : {number : ℕ} {env : List Float} {rate : ℕ} {o : TempoOpts} {was : Results} {lent : Spare} {a b : AnalysisSaid} {x y : Results} {s t : Spare}
     → Analysed number env rate o was lent a x s → Analysed number env rate o was lent b y t → (a ≡ b) × (x ≡ y)
 coincide p q = (p.answered ∙ sym q.answered, p.written ∙ sym q.written)
 
 pub magnitudes_coincide : {m : List Float} {slab : Slab} {rate : ℕ} {o : TempoOpts} {flux : List Float} {was : Results} {lent : Spare}
-    {a b : Analysis} {f g : List Float} {x y : Results} {s t : Spare}
+    {a b : AnalysisSaid} {f g : List Float} {x y : Results} {s t : Spare}
     → MagnitudesPromise m slab rate o flux was lent a f x s → MagnitudesPromise m slab rate o flux was lent b g y t → (a ≡ b) × (f ≡ g) × (x ≡ y)
 magnitudes_coincide p q = let c = coincide p.analysed q.analysed in (c.0, p.fluxes ∙ sym q.fluxes, c.1)
 
@@ -52,33 +56,34 @@ module _ (m : List Float) (slab : Slab) (rate : ℕ) (o : TempoOpts) (flux : Lis
   abbrev number : ℕ
   number = magnitudes_number m slab rate o flux was lent
 
-  pub magnitudes_refused : (n : ℕ) (answer : Analysis) → n ≡ number → (n ≡ 0 → ⊥) → answer ≡ without_analysis n
-      → MagnitudesPromise m slab rate o flux was lent answer flux was lent
-  magnitudes_refused n answer is some e =
+  -- a refusal that `?` hands on: e is what refused
+  pub magnitudes_refused : (r : Result Analysis Refusal) (e : Refusal) → IsErrAnd r (λ (x : Refusal). x ≡ e) → Refusals.number e ≡ number
+      → MagnitudesPromise m slab rate o flux was lent (analysis_said r) flux was lent
+  magnitudes_refused r e h is =
       record {
-        fluxes = sym (refused_keeps number (filled (flux_at m slab) flux 0 slab.rows) flux (λ z. some (is ∙ z)));
-        analysed = analysed_refused n number is (curve (flux_at m slab) slab.rows) rate o was lent answer some e;
+        fluxes = sym (refused_keeps number (filled (flux_at m slab) flux 0 slab.rows) flux (λ z. number-not_0 e (is ∙ z)));
+        analysed = analysed_refused number (curve (flux_at m slab) slab.rows) rate o was lent r e h is;
       }
 
-  module _ (n : ℕ) (is : n ≡ number) (z : n ≡ 0) (flux' : List Float) (f : flux' ≡ filled (flux_at m slab) flux 0 slab.rows) where
+  module _ (z : number ≡ 0) (flux' : List Float) (f : flux' ≡ filled (flux_at m slab) flux 0 slab.rows) where
     lent_flux : take (slab.rows - 0) (drop 0 flux') ≡ curve (flux_at m slab) slab.rows
     lent_flux = written_part (flux_at m slab) flux flux' slab.rows f
 
     pub lent_ready : Ready (take (slab.rows - 0) (drop 0 flux')) rate o was lent
-    lent_ready = rw lent_flux (flux-ready m slab rate o flux was lent (told m slab rate o flux was lent (sym is ∙ z)))
+    lent_ready = rw lent_flux (flux-ready m slab rate o flux was lent (told m slab rate o flux was lent z))
 
-    pub magnitudes_passed : (answer : Analysis) (after : Results) (left : Spare)
+    pub magnitudes_passed : (answer : AnalysisSaid) (after : Results) (left : Spare)
         → Analysed 0 (take (slab.rows - 0) (drop 0 flux')) rate o was lent answer after left
         → MagnitudesPromise m slab rate o flux was lent answer flux' after left
     magnitudes_passed answer after left a =
         record {
-          fluxes = f ∙ sym (passed_does number (filled (flux_at m slab) flux 0 slab.rows) flux (sym is ∙ z));
-          analysed = analysed_passed n number is (curve (flux_at m slab) slab.rows) rate o was lent answer after left z
+          fluxes = f ∙ sym (passed_does number (filled (flux_at m slab) flux 0 slab.rows) flux z);
+          analysed = analysed_passed number (curve (flux_at m slab) slab.rows) rate o was lent answer after left z
               (subst (λ (env : List Float). Analysed 0 env rate o was lent answer after left) lent_flux a);
         }
 
   -- where nothing is refused, what `analyse_magnitudes` answers and leaves is what `analyse_envelope` does with their flux
-  pub flux_is_the_envelope : {answer : Analysis} {flux' : List Float} {after : Results} {left : Spare} → number ≡ 0
+  pub flux_is_the_envelope : {answer : AnalysisSaid} {flux' : List Float} {after : Results} {left : Spare} → number ≡ 0
       → MagnitudesPromise m slab rate o flux was lent answer flux' after left
       → EnvelopePromise (curve (flux_at m slab) slab.rows) rate o was lent answer after left
   flux_is_the_envelope {answer = a} {after = x} {left = s} z p =

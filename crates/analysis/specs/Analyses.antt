@@ -7,18 +7,17 @@ use Rattle.numbers.specs.declared.Slab.{Slab}
 use Rattle.flux.specs.Flux.{flux_at}
 use Rattle.options.specs.declared.TempoOpts.{TempoOpts}
 use Rattle.rooms.specs.Rooms.{Results, Spare, envelope_number, magnitudes_number}
-use Rattle.track.specs.declared.Analysis.{Analysis}
-use Rattle.track.specs.Analyses.{Analysed}
+use Rattle.track.specs.Analyses.{AnalysisSaid, Analysed}
 
 -- The promise of `analyse_envelope`.
-abbrev pub EnvelopePromise : List Float → (rate : ℕ) → TempoOpts → Results → Spare → Analysis → Results → Spare → Type 0
+abbrev pub EnvelopePromise : List Float → (rate : ℕ) → TempoOpts → Results → Spare → AnalysisSaid → Results → Spare → Type 0
 EnvelopePromise env rate o was lent answer after left =
     Analysed (envelope_number env rate o was lent) env rate o was lent answer after left
 
 -- The promise of `analyse_magnitudes`: the flux that demand 2 gives, and the analysis of that flux.
 pub record MagnitudesPromise
     (magnitudes : List Float) (slab : Slab) (rate : ℕ) (o : TempoOpts) (flux : List Float) (was : Results) (lent : Spare)
-    (answer : Analysis) (flux' : List Float) (after : Results) (left : Spare) : Type 0 where
+    (answer : AnalysisSaid) (flux' : List Float) (after : Results) (left : Spare) : Type 0 where
   pub fluxes :
       flux' ≡
       unless_refused (magnitudes_number magnitudes slab rate o flux was lent) (filled (flux_at magnitudes slab) flux 0 slab.rows) flux

@@ -6,13 +6,14 @@
 
 ghost use Rattle.numbers.specs.Limits.{slab_of};
 ghost use Rattle.rooms.specs.Rooms.{results, spare};
+ghost use Rattle.track.specs.Analyses.{analysis_said};
 ghost use Rattle.analysis.specs.Analyses.{EnvelopePromise, MagnitudesPromise};
 
 use flux::fill_flux;
-use numbers::Slab;
+use numbers::{Refusal, Slab};
 use options::TempoOpts;
 use rooms::{envelope_refusal, magnitudes_refusal};
-use track::{Analysis, analyse, without_analysis};
+use track::{Analysis, analyse};
 
 // Analyses an envelope of onset strength. Room, as `rooms::room_of` names it for N slots: rows each for threshold, onsets, score, back, beats and
 // downbeats; lags each for the four lag curves; sorting for work. Afterwards threshold holds its curve and onsets its frames; clarity and
@@ -35,13 +36,13 @@ pub fn analyse_envelope(
     beats: &mut [u32],
     downbeats: &mut [u32],
     work: &mut [f64],
-) -> Analysis
+) -> Result<Analysis, Refusal>
     ensures { EnvelopePromise envelope.now rate opts
         (results
         threshold.old onsets.old clarity.old weight.old
         score.old back.old beats.old downbeats.old)
         (spare window_clarity.old window_weight.old work.old)
-        result
+        (analysis_said result)
         (results
         threshold.new onsets.new clarity.new weight.new
         score.new back.new beats.new downbeats.new)
@@ -61,11 +62,8 @@ pub fn analyse_envelope(
         window_clarity.len(),
         window_weight.len(),
     ];
-    let number = envelope_refusal(envelope, rate, opts, &frames, &curves, work.len());
-    if number != 0 {
-        return without_analysis(number);
-    }
-    analyse(
+    envelope_refusal(envelope, rate, opts, &frames, &curves, work.len())?;
+    Ok(analyse(
         envelope,
         rate,
         opts,
@@ -80,7 +78,7 @@ pub fn analyse_envelope(
         beats,
         downbeats,
         work,
-    )
+    ))
 }
 
 // Analyses magnitudes, `rows` rows of `bins` each: writes their flux, rows slots, and analyses that as an envelope. The rest of the room is
@@ -104,14 +102,14 @@ pub fn analyse_magnitudes(
     beats: &mut [u32],
     downbeats: &mut [u32],
     work: &mut [f64],
-) -> Analysis
+) -> Result<Analysis, Refusal>
     ensures { MagnitudesPromise magnitudes.now (slab_of rows bins) rate opts
         flux.old
         (results
         threshold.old onsets.old clarity.old weight.old
         score.old back.old beats.old downbeats.old)
         (spare window_clarity.old window_weight.old work.old)
-        result
+        (analysis_said result)
         flux.new
         (results
         threshold.new onsets.new clarity.new weight.new
@@ -133,7 +131,7 @@ pub fn analyse_magnitudes(
         window_weight.len(),
     ];
     let slab = Slab { rows, bins };
-    let number = magnitudes_refusal(
+    magnitudes_refusal(
         magnitudes,
         slab,
         rate,
@@ -142,12 +140,9 @@ pub fn analyse_magnitudes(
         &frames,
         &curves,
         work.len(),
-    );
-    if number != 0 {
-        return without_analysis(number);
-    }
+    )?;
     fill_flux(magnitudes, slab, 0, rows, flux);
-    analyse(
+    Ok(analyse(
         &flux[0..rows],
         rate,
         opts,
@@ -162,5 +157,5 @@ pub fn analyse_magnitudes(
         beats,
         downbeats,
         work,
-    )
+    ))
 }

@@ -1,6 +1,6 @@
 -- The meter (request No. 4): the downbeats are every meter-th beat from one on, with a meter of 1 they are all beats, and with a meter of 4 they are
 -- those of document 01's own rule, which is written out here once more. Assumes nothing.
-use mathlib.Core.Path.{◌≡◌, refl, sym, ap, subst, ◌∙◌}
+use mathlib.Core.Path.{◌≡◌, refl, sym, ap, ◌∙◌}
 use mathlib.Core.Bool.{Bool, true, false, ◌&&◌}
 use mathlib.Core.Logic.{◌⊎◌, inl, inr, ⊎_elim}
 use mathlib.Core.List.{List, [], ◌∷◌, map}
@@ -9,7 +9,7 @@ use native.Mathlib.Nat.{mod-lt, div-add-mod', zero-mod, zero-mul, suc-mul, suc-a
 use native.Mathlib.Omega.{arith}
 use borrow.Author.Tests.{eq-eqb, ne_eqb}
 use lib.Arith.{digits_mod}
-use lib.Dec.{leb, eqb}
+use lib.Dec.{leb}
 use lib.ListN.{length, get_or}
 use lib.Ieee.{Float, lt}
 use Rattle.numbers.specs.Rounded.{pick, sum_of}

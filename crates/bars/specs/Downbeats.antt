@@ -5,8 +5,7 @@ use Rattle.numbers.specs.Rounded.{nought, pick, sum_of}
 use Rattle.numbers.specs.Limits.{most_rows, value_fine, frame_fine}
 use Rattle.numbers.specs.Refusals.{lowest}
 use Rattle.numbers.specs.Lists.{every}
-use Rattle.numbers.specs.Outcomes.{ListWritten}
-use Rattle.numbers.specs.declared.Listing.{Listing}
+use Rattle.numbers.specs.Outcomes.{Listing, ListWritten}
 use Rattle.options.specs.Options.{options_fine}
 use Rattle.options.specs.declared.TempoOpts.{TempoOpts}
 use Rattle.lists.specs.Greatest.{first_greatest}

@@ -4,15 +4,18 @@
 #![tactic(auto)]
 
 ghost use Rattle.std.specs.Prelude.{◌≡◌, ◌<◌, ◌≤◌, length};
+ghost use Rattle.numbers.specs.Outcomes.{listing};
+ghost use Rattle.numbers.specs.Refusals.{number_of};
 ghost use Rattle.numbers.specs.Lists.{listed, filled};
 ghost use Rattle.options.specs.Options.{most_meter};
 ghost use Rattle.bars.specs.Downbeats.{downbeat_refusal, beat_flux, in_phase, phase_sum, downbeat_phase, DownbeatsPromise};
 ghost use Rattle.bars.specs.BarBeats.{last_bar, during, passing, BarBeatPromise};
 
-use numbers::Listing;
+use numbers::Refusal;
 use options::TempoOpts;
 
-// Where a time lies: in no bar, where it reaches no downbeat, or in a bar and at a beat of it, both counted from 1.
+// Where a time lies: in no bar, where it reaches no downbeat, or in a bar and at a beat of it, both counted from 1. Kept as an enum of its own, and no
+// Option: docs/RULES.md, X11.
 #[derive(Clone, Copy)]
 pub enum BarBeat {
     Nowhere,
@@ -23,23 +26,19 @@ pub enum BarBeat {
 // the meter alone is read.
 // Room: one slot for each beat; slots past the count stay. Refuses 1 (N, a beat above 1,048,575, a meter outside 1 to 16), 3 and 4, and then lists
 // nothing. The beats need not ascend; where flux is negative an empty phase may be the greatest, and then no beat is a downbeat.
-pub fn downbeats(envelope: &[f64], beats: &[u32], opts: TempoOpts, frames: &mut [u32]) -> Listing
-    ensures { DownbeatsPromise envelope.now beats.now opts frames.old result frames.new }
+pub fn downbeats(
+    envelope: &[f64],
+    beats: &[u32],
+    opts: TempoOpts,
+    frames: &mut [u32],
+) -> Result<usize, Refusal>
+    ensures { DownbeatsPromise envelope.now beats.now opts frames.old (listing result) frames.new }
 {
-    let no = downbeat_refusal(envelope, beats, opts, frames.len());
-    if no != 0 {
-        return Listing {
-            number: no,
-            count: 0,
-        };
-    }
+    downbeat_refusal(envelope, beats, opts, frames.len())?;
     let meter = opts.meter;
     let phase = downbeat_phase(envelope, beats, meter);
     let count = list_phase(beats, meter, phase, frames);
-    Listing {
-        number: 0,
-        count: count,
-    }
+    Ok(count)
 }
 
 // Says where a time lies: the last bar whose downbeat it reaches, and how many of the bar's beats it has reached, at least 1.
@@ -56,29 +55,34 @@ pub fn bar_beat_at(time: f64, downbeats: &[f64], beats: &[f64]) -> BarBeat
     let heard = beats_during(downbeats[bar - 1] - 0.000001, limit, beats);
     BarBeat::At {
         bar: bar,
-        beat: numbers::greatest(1, heard),
+        beat: heard.max(1),
     }
 }
 
-fn downbeat_refusal(envelope: &[f64], beats: &[u32], opts: TempoOpts, room: usize) -> u32
-    ensures { result ≡ downbeat_refusal envelope.now beats.now opts room }
+fn downbeat_refusal(
+    envelope: &[f64],
+    beats: &[u32],
+    opts: TempoOpts,
+    room: usize,
+) -> Result<(), Refusal>
+    ensures { number_of result ≡ downbeat_refusal envelope.now beats.now opts room }
 {
     if envelope.len() > numbers::MOST_ROWS {
-        return numbers::OUT_OF_BOUNDS;
+        return Err(Refusal::OutOfBounds);
     }
     if !lists::all_at_most(beats, numbers::MOST_FRAME) {
-        return numbers::OUT_OF_BOUNDS;
+        return Err(Refusal::OutOfBounds);
     }
     if !options::options_fine(opts) {
-        return numbers::OUT_OF_BOUNDS;
+        return Err(Refusal::OutOfBounds);
     }
     if room < beats.len() {
-        return numbers::TOO_LITTLE_ROOM;
+        return Err(Refusal::TooLittleRoom);
     }
     if !numbers::values_fine(envelope) {
-        return numbers::WRONG_VALUE;
+        return Err(Refusal::WrongValue);
     }
-    0
+    Ok(())
 }
 
 fn flux_at(envelope: &[f64], frame: u32) -> f64
@@ -97,12 +101,10 @@ fn phase_sum(envelope: &[f64], beats: &[u32], meter: usize, phase: usize) -> f64
     ensures { result ≡ phase_sum envelope.now beats.now meter phase }
 {
     let mut sum = 0.0;
-    let mut i = 0;
-    while i < beats.len() {
+    for i in 0..beats.len() {
         if i % meter == phase {
             sum = sum + flux_at(envelope, beats[i]);
         }
-        i += 1;
     }
     sum
 }
@@ -121,10 +123,8 @@ fn fill_sums(envelope: &[f64], beats: &[u32], meter: usize, sums: &mut [f64])
     requires { (0 < meter) × (meter ≤ length sums.old) }
     ensures { sums.new ≡ filled (phase_sum envelope.now beats.now meter) sums.old 0 meter }
 {
-    let mut phase = 0;
-    while phase < meter {
+    for phase in 0..meter {
         sums[phase] = phase_sum(envelope, beats, meter, phase);
-        phase += 1;
     }
 }
 
@@ -134,13 +134,11 @@ fn list_phase(beats: &[u32], meter: usize, phase: usize, frames: &mut [u32]) -> 
         × (frames.new ≡ listed (in_phase meter phase 0 beats.now) frames.old) }
 {
     let mut count = 0;
-    let mut i = 0;
-    while i < beats.len() {
+    for i in 0..beats.len() {
         if i % meter == phase {
             frames[count] = beats[i];
             count += 1;
         }
-        i += 1;
     }
     count
 }
@@ -149,12 +147,10 @@ fn list_phase(beats: &[u32], meter: usize, phase: usize, frames: &mut [u32]) -> 
 fn last_bar(limit: f64, downbeats: &[f64]) -> usize
     ensures { (result ≤ length downbeats.now) × (result ≡ last_bar limit downbeats.now (length downbeats.now)) }
 {
-    let mut k = downbeats.len();
-    while 0 < k {
-        if downbeats[k - 1] <= limit {
-            return k;
+    for k in (0..downbeats.len()).rev() {
+        if downbeats[k] <= limit {
+            return k + 1;
         }
-        k -= 1;
     }
     0
 }
@@ -163,13 +159,11 @@ fn beats_during(lo: f64, hi: f64, beats: &[f64]) -> usize
     ensures { result ≡ passing (during lo hi) beats.now }
 {
     let mut count = 0;
-    let mut i = 0;
-    while i < beats.len() {
+    for i in 0..beats.len() {
         let beat = beats[i];
         if is_during(lo, hi, beat) {
             count += 1;
         }
-        i += 1;
     }
     count
 }

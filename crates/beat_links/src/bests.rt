@@ -9,7 +9,6 @@ ghost use Rattle.beat_links.specs.Inner.{tabled, larger, lane, top_of_eight, Rea
 use crate::NO_LINK;
 use crate::penalties::penalty_of;
 use lists::Best;
-use numbers::less;
 
 // One extension, with its penalty computed.
 fn extended_at(score: &[f64], period: usize, t: usize, u: usize) -> f64
@@ -25,11 +24,10 @@ pub fn best_computed(score: &[f64], period: usize, t: usize, lo: usize, end: usi
     requires { (end ≤ t) × (end ≤ length score.now) × (t ≤ most_rows) × (lo ≤ t - period) × (t - period < end) }
     ensures { result ≡ greatest (extended period score.now t) lo (end - lo) unlinked }
 {
-    let reached = up(0.0, extended_at(score, period, t, less(t, period)));
+    let reached = up(0.0, extended_at(score, period, t, t.saturating_sub(period)));
     let mut value = 0.0;
     let mut at = NO_LINK;
-    let mut u = lo;
-    while u < end {
+    for u in lo..end {
         let prev = score[u];
         if reached <= prev {
             if value < prev {
@@ -40,7 +38,6 @@ pub fn best_computed(score: &[f64], period: usize, t: usize, lo: usize, end: usi
                 }
             }
         }
-        u += 1;
     }
     Best {
         value: value,
@@ -63,14 +60,12 @@ pub fn best_in_table(score: &[f64], table: &[f64], first: usize, lo: usize, end:
 {
     let mut value = 0.0;
     let mut at = NO_LINK;
-    let mut u = lo;
-    while u < end {
+    for u in lo..end {
         let c = tabled_at(score, table, first, lo, u);
         if value < c {
             value = c;
             at = u as u32;
         }
-        u += 1;
     }
     Best {
         value: value,
@@ -122,8 +117,7 @@ fn first_reaching(
         × Reached (tabled table.now score.now first lo) lo end at value }
     ensures { result ≡ greatest (tabled table.now score.now first lo) lo (end - lo) unlinked }
 {
-    let mut u = at;
-    while u < end {
+    for u in at..end {
         let c = tabled_at(score, table, first, lo, u);
         if value <= c {
             let frame = u as u32;
@@ -132,7 +126,6 @@ fn first_reaching(
                 at: frame,
             };
         }
-        u += 1;
     }
     Best {
         value: 0.0,
@@ -149,8 +142,9 @@ pub fn best_by_eights(score: &[f64], table: &[f64], first: usize, lo: usize, end
     let mut value = 0.0;
     let mut at = end;
     let mut u = lo;
+    // Kept as a while: step_by's loop has a second end, where its count would overflow, to be proved again.
     while u < end {
-        let start = numbers::least(u, end - 8);
+        let start = u.min(end - 8);
         let top = top_of_eight(score, table, first, lo, start);
         if value < top {
             value = top;

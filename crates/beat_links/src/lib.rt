@@ -13,7 +13,6 @@ ghost use Rattle.beat_links.specs.Inner.{Penalties};
 
 use crate::bests::{best_by_eights, best_computed, best_in_table};
 use lists::Best;
-use numbers::less;
 
 // a frame with no beat before it
 pub const NO_LINK: u32 = 4_294_967_295;
@@ -29,8 +28,8 @@ pub fn extension_at(score: &[f64], table: &[f64], period: usize, t: usize) -> Be
             at: NO_LINK,
         };
     }
-    let lo = less(t, 2 * period);
-    let end = less(t, (period + 1) / 2) + 1;
+    let lo = t.saturating_sub(2 * period);
+    let end = t.saturating_sub((period + 1) / 2) + 1;
     if table.len() < 2 * period {
         return best_computed(score, period, t, lo, end);
     }

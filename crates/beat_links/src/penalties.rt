@@ -20,9 +20,7 @@ pub fn fill_penalties(period: usize, table: &mut [f64])
     requires { 2 * period ≤ length table.old }
     ensures { table.new ≡ filled (slot_penalty period) table.old 0 (2 * period) }
 {
-    let mut k = 0;
-    while k < 2 * period {
+    for k in 0..2 * period {
         table[k] = penalty_of(period, 2 * period - k);
-        k += 1;
     }
 }

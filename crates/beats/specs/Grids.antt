@@ -1,10 +1,10 @@
 -- Document 01, "Beats and bars": "Beats are the links walked back from the first greatest score." What `beat_grid` refuses, and what it promises.
-use Rattle.std.specs.Prelude.{◌≡◌, Bool, true, ◌&&◌, List, [], ◌∷◌, ◌++◌, ℕ, zero, suc, ◌+◌, ◌-◌, leb, eqb, length, get_or, Float}
+use Rattle.std.specs.Prelude.{◌≡◌, Bool, true, ◌&&◌, List, [], ◌∷◌, ◌++◌, ℕ, zero, suc, ◌+◌, leb, eqb, length, get_or, Float}
 use Rattle.numbers.specs.Rounded.{pick}
 use Rattle.numbers.specs.Limits.{most_rows, most_period, value_fine}
 use Rattle.numbers.specs.Refusals.{lowest, unless_refused}
 use Rattle.numbers.specs.Lists.{listed, every}
-use Rattle.numbers.specs.declared.Listing.{Listing}
+use Rattle.numbers.specs.Outcomes.{Listing}
 use Rattle.lists.specs.Greatest.{value_at, first_greatest}
 use Rattle.beat_links.specs.Extensions.{no_link}
 use Rattle.beats.specs.Envelopes.{beatless, scale_of, scaled_by, scaled}

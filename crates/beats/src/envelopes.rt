@@ -10,11 +10,9 @@ pub fn variance_of(xs: &[f64]) -> f64
 {
     let mean = mean_of(xs);
     let mut sum = 0.0;
-    let mut i = 0;
-    while i < xs.len() {
+    for i in 0..xs.len() {
         let apart = xs[i] - mean;
         sum = sum + apart * apart;
-        i += 1;
     }
     sum / float_of(xs.len())
 }

@@ -41,6 +41,7 @@ fn count_beats(back: &[u32], end: usize) -> usize
 {
     let mut t = end;
     let mut count = 1;
+    // Kept as a while: it goes from link to link, and counts.
     while back[t] != NO_LINK {
         t = back[t] as usize;
         count += 1;
@@ -56,9 +57,7 @@ fn store_beats(back: &[u32], end: usize, count: usize, beats: &mut [u32])
     ensures { beats.new ≡ listed (beats_to (link_at back.now) end) beats.old }
 {
     let mut t = end;
-    let mut i = count;
-    while 1 < i {
-        i -= 1;
+    for i in (1..count).rev() {
         beats[i] = t as u32;
         t = back[t] as usize;
     }

@@ -9,8 +9,10 @@ mod scores;
 
 ghost use Rattle.beats.specs.Grids.{grid_refusal, GridPromise};
 ghost use Rattle.std.specs.Prelude.{◌≡◌};
+ghost use Rattle.numbers.specs.Outcomes.{listing};
+ghost use Rattle.numbers.specs.Refusals.{number_of};
 
-use numbers::Listing;
+use numbers::Refusal;
 
 // Finds the beats of an envelope of onset strength, `period` frames apart more or less, and lists their frames ascending.
 // Room: N slots each for score (the best chain's score at each frame), back (the beat before, 4,294,967,295 where there is none) and beats.
@@ -21,38 +23,23 @@ pub fn beat_grid(
     score: &mut [f64],
     back: &mut [u32],
     beats: &mut [u32],
-) -> Listing
+) -> Result<usize, Refusal>
     ensures { GridPromise
         envelope.now period
         score.old back.old beats.old
-        result
+        (listing result)
         score.new back.new beats.new }
 {
-    let no = grid_refusal(envelope, period, score.len(), back.len(), beats.len());
-    if no != 0 {
-        return Listing {
-            number: no,
-            count: 0,
-        };
-    }
+    grid_refusal(envelope, period, score.len(), back.len(), beats.len())?;
     if envelope.len() == 0 {
-        return Listing {
-            number: 0,
-            count: 0,
-        };
+        return Ok(0);
     }
     if period == 0 {
-        return Listing {
-            number: 0,
-            count: 0,
-        };
+        return Ok(0);
     }
     let variance = envelopes::variance_of(envelope);
     if variance <= numbers::EPSILON {
-        return Listing {
-            number: 0,
-            count: 0,
-        };
+        return Ok(0);
     }
     let count = grids::lay_grid(
         envelope,
@@ -62,33 +49,36 @@ pub fn beat_grid(
         back,
         beats,
     );
-    Listing {
-        number: 0,
-        count: count,
-    }
+    Ok(count)
 }
 
-fn grid_refusal(envelope: &[f64], period: usize, score: usize, back: usize, beats: usize) -> u32
-    ensures { result ≡ grid_refusal envelope.now period score back beats }
+fn grid_refusal(
+    envelope: &[f64],
+    period: usize,
+    score: usize,
+    back: usize,
+    beats: usize,
+) -> Result<(), Refusal>
+    ensures { number_of result ≡ grid_refusal envelope.now period score back beats }
 {
     let n = envelope.len();
     if n > numbers::MOST_ROWS {
-        return numbers::OUT_OF_BOUNDS;
+        return Err(Refusal::OutOfBounds);
     }
     if period > numbers::MOST_PERIOD {
-        return numbers::OUT_OF_BOUNDS;
+        return Err(Refusal::OutOfBounds);
     }
     if score < n {
-        return numbers::TOO_LITTLE_ROOM;
+        return Err(Refusal::TooLittleRoom);
     }
     if back < n {
-        return numbers::TOO_LITTLE_ROOM;
+        return Err(Refusal::TooLittleRoom);
     }
     if beats < n {
-        return numbers::TOO_LITTLE_ROOM;
+        return Err(Refusal::TooLittleRoom);
     }
     if !numbers::values_fine(envelope) {
-        return numbers::WRONG_VALUE;
+        return Err(Refusal::WrongValue);
     }
-    0
+    Ok(())
 }

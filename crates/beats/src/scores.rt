@@ -26,12 +26,10 @@ fn track_with(
     ensures { Tracked period (scaled_by scale envelope.now) (length envelope.now)
         score.old score.new back.old back.new }
 {
-    let mut t = 0;
-    while t < envelope.len() {
+    for t in 0..envelope.len() {
         let best = extension_at(score, table, period, t);
         score[t] = envelope[t] * scale + best.value;
         back[t] = best.at;
-        t += 1;
     }
 }
 

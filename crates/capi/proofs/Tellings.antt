@@ -8,28 +8,23 @@ use lib.Ieee.{Float}
 use Rattle.numbers.specs.Refusals.{unless_refused}
 use Rattle.numbers.specs.declared.Slab.{Slab}
 use Rattle.numbers.specs.Rounded.{nought}
-use Rattle.numbers.specs.declared.Listing.{Listing}
 use Rattle.median.specs.Answers.{median_says, Answered}
-use Rattle.median.specs.declared.Answer.{Answer}
-use Rattle.numbers.specs.Outcomes.{ListWritten}
+use Rattle.std.specs.Prelude.{Result}
+use Rattle.numbers.specs.declared.Refusal.{Refusal}
+use Rattle.numbers.specs.Outcomes.{Listing, ListWritten}
 use Rattle.options.specs.declared.TempoOpts.{TempoOpts}
-use Rattle.tempo.specs.declared.TempoEstimate.{TempoEstimate}
-use Rattle.tempo.specs.Answers.{EstimatePromise}
-use Rattle.stability.specs.declared.Steadiness.{Steadiness}
-use Rattle.stability.specs.Answers.{StabilityPromise}
+use Rattle.tempo.specs.Answers.{EstimateSaid, EstimatePromise}
+use Rattle.stability.specs.Answers.{Steadiness, StabilityPromise}
 use Rattle.beats.specs.Grids.{grid_of, GridPromise}
 use Rattle.sections.specs.Boundaries.{sections_of}
 use Rattle.sections.specs.Confidence.{confidence_of}
-use Rattle.sections.specs.Outcomes.{Found}
-use Rattle.sections.specs.declared.Sections.{Sections}
+use Rattle.sections.specs.Outcomes.{SectionsSaid, Found}
 use Rattle.patches.specs.Patches.{Patch, ranges}
 use Rattle.patch_magnitudes.specs.declared.Patched as rows-done
 use Rattle.patch_magnitudes.specs.Tracks as tracks
 use Rattle.patch_magnitudes.specs.Magnitudes as magnitudes
-use Rattle.patch_magnitudes.proofs.Outcomes as rows_outcomes
 use Rattle.patch_features.specs.declared.PatchedFeatures as features-done
 use Rattle.patch_features.specs.Features as features
-use Rattle.patch_features.proofs.Outcomes as features_outcomes
 use Rattle.capi_answers.specs.Handed.{Handed}
 use Rattle.capi_answers.specs.Medians.{ValueHanded}
 use Rattle.capi_answers.specs.Tempos.{TempoLent, tempo_parts, ShareLent, share_parts}
@@ -67,7 +62,7 @@ value-kept : (n : ℕ) (v value₀ : Float) → get_or (unless_refused n (v ∷ 
 value-kept zero v value₀ = refl
 value-kept (suc k) v value₀ = refl
 
-pub value-told : {number : ℕ} {v : Float} {xs was : List Float} {own : Answer} {work : List Float} {value₀ : Float} {answer : ℕ} {value : Float}
+pub value-told : {number : ℕ} {v : Float} {xs was : List Float} {own : Result Float Refusal} {work : List Float} {value₀ : Float} {answer : ℕ} {value : Float}
     → Answered number v xs was own work → ValueHanded (median_says own) value₀ answer value → Valued number v xs was value₀ answer work value
 value-told {number} {v} {value₀ = value₀} p h =
     record {
@@ -81,7 +76,7 @@ value-told {number} {v} {value₀ = value₀} p h =
 
 -- ---- tempo and stability
 
-pub estimate_told : {env : List Float} {onsets rate : ℕ} {o : TempoOpts} {clarity weight work : List Float} {own : TempoEstimate}
+pub estimate_told : {env : List Float} {onsets rate : ℕ} {o : TempoOpts} {clarity weight work : List Float} {own : EstimateSaid}
     {clarity' weight' work' : List Float}
     {lent₀ : TempoLent} {answer : ℕ} {lent : TempoLent}
     → EstimatePromise env onsets rate o clarity weight work own clarity' weight' work' → Handed own.number (tempo_parts own) lent₀ answer lent
@@ -97,13 +92,13 @@ stability_told p h = rw (← p.answered) (record { handed = h; slices = p })
 
 -- ---- sections
 
-parts-kept : (n : ℕ) (novelty : List Float) (bounds : List ℕ) (own : Sections) → own.sections ≡ unless_refused n (sections_of (length novelty) (length bounds)) 0
+parts-kept : (n : ℕ) (novelty : List Float) (bounds : List ℕ) (own : SectionsSaid) → own.sections ≡ unless_refused n (sections_of (length novelty) (length bounds)) 0
     → own.count ≡ unless_refused n (length bounds) 0 → own.confidence ≡ unless_refused n (confidence_of novelty bounds) nought
     → parts_in own ≡ unless_refused n (section_parts novelty bounds) (sections_lent 0 0 nought)
 parts-kept zero novelty bounds own s c f = rw (s, c, f)
 parts-kept (suc k) novelty bounds own s c f = rw (s, c, f)
 
-pub boundaries_told : {number : ℕ} {novelty : List Float} {bounds rows : List ℕ} {work : List Float} {own : Sections} {rows' : List ℕ} {work' : List Float}
+pub boundaries_told : {number : ℕ} {novelty : List Float} {bounds rows : List ℕ} {work : List Float} {own : SectionsSaid} {rows' : List ℕ} {work' : List Float}
     {lent₀ : SectionsLent} {answer : ℕ} {lent : SectionsLent}
     → Found number novelty bounds rows work own rows' work' → Handed own.number (parts_in own) lent₀ answer lent
     → BoundariesTold number novelty bounds rows work lent₀ answer rows' work' lent
@@ -120,26 +115,23 @@ boundaries_told {number} {novelty} {bounds} {own = own} p h =
 
 -- the four numbers that are lent, and what they then hold
 module _ {p q r s answer : ℕ} {lent : List ℕ} where
-  pub rows_told : {slab : Slab} {was : tracks.MagnitudeTrack} {patch : Patch} {work : List Float} {own : rows-done.Patched}
+  pub rows_told : {slab : Slab} {was : tracks.MagnitudeTrack} {patch : Patch} {work : List Float} {own : Result rows-done.Patched Refusal}
       {now : tracks.MagnitudeTrack} {work' : List Float}
       → magnitudes.PatchMagnitudesPromise slab was patch work own now work' → SlotsHanded (magnitudes.patched_says own) (ranges p q r s) answer lent
       → repairs.PhPatchMagnitudesPromise slab was patch work (ranges p q r s) answer now work' lent
   rows_told {slab} {was} {patch} {work} done h =
       record {
         handed = ranges-handed (tracks.patch_number slab was patch (length work)) patch.new _ _ _ _ _ _ _ _ done.answer_is h;
-        slices =
-            record {
-              answer_is = rows_outcomes.answered_says _ slab patch;
-              track_is = done.track_is;
-              works = done.works;
-            };
+        own = _;
+        slices = done;
       }
 
-  pub features-told : {rows : ℕ} {was : features.FeatureTrack} {patch : Patch} {own : features-done.PatchedFeatures} {now : features.FeatureTrack}
+  pub features-told : {rows : ℕ} {was : features.FeatureTrack} {patch : Patch} {own : Result features-done.PatchedFeatures Refusal} {now : features.FeatureTrack}
       → features.PatchFeaturesPromise rows was patch own now → SlotsHanded (features.patched_features_says own) (ranges p q r s) answer lent
       → repairs.PhPatchFeaturesPromise rows was patch (ranges p q r s) answer now lent
   features-told {rows} {was} {patch} done h =
       record {
         handed = ranges-handed (features.feature_patch_number rows was patch) patch.new _ _ _ _ _ _ _ _ done.answer_is h;
-        slices = record { answer_is = features_outcomes.answered_says _ rows patch; track_is = done.track_is };
+        own = _;
+        slices = done;
       }

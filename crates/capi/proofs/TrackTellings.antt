@@ -9,9 +9,8 @@ use Rattle.numbers.specs.declared.Slab.{Slab}
 use Rattle.numbers.specs.Refusals.{unless_refused}
 use Rattle.flux.specs.Flux.{flux_at}
 use Rattle.options.specs.declared.TempoOpts.{TempoOpts}
-use Rattle.track.specs.declared.Analysis.{Analysis}
 use Rattle.rooms.specs.Rooms.{Results, Spare}
-use Rattle.track.specs.Analyses.{analysis_of, without_analysis, open_lags, open_work, Analysed}
+use Rattle.track.specs.Analyses.{AnalysisSaid, analysis_of, without_analysis, open_lags, open_work, Analysed}
 use Rattle.analysis.specs.Analyses.{EnvelopePromise, MagnitudesPromise}
 use Rattle.analysis.proofs.Promises.{open_coincide}
 use Rattle.capi_answers.specs.Handed.{Handed}
@@ -26,11 +25,11 @@ unfolding analysis_of
 number_of zero env rate o = refl
 number_of (suc k) env rate o = refl
 
-parts_of : (n : ℕ) (a b : Analysis) → track_parts (unless_refused n a b) ≡ unless_refused n (track_parts a) (track_parts b)
+parts_of : (n : ℕ) (a b : AnalysisSaid) → track_parts (unless_refused n a b) ≡ unless_refused n (track_parts a) (track_parts b)
 parts_of zero a b = refl
 parts_of (suc k) a b = refl
 
-pub track-told : {number : ℕ} {env : List Float} {rate : ℕ} {o : TempoOpts} {was : Results} {spare : Spare} {own : Analysis} {after : Results} {left : Spare}
+pub track-told : {number : ℕ} {env : List Float} {rate : ℕ} {o : TempoOpts} {was : Results} {spare : Spare} {own : AnalysisSaid} {after : Results} {left : Spare}
     {lent₀ : TrackLent} {answer : ℕ} {lent : TrackLent}
     → Analysed number env rate o was spare own after left → Handed own.number (track_parts own) lent₀ answer lent
     → TrackTold number env rate o was spare lent₀ answer after left lent
@@ -50,14 +49,14 @@ track-told {number} {env} {rate} {o} p h =
     }
 
 -- of the calls for C, whose options are those of three numbers
-pub envelope_told : {env : List Float} {rate : ℕ} {o o' : TempoOpts} {was : Results} {spare : Spare} {own : Analysis} {after : Results} {left : Spare}
+pub envelope_told : {env : List Float} {rate : ℕ} {o o' : TempoOpts} {was : Results} {spare : Spare} {own : AnalysisSaid} {after : Results} {left : Spare}
     {lent₀ : TrackLent} {answer : ℕ} {lent : TrackLent}
     → o ≡ o' → EnvelopePromise env rate o was spare own after left → Handed own.number (track_parts own) lent₀ answer lent
     → PhEnvelopePromise env rate o' was spare lent₀ answer after left lent
 envelope_told e p h = rw e at (track-told p h)
 
 pub magnitudes-told : {magnitudes : List Float} {slab : Slab} {rate : ℕ} {o o' : TempoOpts} {flux : List Float} {was : Results} {spare : Spare}
-    {own : Analysis} {flux' : List Float}
+    {own : AnalysisSaid} {flux' : List Float}
     {after : Results} {left : Spare} {lent₀ : TrackLent} {answer : ℕ} {lent : TrackLent}
     → o ≡ o' → MagnitudesPromise magnitudes slab rate o flux was spare own flux' after left → Handed own.number (track_parts own) lent₀ answer lent
     → PhMagnitudesPromise magnitudes slab rate o' flux was spare lent₀ answer flux' after left lent

@@ -1,21 +1,25 @@
 -- The C interface to `patch_magnitudes` and `patch_features`.
-use Rattle.std.specs.Prelude.{ℕ, List, length, Float}
+use Rattle.std.specs.Prelude.{ℕ, List, length, Float, Result}
+use Rattle.numbers.specs.declared.Refusal.{Refusal}
 use Rattle.numbers.specs.declared.Slab.{Slab}
 use Rattle.patches.specs.Patches.{Patch}
 use Rattle.patch_magnitudes.specs.Tracks as tracks
 use Rattle.patch_magnitudes.specs.Magnitudes as magnitudes
 use Rattle.patch_features.specs.Features as features
+use Rattle.patch_magnitudes.specs.declared.Patched.{Patched}
+use Rattle.patch_features.specs.declared.PatchedFeatures.{PatchedFeatures}
 use Rattle.capi_answers.specs.Handed.{Handed}
 
 -- ---- magnitudes
 
 -- What `ph_patch_magnitudes` promises, of the number of `patch_magnitudes`: the four lent numbers are the slots named, and the slices are as that
--- call leaves them.
+-- call leaves them with an answer of its own.
 pub record RowsTold
     (number : ℕ) (slab : Slab) (was : tracks.MagnitudeTrack) (patch : Patch) (work : List Float) (lent₀ : List ℕ)
     (answer : ℕ) (now : tracks.MagnitudeTrack) (work' : List Float) (lent : List ℕ) : Type 0 where
   pub handed : Handed number (magnitudes.rows_named slab patch) lent₀ answer lent
-  pub slices : magnitudes.PatchMagnitudesPromise slab was patch work (magnitudes.patch_answered number slab patch) now work'
+  pub own : Result Patched Refusal
+  pub slices : magnitudes.PatchMagnitudesPromise slab was patch work own now work'
 
 abbrev pub PhPatchMagnitudesPromise : (slab : Slab) (was : tracks.MagnitudeTrack) (patch : Patch) (work : List Float) (lent₀ : List ℕ)
     (answer : ℕ) (now : tracks.MagnitudeTrack) (work' : List Float) (lent : List ℕ) → Type 0
@@ -30,7 +34,8 @@ rows_lent magnitudes flux threshold = tracks.magnitude_track magnitudes flux thr
 pub record FeaturesTold
     (number rows : ℕ) (was : features.FeatureTrack) (patch : Patch) (lent₀ : List ℕ) (answer : ℕ) (now : features.FeatureTrack) (lent : List ℕ) : Type 0 where
   pub handed : Handed number (features.features_named rows patch) lent₀ answer lent
-  pub slices : features.PatchFeaturesPromise rows was patch (features.features_answered number rows patch) now
+  pub own : Result PatchedFeatures Refusal
+  pub slices : features.PatchFeaturesPromise rows was patch own now
 
 abbrev pub PhPatchFeaturesPromise : (rows : ℕ) (was : features.FeatureTrack) (patch : Patch) (lent₀ : List ℕ) (answer : ℕ) (now : features.FeatureTrack)
     (lent : List ℕ) → Type 0

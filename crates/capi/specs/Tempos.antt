@@ -2,10 +2,8 @@
 use Rattle.std.specs.Prelude.{ℕ, List, length, Float}
 use Rattle.options.specs.declared.TempoOpts.{TempoOpts}
 use Rattle.lags.specs.Lags.{lag_range}
-use Rattle.tempo.specs.declared.TempoEstimate.{TempoEstimate}
-use Rattle.tempo.specs.Answers.{estimate_of, EstimatePromise}
-use Rattle.stability.specs.declared.Steadiness.{Steadiness}
-use Rattle.stability.specs.Answers.{steadiness_of, StabilityPromise}
+use Rattle.tempo.specs.Answers.{EstimateSaid, estimate_of, EstimatePromise}
+use Rattle.stability.specs.Answers.{Steadiness, steadiness_of, StabilityPromise}
 use Rattle.capi_answers.specs.Handed.{Handed}
 use Rattle.capi_answers.specs.Tempos.{LagsLent, lag_parts, TempoLent, tempo_parts, ShareLent, share_parts}
 
@@ -15,7 +13,7 @@ PhLagRangePromise rate o = Handed (lag_range rate o).number (lag_parts (lag_rang
 
 -- what `ph_estimate` promises, where `estimate` gives the answer `told`: the lent numbers are its parts, and the slices are as that call leaves them
 pub record EstimateTold
-    (told : TempoEstimate) (env : List Float) (onsets rate : ℕ) (o : TempoOpts) (clarity weight work : List Float) (lent₀ : TempoLent)
+    (told : EstimateSaid) (env : List Float) (onsets rate : ℕ) (o : TempoOpts) (clarity weight work : List Float) (lent₀ : TempoLent)
     (answer : ℕ) (clarity' weight' work' : List Float) (lent : TempoLent) : Type 0 where
   pub handed : Handed told.number (tempo_parts told) lent₀ answer lent
   pub slices : EstimatePromise env onsets rate o clarity weight work told clarity' weight' work'

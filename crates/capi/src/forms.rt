@@ -6,13 +6,14 @@ ghost use Rattle.capi_answers.specs.Forms.{sections_lent};
 ghost use Rattle.capi.specs.Forms.{PhBoundariesPromise};
 
 use capi_answers::forms::put_sections;
+use numbers::number_of;
 
 // `similarities::similarity`, for C.
 #[unsafe(no_mangle)]
 pub extern "C" fn ph_similarity(features: &[f64], rows: usize, similarity: &mut [f64]) -> u32
     ensures { SimilarityPromise features.now rows similarity.old result similarity.new }
 {
-    similarities::similarity(features, rows, similarity)
+    number_of(&similarities::similarity(features, rows, similarity))
 }
 
 // `novelties::novelty`, for C.
@@ -20,7 +21,7 @@ pub extern "C" fn ph_similarity(features: &[f64], rows: usize, similarity: &mut 
 pub extern "C" fn ph_novelty(similarity: &[f64], rows: usize, novelty: &mut [f64]) -> u32
     ensures { NoveltyPromise similarity.now rows novelty.old result novelty.new }
 {
-    novelties::novelty(similarity, rows, novelty)
+    number_of(&novelties::novelty(similarity, rows, novelty))
 }
 
 // `sections::boundaries`, for C.
@@ -49,5 +50,5 @@ pub extern "C" fn ph_boundaries(
 pub extern "C" fn ph_boundary_times(rows: &[u32], length: u64, rate: u32, ms: &mut [f64]) -> u32
     ensures { BoundaryTimesPromise rows.now length rate ms.old result ms.new }
 {
-    sections::boundary_times(rows, length, rate, ms)
+    number_of(&sections::boundary_times(rows, length, rate, ms))
 }

@@ -6,6 +6,7 @@ ghost use Rattle.onsets.specs.Onsets.{FrameTimesPromise};
 ghost use Rattle.capi.specs.Lists.{PhOnsetsPromise, PhSuppressionPromise};
 
 use capi_answers::counts::counted;
+use numbers::number_of;
 
 // `flux::spectral_flux`, for C.
 #[unsafe(no_mangle)]
@@ -17,7 +18,7 @@ pub extern "C" fn ph_spectral_flux(
 ) -> u32
     ensures { FluxPromise magnitudes.now (slab_of rows bins) flux.old result flux.new }
 {
-    flux::spectral_flux(magnitudes, rows, bins, flux)
+    number_of(&flux::spectral_flux(magnitudes, rows, bins, flux))
 }
 
 // `threshold::adaptive_threshold`, for C.
@@ -29,7 +30,7 @@ pub extern "C" fn ph_adaptive_threshold(
 ) -> u32
     ensures { ThresholdPromise flux.now threshold.old work.old result threshold.new work.new }
 {
-    threshold::adaptive_threshold(flux, threshold, work)
+    number_of(&threshold::adaptive_threshold(flux, threshold, work))
 }
 
 // `onsets::pick_onsets`, for C.
@@ -70,5 +71,5 @@ pub extern "C" fn ph_suppress_close_peaks(
 pub extern "C" fn ph_frame_times(frames: &[u32], rate: u32, ms: &mut [f64]) -> u32
     ensures { FrameTimesPromise frames.now rate ms.old result ms.new }
 {
-    onsets::frame_times(frames, rate, ms)
+    number_of(&onsets::frame_times(frames, rate, ms))
 }

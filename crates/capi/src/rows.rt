@@ -2,6 +2,8 @@
 ghost use Rattle.feature_places.specs.Places.{feature_grid};
 ghost use Rattle.features.specs.Features.{FeatureRowsPromise};
 
+use numbers::number_of;
+
 // `features::feature_rows`, for C.
 #[unsafe(no_mangle)]
 pub extern "C" fn ph_feature_rows(
@@ -16,5 +18,5 @@ pub extern "C" fn ph_feature_rows(
     ensures { FeatureRowsPromise magnitudes.now rows samples.now (feature_grid rate length count)
         features.old result features.new }
 {
-    features::feature_rows(magnitudes, rows, samples, rate, length, count, features)
+    number_of(&features::feature_rows(magnitudes, rows, samples, rate, length, count, features))
 }

@@ -1,6 +1,6 @@
 -- An answer of `boundaries`, handed over.
 use Rattle.std.specs.Prelude.{ℕ, Float}
-use Rattle.sections.specs.declared.Sections.{Sections}
+use Rattle.sections.specs.Outcomes.{SectionsSaid}
 
 -- the lent numbers of `ph_boundaries`
 pub record SectionsLent : Type 0 where
@@ -12,5 +12,5 @@ abbrev pub sections_lent : (sections count : ℕ) (confidence : Float) → Secti
 sections_lent sections count confidence = record { sections = sections; count = count; confidence = confidence }
 
 -- Inner: what they hold of an answer
-abbrev pub parts_in : Sections → SectionsLent
+abbrev pub parts_in : SectionsSaid → SectionsLent
 parts_in answer = sections_lent answer.sections answer.count answer.confidence

@@ -3,11 +3,11 @@ use Rattle.std.specs.Prelude.{ℕ, List, [], ◌∷◌, get_or, Float}
 use Rattle.std.specs.Float.{nan}
 use Rattle.numbers.specs.Rounded.{nought}
 use Rattle.stability.specs.Answers.{agreeing_in, windows_in}
-use Rattle.lags.specs.declared.LagRange.{LagRange}
+use Rattle.lags.specs.Lags.{LagsSaid}
 use Rattle.tempo.specs.declared.Candidate.{Candidate}
 use Rattle.tempo.specs.declared.Tempo.{Tempo}
 use Rattle.tempo.specs.declared.Tempo.TheVariants.{None, Found}
-use Rattle.tempo.specs.declared.TempoEstimate.{TempoEstimate}
+use Rattle.tempo.specs.Answers.{EstimateSaid}
 use Rattle.stability.specs.declared.Stability as steady
 use Rattle.stability.specs.declared.Stability.TheVariants as steady_case
 
@@ -22,7 +22,7 @@ abbrev pub lags_lent : (min max : ℕ) → LagsLent
 lags_lent min max = record { min = min; max = max }
 
 -- what they hold of an answer
-abbrev pub lag_parts : LagRange → LagsLent
+abbrev pub lag_parts : LagsSaid → LagsLent
 lag_parts range = lags_lent range.min_lag range.max_lag
 
 -- ---- tempo
@@ -66,7 +66,7 @@ tempo_lent found bpm clarity lags saliences count =
     record { found = found; bpm = bpm; clarity = clarity; lags = lags; saliences = saliences; count = count }
 
 -- what they hold of an answer
-abbrev pub tempo_parts : TempoEstimate → TempoLent
+abbrev pub tempo_parts : EstimateSaid → TempoLent
 tempo_parts e =
     tempo_lent (found_in e.tempo) (bpm_in e.tempo) (clarity_in e.tempo) (candidate_lags_of e.candidates) (saliences_of e.candidates) e.count
 

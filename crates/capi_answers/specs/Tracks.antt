@@ -1,7 +1,7 @@
 -- An answer of `room_of`, or of an analysis, handed over.
 use Rattle.std.specs.Prelude.{ℕ, List, Float}
-use Rattle.rooms.specs.declared.Room.{Room}
-use Rattle.track.specs.declared.Analysis.{Analysis}
+use Rattle.rooms.specs.Rooms.{RoomSaid}
+use Rattle.track.specs.Analyses.{AnalysisSaid}
 use Rattle.capi_answers.specs.Tempos.{TempoLent, tempo_lent, found_in, bpm_in, clarity_in, candidate_lags_of, saliences_of, ShareLent, share_lent, share_parts}
 
 -- the lent numbers of `ph_room_of`
@@ -14,7 +14,7 @@ abbrev pub room_lent : (rows lags sorting : ℕ) → RoomLent
 room_lent rows lags sorting = record { rows = rows; lags = lags; sorting = sorting }
 
 -- what they hold of an answer
-abbrev pub room_parts : Room → RoomLent
+abbrev pub room_parts : RoomSaid → RoomLent
 room_parts room = room_lent room.rows room.lags room.sorting
 
 -- the lent numbers of both analyses: those of `ph_estimate` and `ph_stability_of`, and three counts
@@ -37,7 +37,7 @@ track_lent onsets found bpm clarity lags saliences count steady fraction agreein
     }
 
 -- what they hold of an answer
-abbrev pub track_parts : Analysis → TrackLent
+abbrev pub track_parts : AnalysisSaid → TrackLent
 track_parts a =
     record {
       onsets = a.onsets;

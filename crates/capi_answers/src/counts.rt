@@ -1,15 +1,18 @@
 // A listing, handed over: an answer of `pick_onsets`, `suppress_close_peaks`, `beat_grid`, `downbeats`, or of a call that writes or reads a file.
+ghost use Rattle.numbers.specs.Outcomes.{listing};
 ghost use Rattle.capi_answers.specs.Handed.{Handed};
 
-use numbers::Listing;
+use numbers::Refusal;
 
 // Inner: stores the count unless the call refused, and answers its number.
-pub fn counted(listing: Listing, count: &mut usize) -> u32
-    ensures { Handed listing.number listing.count count.old result count.new }
+pub fn counted(answer: Result<usize, Refusal>, count: &mut usize) -> u32
+    ensures { Handed (listing answer).number (listing answer).count count.old result count.new }
 {
-    if listing.number != 0 {
-        return listing.number;
+    match answer {
+        Ok(listed) => {
+            *count = listed;
+            0
+        }
+        Err(refusal) => refusal.number(),
     }
-    *count = listing.count;
-    0
 }

@@ -2,17 +2,17 @@
 ghost use Rattle.median.specs.Answers.{median_says};
 ghost use Rattle.capi_answers.specs.Medians.{ValueHanded};
 
-use median::Answer;
+use numbers::Refusal;
 
 // Inner: stores the value unless the call refused, and answers its number.
-pub fn told(answer: Answer, value: &mut f64) -> u32
+pub fn told(answer: Result<f64, Refusal>, value: &mut f64) -> u32
     ensures { ValueHanded (median_says answer) value.old result value.new }
 {
     match answer {
-        Answer::Value(median) => {
+        Ok(median) => {
             *value = median;
             0
         }
-        Answer::Refused(number) => number,
+        Err(refusal) => refusal.number(),
     }
 }

@@ -4,12 +4,13 @@ ghost use Rattle.patch_magnitudes.specs.Magnitudes.{patched_says};
 ghost use Rattle.patch_features.specs.Features.{patched_features_says};
 ghost use Rattle.capi_answers.specs.Repairs.{SlotsHanded};
 
+use numbers::Refusal;
 use patch_features::PatchedFeatures;
 use patch_magnitudes::Patched;
 
 // Inner: stores the ranges unless the call refused, and answers its number.
 pub fn put_rows(
-    answer: Patched,
+    answer: Result<Patched, Refusal>,
     flux_first: &mut usize,
     flux_past: &mut usize,
     threshold_first: &mut usize,
@@ -20,25 +21,20 @@ pub fn put_rows(
         result (ranges flux_first.new flux_past.new threshold_first.new threshold_past.new) }
 {
     match answer {
-        Patched::Refused(number) => number,
-        Patched::Wrote {
-            flux_first: first,
-            flux_past: past,
-            threshold_first: first_then,
-            threshold_past: past_then,
-        } => {
-            *flux_first = first;
-            *flux_past = past;
-            *threshold_first = first_then;
-            *threshold_past = past_then;
+        Ok(slots) => {
+            *flux_first = slots.flux_first;
+            *flux_past = slots.flux_past;
+            *threshold_first = slots.threshold_first;
+            *threshold_past = slots.threshold_past;
             0
         }
+        Err(refusal) => refusal.number(),
     }
 }
 
 // Inner: stores the ranges unless the call refused, and answers its number.
 pub fn put_features(
-    answer: PatchedFeatures,
+    answer: Result<PatchedFeatures, Refusal>,
     similarity_first: &mut usize,
     similarity_past: &mut usize,
     novelty_first: &mut usize,
@@ -49,18 +45,13 @@ pub fn put_features(
         result (ranges similarity_first.new similarity_past.new novelty_first.new novelty_past.new) }
 {
     match answer {
-        PatchedFeatures::Refused(number) => number,
-        PatchedFeatures::Wrote {
-            similarity_first: first,
-            similarity_past: past,
-            novelty_first: first_then,
-            novelty_past: past_then,
-        } => {
-            *similarity_first = first;
-            *similarity_past = past;
-            *novelty_first = first_then;
-            *novelty_past = past_then;
+        Ok(slots) => {
+            *similarity_first = slots.similarity_first;
+            *similarity_past = slots.similarity_past;
+            *novelty_first = slots.novelty_first;
+            *novelty_past = slots.novelty_past;
             0
         }
+        Err(refusal) => refusal.number(),
     }
 }

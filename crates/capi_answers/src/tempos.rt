@@ -1,5 +1,8 @@
 // An answer of `lag_range`, `estimate` or `stability_of`, handed over.
 ghost use Rattle.std.specs.Prelude.{◌≡◌};
+ghost use Rattle.lags.specs.Lags.{lags_said};
+ghost use Rattle.tempo.specs.Answers.{estimate_said};
+ghost use Rattle.stability.specs.Answers.{steadiness};
 ghost use Rattle.capi_answers.specs.Handed.{Handed};
 ghost use Rattle.capi_answers.specs.Tempos.{
   lags_lent,
@@ -16,20 +19,23 @@ ghost use Rattle.capi_answers.specs.Tempos.{
 };
 
 use lags::LagRange;
-use stability::{Stability, Steadiness};
+use numbers::Refusal;
+use stability::Stability;
 use tempo::{Candidate, Tempo, TempoEstimate};
 
 // Inner: stores the lags unless the call refused, and answers its number.
-pub fn put_range(range: LagRange, min_lag: &mut usize, max_lag: &mut usize) -> u32
-    ensures { Handed range.number (lag_parts range) (lags_lent min_lag.old max_lag.old)
+pub fn put_range(range: Result<LagRange, Refusal>, min_lag: &mut usize, max_lag: &mut usize) -> u32
+    ensures { Handed (lags_said range).number (lag_parts (lags_said range)) (lags_lent min_lag.old max_lag.old)
         result (lags_lent min_lag.new max_lag.new) }
 {
-    if range.number != 0 {
-        return range.number;
+    match range {
+        Ok(lags) => {
+            *min_lag = lags.min_lag;
+            *max_lag = lags.max_lag;
+            0
+        }
+        Err(refusal) => refusal.number(),
     }
-    *min_lag = range.min_lag;
-    *max_lag = range.max_lag;
-    0
 }
 
 // Inner: stores the kind of a tempo, and its values, +0 without one.
@@ -66,7 +72,7 @@ pub fn put_candidates(candidates: [Candidate; 3], lags: &mut [usize; 3], salienc
 
 // Inner: stores the parts of an estimate unless the call refused, and answers its number.
 pub fn put_estimate(
-    answer: TempoEstimate,
+    answer: Result<TempoEstimate, Refusal>,
     found: &mut u32,
     bpm: &mut f64,
     clarity: &mut f64,
@@ -74,19 +80,19 @@ pub fn put_estimate(
     saliences: &mut [f64; 3],
     count: &mut usize,
 ) -> u32
-    ensures { Handed answer.number (tempo_parts answer)
+    ensures { Handed (estimate_said answer).number (tempo_parts (estimate_said answer))
         (tempo_lent found.old bpm.old clarity.old lags.old saliences.old count.old)
         result (tempo_lent found.new bpm.new clarity.new lags.new saliences.new count.new) }
 {
-    if answer.number != 0 {
-        return answer.number;
+    match answer {
+        Ok(estimate) => {
+            put_tempo(estimate.tempo, found, bpm, clarity);
+            put_candidates(estimate.candidates, lags, saliences);
+            *count = estimate.count;
+            0
+        }
+        Err(refusal) => refusal.number(),
     }
-    let tempo = answer.tempo;
-    let candidates = answer.candidates;
-    put_tempo(tempo, found, bpm, clarity);
-    put_candidates(candidates, lags, saliences);
-    *count = answer.count;
-    0
 }
 
 // Inner: stores the kind of a stability, and its values, zeros without one.
@@ -121,20 +127,21 @@ pub fn put_stability(
 
 // Inner: stores the parts of a steadiness unless the call refused, and answers its number.
 pub fn put_steadiness(
-    answer: Steadiness,
+    answer: Result<Stability, Refusal>,
     found: &mut u32,
     fraction: &mut f64,
     agreeing: &mut usize,
     windows: &mut usize,
 ) -> u32
-    ensures { Handed answer.number (share_parts answer.stability)
+    ensures { Handed (steadiness answer).number (share_parts (steadiness answer).stability)
         (share_lent found.old fraction.old agreeing.old windows.old)
         result (share_lent found.new fraction.new agreeing.new windows.new) }
 {
-    if answer.number != 0 {
-        return answer.number;
+    match answer {
+        Ok(stability) => {
+            put_stability(stability, found, fraction, agreeing, windows);
+            0
+        }
+        Err(refusal) => refusal.number(),
     }
-    let stability = answer.stability;
-    put_stability(stability, found, fraction, agreeing, windows);
-    0
 }

@@ -1,33 +1,38 @@
 // An answer of `room_of`, or of an analysis, handed over.
+ghost use Rattle.rooms.specs.Rooms.{room_said};
+ghost use Rattle.track.specs.Analyses.{analysis_said};
 ghost use Rattle.capi_answers.specs.Handed.{Handed};
 ghost use Rattle.capi_answers.specs.Tracks.{room_lent, room_parts, track_lent, track_parts};
 
 use crate::tempos::{put_candidates, put_stability, put_tempo};
+use numbers::Refusal;
 use rooms::Room;
 use track::Analysis;
 
 // Inner: stores the room unless the call refused, and answers its number.
 pub fn put_room(
-    room: Room,
+    room: Result<Room, Refusal>,
     row_slots: &mut usize,
     lag_slots: &mut usize,
     work_slots: &mut usize,
 ) -> u32
-    ensures { Handed room.number (room_parts room) (room_lent row_slots.old lag_slots.old work_slots.old)
+    ensures { Handed (room_said room).number (room_parts (room_said room)) (room_lent row_slots.old lag_slots.old work_slots.old)
         result (room_lent row_slots.new lag_slots.new work_slots.new) }
 {
-    if room.number != 0 {
-        return room.number;
+    match room {
+        Ok(slots) => {
+            *row_slots = slots.rows;
+            *lag_slots = slots.lags;
+            *work_slots = slots.sorting;
+            0
+        }
+        Err(refusal) => refusal.number(),
     }
-    *row_slots = room.rows;
-    *lag_slots = room.lags;
-    *work_slots = room.sorting;
-    0
 }
 
 // Inner: stores the parts of an analysis unless the call refused, and answers its number.
 pub fn put_analysis(
-    answer: Analysis,
+    answer: Result<Analysis, Refusal>,
     onset_count: &mut usize,
     found: &mut u32,
     bpm: &mut f64,
@@ -42,7 +47,7 @@ pub fn put_analysis(
     beat_count: &mut usize,
     downbeat_count: &mut usize,
 ) -> u32
-    ensures { Handed answer.number (track_parts answer)
+    ensures { Handed (analysis_said answer).number (track_parts (analysis_said answer))
         (track_lent onset_count.old found.old bpm.old clarity.old lags.old
         saliences.old count.old steady.old fraction.old agreeing.old windows.old
         beat_count.old downbeat_count.old)
@@ -51,18 +56,17 @@ pub fn put_analysis(
         saliences.new count.new steady.new fraction.new agreeing.new windows.new
         beat_count.new downbeat_count.new) }
 {
-    if answer.number != 0 {
-        return answer.number;
+    match answer {
+        Ok(analysis) => {
+            put_tempo(analysis.tempo, found, bpm, clarity);
+            put_candidates(analysis.candidates, lags, saliences);
+            put_stability(analysis.stability, steady, fraction, agreeing, windows);
+            *onset_count = analysis.onsets;
+            *count = analysis.count;
+            *beat_count = analysis.beats;
+            *downbeat_count = analysis.downbeats;
+            0
+        }
+        Err(refusal) => refusal.number(),
     }
-    let tempo = answer.tempo;
-    let candidates = answer.candidates;
-    let stability = answer.stability;
-    put_tempo(tempo, found, bpm, clarity);
-    put_candidates(candidates, lags, saliences);
-    put_stability(stability, steady, fraction, agreeing, windows);
-    *onset_count = answer.onsets;
-    *count = answer.count;
-    *beat_count = answer.beats;
-    *downbeat_count = answer.downbeats;
-    0
 }

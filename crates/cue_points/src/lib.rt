@@ -84,19 +84,7 @@ fn fields_fine(
     requires { i + 1 < 4294967296 }
     ensures { result ≡ fields_fine i name position id first second offset }
 {
-    if name != i + 1 {
-        return false;
-    }
-    if id != DATA {
-        return false;
-    }
-    if first != 0 {
-        return false;
-    }
-    if second != 0 {
-        return false;
-    }
-    position == offset
+    name == i + 1 && id == DATA && first == 0 && second == 0 && position == offset
 }
 
 // Inner: whether point i, which is within the bytes, is of the form.
@@ -127,13 +115,7 @@ pub fn offset_at(chunk: &[u8], i: u32) -> u32
 pub fn offset_fine(offset: u32) -> bool
     ensures { result ≡ offset_fine offset }
 {
-    if offset < 512 {
-        return false;
-    }
-    if offset % 256 != 0 {
-        return false;
-    }
-    offset <= numbers::MOST_FRAME * 256 + 512
+    512 <= offset && offset % 256 == 0 && offset <= numbers::MOST_FRAME * 256 + 512
 }
 
 // Inner: the frame of point i.
@@ -141,12 +123,7 @@ pub fn frame_at(chunk: &[u8], i: u32) -> u32
     requires { 36 + i * 24 ≤ length chunk.now }
     ensures { (result ≡ point_frame chunk.now i) × (result ≤ 16777213) }
 {
-    let offset = offset_at(chunk, i);
-    if offset < 512 {
-        0
-    } else {
-        (offset - 512) / 256
-    }
+    offset_at(chunk, i).saturating_sub(512) / 256
 }
 
 // Inner: one offset more that is read.

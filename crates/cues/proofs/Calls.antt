@@ -2,7 +2,7 @@
 use mathlib.Core.Path.{◌≡◌, refl, sym, ap, ◌∙◌}
 use mathlib.Core.Bool.{Bool, true, false, ◌&&◌}
 use mathlib.Core.List.{List, [], ◌∷◌, ◌++◌}
-use Prim.Native.Nat.{ℕ, suc, ◌+◌, ◌-◌, ◌*◌, ◌≤◌, ◌<◌}
+use Prim.Native.Nat.{ℕ, suc, ◌+◌, ◌-◌, ◌≤◌, ◌<◌}
 use native.Mathlib.Numerals.{add-one}
 use native.Mathlib.Omega.{arith}
 use lib.Dec.{leb}
@@ -10,7 +10,7 @@ use lib.ListN.{length}
 use borrow.Author.Tests.{le-leb, lt-leb, leb-true}
 use Rattle.numbers.specs.Lists.{every, tab, ascending}
 use Rattle.numbers.specs.Refusals.{Row, too_little_room, first_of}
-use Rattle.numbers.proofs.Tests.{and_left, and_right, and_both}
+use Rattle.numbers.proofs.Tests.{and_left, and_right}
 use Rattle.numbers.proofs.Firsts.{first_refused, first_then, first-zero}
 use Rattle.lists.specs.declared.Reading.{Reading}
 use Rattle.lists.specs.Grids.{grid_rows, unread, read_number}

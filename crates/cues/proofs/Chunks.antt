@@ -1,15 +1,14 @@
 -- What is read is exactly what is written: for any offsets `chunk_fine_lem`, `offsets_own` and `chunk_exact`. Assumes nothing.
 use mathlib.Core.Path.{◌≡◌, refl, sym, ap, ◌∙◌}
-use mathlib.Core.Bool.{true, ◌&&◌}
+use mathlib.Core.Bool.{true}
 use mathlib.Core.List.{List, [], ◌∷◌, ◌++◌, append_assoc, append-nil}
-use Prim.Native.Nat.{ℕ, zero, suc, ◌+◌, ◌-◌, ◌*◌, ◌/◌, ◌%◌, ◌≤◌, ◌<◌}
+use Prim.Native.Nat.{ℕ, zero, suc, ◌+◌, ◌*◌, ◌≤◌, ◌<◌}
 use native.Mathlib.Numerals.{add-one}
 use native.Mathlib.Omega.{arith}
-use lib.Dec.{eqb, leb}
+use lib.Dec.{eqb}
 use lib.ListN.{length, get_or, take, drop, length-append, drop_of_length-le}
 use lib.Seq.{drop-cons, drop-drop, drop-nil, drop-append-add, take-suc, take-length, length-take-le}
-use borrow.Author.Tests.{eq-eqb, eqb-true, le-leb, leb-true, ltb-true, lt-ltb}
-use Rattle.numbers.specs.Limits.{most_frame, frame_fine}
+use borrow.Author.Tests.{eq-eqb, eqb-true, ltb-true}
 use Rattle.numbers.specs.Lists.{every, tab, curve}
 use Rattle.numbers.proofs.Tests.{and_left, and_right, and_both}
 use Rattle.numbers.proofs.Tabs.{tab_ext, curve_of_lem, length-tab}
@@ -17,10 +16,10 @@ use Rattle.numbers.proofs.Everys.{every-at}
 use Rattle.times.specs.Micros.{sample_of}
 use Rattle.words.specs.Words.{word, word_at, byte_fine, word_fine}
 use Rattle.words.proofs.Words.{word_back, word_split, word-within}
-use Rattle.cue_points.specs.Chunks.{data_name, cue_word, data_word, offsets_of, point, points_from, head_of, chunk_of, chunk_length}
-use Rattle.cue_points.specs.Chunks.{count_of, head_fine, point_at, fields_fine, point_fine, all_from, chunk_fine, offset_at, offset_fine, offset_frame}
+use Rattle.cue_points.specs.Chunks.{data_name, cue_word, data_word, offsets_of, point, points_from, head_of, chunk_of}
+use Rattle.cue_points.specs.Chunks.{count_of, head_fine, point_at, fields_fine, point_fine, all_from, chunk_fine, offset_at}
 use Rattle.cues.proofs.Runs.{all-at, all_of}
-use Rattle.cue_points.proofs.Heads.{Head, head_says, head_length, fields_same}
+use Rattle.cue_points.proofs.Heads.{head_says, head_length, fields_same}
 
 -- ---- lengths, and one point more
 

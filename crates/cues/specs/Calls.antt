@@ -4,8 +4,7 @@
 use Rattle.std.specs.Prelude.{ℕ, List, [], ◌∷◌, ◌++◌, leb, length}
 use Rattle.numbers.specs.Lists.{ascending}
 use Rattle.numbers.specs.Refusals.{Row, not_of_this_form, no_listed_frame, not_ascending, too_little_room, first_of}
-use Rattle.numbers.specs.Outcomes.{ListWritten}
-use Rattle.numbers.specs.declared.Listing.{Listing}
+use Rattle.numbers.specs.Outcomes.{Listing, ListWritten}
 use Rattle.lists.specs.Grids.{grid_rows}
 use Rattle.cue_points.specs.Chunks.{cue_bytes, chunk_length, count_of, all_from, chunk_fine, offset_at, offset_fine, chunk_frames}
 

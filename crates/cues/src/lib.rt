@@ -4,72 +4,50 @@
 #![tactic(auto)]
 
 ghost use Rattle.std.specs.Prelude.{◌≡◌, true, ◌+◌, ◌*◌, ◌≤◌, length};
+ghost use Rattle.numbers.specs.Outcomes.{listing};
 ghost use Rattle.numbers.specs.Limits.{most_frame, frame_fine};
 ghost use Rattle.numbers.specs.Lists.{every};
-ghost use Rattle.numbers.specs.Refusals.{first_of};
+ghost use Rattle.numbers.specs.Refusals.{number_of, first_of};
 ghost use Rattle.texts.specs.Texts.{Put};
 ghost use Rattle.cue_points.specs.Chunks.{chunk_length, offsets_of, points_from};
 ghost use Rattle.cues.specs.Calls.{chunk_rows, write_cues_number, read_cues_number, WriteCuesPromise, ReadCuesPromise};
 
 use cue_points::frame_at;
-use numbers::Listing;
+use numbers::Refusal;
 
 // Writes the cue chunk of frames into the first bytes and answers how many they are; later bytes stay.
 // Room: 12 bytes and 24 a frame. Refuses 1 (a frame above 1,048,575), 11 (frames that don't strictly ascend) and 3, and then writes nothing.
-pub fn write_cues(frames: &[u32], chunk: &mut [u8]) -> Listing
-    ensures { WriteCuesPromise frames.now chunk.old result chunk.new }
+pub fn write_cues(frames: &[u32], chunk: &mut [u8]) -> Result<usize, Refusal>
+    ensures { WriteCuesPromise frames.now chunk.old (listing result) chunk.new }
 {
-    let no = write_refusal(frames, chunk.len());
-    if no != 0 {
-        return Listing {
-            number: no,
-            count: 0,
-        };
-    }
+    write_refusal(frames, chunk.len())?;
     cue_points::put_head(chunk, frames.len() as u32);
     put_points(chunk, frames);
-    Listing {
-        number: 0,
-        count: 12 + 24 * frames.len(),
-    }
+    Ok(12 + 24 * frames.len())
 }
 
 // Reads the frames of a cue chunk into the first slots and answers how many they are; later slots stay. Any bytes will do, of any length.
 // Room: one slot a point. Refuses 9 (bytes that are no chunk of this form), 10 (an offset that is no listed frame's), 11 (frames that don't strictly
 // ascend) and 3, and then writes nothing.
-pub fn read_cues(chunk: &[u8], frames: &mut [u32]) -> Listing
-    ensures { ReadCuesPromise chunk.now frames.old result frames.new }
+pub fn read_cues(chunk: &[u8], frames: &mut [u32]) -> Result<usize, Refusal>
+    ensures { ReadCuesPromise chunk.now frames.old (listing result) frames.new }
 {
-    let no = read_refusal(chunk, frames.len());
-    if no != 0 {
-        return Listing {
-            number: no,
-            count: 0,
-        };
-    }
+    read_refusal(chunk, frames.len())?;
     let n = cue_points::point_count(chunk);
-    let mut i: u32 = 0;
-    while i < n {
+    for i in 0..n {
         frames[i as usize] = frame_at(chunk, i);
-        i += 1;
     }
-    Listing {
-        number: 0,
-        count: n as usize,
-    }
+    Ok(n as usize)
 }
 
-fn write_refusal(frames: &[u32], room: usize) -> u32
-    ensures { result ≡ write_cues_number frames.now room }
+fn write_refusal(frames: &[u32], room: usize) -> Result<(), Refusal>
+    ensures { number_of result ≡ write_cues_number frames.now room }
 {
-    let no = lists::grid_refusal(frames);
-    if no != 0 {
-        return no;
-    }
+    lists::grid_refusal(frames)?;
     if 12 + 24 * frames.len() > room {
-        return numbers::TOO_LITTLE_ROOM;
+        return Err(Refusal::TooLittleRoom);
     }
-    0
+    Ok(())
 }
 
 // The points of frames, behind the head.
@@ -82,43 +60,36 @@ fn put_points(out: &mut [u8], frames: &[u32])
         (chunk_length (length frames.now)) out.new }
 {
     let mut at = 12;
-    let mut i = 0;
-    while i < frames.len() {
-        at = cue_points::put_point(out, at, i as u32, frames[i] * 256 + 512);
-        i += 1;
+    for (i, &t) in frames.iter().enumerate() {
+        at = cue_points::put_point(out, at, i as u32, t * 256 + 512);
     }
 }
 
 // Inner: the number of a chunk, whatever is made of it: 9, 10, 11, each of them of the whole chunk. One pass: a point that is not of the form ends it, and an
 // offset that is no listed frame's, or not later than the one before, is kept in mind until the last point.
-pub fn chunk_refusal(chunk: &[u8]) -> u32
-    ensures { result ≡ first_of (chunk_rows chunk.now) }
+pub fn chunk_refusal(chunk: &[u8]) -> Result<(), Refusal>
+    ensures { number_of result ≡ first_of (chunk_rows chunk.now) }
 {
     if !cue_points::head_fine(chunk) {
-        return numbers::NOT_OF_THIS_FORM;
+        return Err(Refusal::NotOfThisForm);
     }
     let n = cue_points::point_count(chunk);
     let mut j = lists::unread();
-    let mut i: u32 = 0;
-    while i < n {
+    for i in 0..n {
         if !cue_points::point_fine(chunk, i) {
-            return numbers::NOT_OF_THIS_FORM;
+            return Err(Refusal::NotOfThisForm);
         }
         j = cue_points::read_offset(j, cue_points::offset_at(chunk, i));
-        i += 1;
     }
     lists::read_refusal(j)
 }
 
-fn read_refusal(chunk: &[u8], room: usize) -> u32
-    ensures { result ≡ read_cues_number chunk.now room }
+fn read_refusal(chunk: &[u8], room: usize) -> Result<(), Refusal>
+    ensures { number_of result ≡ read_cues_number chunk.now room }
 {
-    let no = chunk_refusal(chunk);
-    if no != 0 {
-        return no;
-    }
+    chunk_refusal(chunk)?;
     if cue_points::point_count(chunk) as usize > room {
-        return numbers::TOO_LITTLE_ROOM;
+        return Err(Refusal::TooLittleRoom);
     }
-    0
+    Ok(())
 }

@@ -64,11 +64,9 @@ pub fn fill_codes(rate: u32, codes: &mut [u32; 2049])
     requires { length codes.old ≡ bin_count }
     ensures { Codes rate codes.new }
 {
-    let mut k = 0;
-    while k < BINS {
+    for k in 0..BINS {
         let hz = bin_hz(rate, k as u32);
         codes[k] = class_slot(hz) * 4 + band_of(hz);
-        k += 1;
     }
 }
 
@@ -89,10 +87,8 @@ pub fn fill_pasts(codes: &[u32; 2049], pasts: &mut [u32; 2049])
     requires { (length codes.now ≡ bin_count) × (length pasts.old ≡ bin_count) }
     ensures { Pasts codes.now 0 pasts.new }
 {
-    let mut k = BINS - 1;
-    pasts[k] = 2049;
-    while k > 0 {
-        k -= 1;
+    pasts[BINS - 1] = 2049;
+    for k in (0..BINS - 1).rev() {
         pasts[k] = past_at(codes, pasts, k);
     }
 }

@@ -56,8 +56,7 @@ fn add_stretch(
 {
     let mut class = classes;
     let mut band = bands;
-    let mut k = from;
-    while k < past {
+    for k in from..past {
         let x = wide(a, k);
         let y = wide(b, k);
         let z = wide(c, k);
@@ -74,7 +73,6 @@ fn add_stretch(
             c: band.c + z * z,
             d: band.d + w * w,
         };
-        k += 1;
     }
     Pair { class, band }
 }
@@ -128,6 +126,7 @@ pub fn add_row(
         classes.old bands.old classes.new bands.new }
 {
     let mut k = 0;
+    // Kept as a while: a stretch is as long as the table says.
     while k < BINS {
         let past = place(pasts[k]);
         let class = place(codes[k]) / 4 * 4;

@@ -14,7 +14,6 @@ ghost use Rattle.feature_levels.specs.Levels.{sample_fine, rms_at};
 
 use flux_rows::Four;
 use lists::float_of;
-use numbers::least;
 use roots::sqrt;
 
 fn wide(s: &[f32], i: usize) -> f64
@@ -30,11 +29,9 @@ fn squares(s: &[f32]) -> f64
     ensures { result ≡ sum_of (map squared s.now) }
 {
     let mut sum = 0.0;
-    let mut i = 0;
-    while i < s.len() {
+    for i in 0..s.len() {
         let x = wide(s, i);
         sum = sum + x * x;
-        i += 1;
     }
     sum
 }
@@ -57,8 +54,7 @@ fn squares_four(a: &[f32], b: &[f32], c: &[f32], d: &[f32]) -> Four
         c: 0.0,
         d: 0.0,
     };
-    let mut i = 0;
-    while i < a.len() {
+    for i in 0..a.len() {
         let x = wide(a, i);
         let y = wide(b, i);
         let z = wide(c, i);
@@ -69,7 +65,6 @@ fn squares_four(a: &[f32], b: &[f32], c: &[f32], d: &[f32]) -> Four
             c: sums.c + z * z,
             d: sums.d + w * w,
         };
-        i += 1;
     }
     sums
 }
@@ -107,8 +102,8 @@ fn part(samples: &[f32], size: usize, i: usize) -> &[f32]
     ensures { result.now ≡ row samples.now size i }
 {
     let n = samples.len();
-    let from = least(i * size, n);
-    let end = least(from + size, n);
+    let from = (i * size).min(n);
+    let end = (from + size).min(n);
     &samples[from..end]
 }
 

@@ -33,10 +33,8 @@ fn greatest_class(classes: &[f64], lane: usize) -> f64
     ensures { result ≡ greatest_of (curve (lane_sum classes.now lane) class_count) }
 {
     let mut top = 0.0;
-    let mut p = 0;
-    while p < 12 {
+    for p in 0..12 {
         top = higher(top, classes[p * 4 + lane]);
-        p += 1;
     }
     top
 }
@@ -87,10 +85,8 @@ fn put_row(classes: &[f64], bands: &[f64], lane: usize, rms: f64, i: usize, feat
     let top = greatest_class(classes, lane);
     let total = band_total(bands, lane);
     let from = i * FEATURE_WIDTH;
-    let mut j = 0;
-    while j < FEATURE_WIDTH {
+    for j in 0..FEATURE_WIDTH {
         features[from + j] = value_at(classes, bands, lane, rms, top, total, j);
-        j += 1;
     }
 }
 

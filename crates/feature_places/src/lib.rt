@@ -36,7 +36,7 @@ pub fn place_of(grid: FeatureGrid, t: usize) -> usize
     ensures { result ≡ feature_row_of grid t }
 {
     let place = whole_of(centre_ms(grid.rate, t) / frame_ms(grid.length, grid.rate)) as usize;
-    numbers::least(place, numbers::less(grid.count, 1))
+    place.min(grid.count.saturating_sub(1))
 }
 
 // Inner: the first row from t on that belongs to a feature row after i, or the row count.
@@ -47,12 +47,10 @@ pub fn past_of(grid: FeatureGrid, rows: usize, t: usize, i: usize) -> usize
         × ((u : ℕ) → t ≤ u → u < result → feature_row_of grid u ≤ i)
         × (result < rows → i < feature_row_of grid result) }
 {
-    let mut u = t;
-    while u < rows {
+    for u in t..rows {
         if place_of(grid, u) > i {
             return u;
         }
-        u += 1;
     }
     rows
 }

@@ -1,9 +1,10 @@
-// The number that feature rows are refused with.
+// Which feature rows are refused, and why.
 //
 // Document 02, No. 7. Inner calls: no caller of the library needs them.
 #![tactic(auto)]
 
 ghost use Rattle.std.specs.Prelude.{◌≡◌, ◌<◌};
+ghost use Rattle.numbers.specs.Refusals.{number_of};
 ghost use Rattle.floats.specs.Wholes.{ceiling_over};
 ghost use Rattle.feature_refusal.specs.Refusal.{feature_bounds, features_number};
 
@@ -11,34 +12,34 @@ use feature_bins::BINS;
 use feature_places::FeatureGrid;
 use feature_samples::samples_fine;
 use feature_values::strengths_fine;
-use numbers::FEATURE_WIDTH;
+use numbers::{FEATURE_WIDTH, Refusal};
 
-// Inner: the number.
-pub fn features_number(
+// Inner: what the call refuses.
+pub fn refusal(
     magnitudes: &[f32],
     rows: usize,
     samples: &[f32],
     grid: FeatureGrid,
     room: usize,
-) -> u32
-    ensures { result ≡ features_number magnitudes.now rows samples.now grid room }
+) -> Result<(), Refusal>
+    ensures { number_of result ≡ features_number magnitudes.now rows samples.now grid room }
 {
     if !bounds_fine(rows, samples.len(), grid) {
-        return numbers::OUT_OF_BOUNDS;
+        return Err(Refusal::OutOfBounds);
     }
     if magnitudes.len() != rows * BINS {
-        return numbers::WRONG_LENGTH;
+        return Err(Refusal::WrongLength);
     }
     if room < grid.count * FEATURE_WIDTH {
-        return numbers::TOO_LITTLE_ROOM;
+        return Err(Refusal::TooLittleRoom);
     }
     if !strengths_fine(magnitudes) {
-        return numbers::WRONG_VALUE;
+        return Err(Refusal::WrongValue);
     }
     if samples_fine(samples) {
-        return 0;
+        return Ok(());
     }
-    numbers::WRONG_VALUE
+    Err(Refusal::WrongValue)
 }
 
 // Samples over length, rounded up.

@@ -13,7 +13,6 @@ ghost use Rattle.feature_sums.specs.Lanes.{row_of_lane, ZeroRow, NoSums, FourSum
 
 use feature_bins::BINS;
 use feature_lanes::add_row;
-use numbers::greatest;
 
 // Row t, or the zeros from row `past` on.
 fn lane_row<'a>(
@@ -39,9 +38,9 @@ fn most_rows(p0: usize, p1: usize, p2: usize, p3: usize, p4: usize) -> usize
     requires { (p0 ≤ p1) × (p1 ≤ p2) × (p2 ≤ p3) × (p3 ≤ p4) }
     ensures { (p1 ≤ p0 + result) × (p2 ≤ p1 + result) × (p3 ≤ p2 + result) × (p4 ≤ p3 + result) × (result ≤ p4) }
 {
-    let first = greatest(p1 - p0, p2 - p1);
-    let last = greatest(p3 - p2, p4 - p3);
-    greatest(first, last)
+    let first = (p1 - p0).max(p2 - p1);
+    let last = (p3 - p2).max(p4 - p3);
+    first.max(last)
 }
 
 // Inner: adds the rows from p0 up to, not including, p1 to the first lane's sums, those up to p2 to the second's, and so on.
@@ -66,13 +65,11 @@ pub fn add_rows<'a>(
     ensures { FourSums codes.now magnitudes.now p0 p1 p2 p3 p4 classes.new bands.new }
 {
     let most = most_rows(p0, p1, p2, p3, p4);
-    let mut r = 0;
-    while r < most {
+    for r in 0..most {
         let a = lane_row(magnitudes, zeros, rows, p0 + r, p1);
         let b = lane_row(magnitudes, zeros, rows, p1 + r, p2);
         let c = lane_row(magnitudes, zeros, rows, p2 + r, p3);
         let d = lane_row(magnitudes, zeros, rows, p3 + r, p4);
         add_row(a, b, c, d, codes, pasts, classes, bands);
-        r += 1;
     }
 }

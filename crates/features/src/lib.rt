@@ -5,6 +5,7 @@
 #![tactic(auto)]
 
 ghost use Rattle.std.specs.Prelude.{◌≡◌, ◌+◌, ◌*◌, ◌<◌, min, length};
+ghost use Rattle.numbers.specs.Refusals.{number_of};
 ghost use Rattle.numbers.specs.Limits.{feature_width};
 ghost use Rattle.numbers.specs.Lists.{filled};
 ghost use Rattle.feature_bins.specs.Bins.{bin_count, Codes};
@@ -18,8 +19,9 @@ use feature_bins::{fill_codes, fill_pasts};
 use feature_levels::levels_of;
 use feature_parts::put_lanes;
 use feature_places::{FeatureGrid, past_of};
-use feature_refusal::features_number;
+use feature_refusal::refusal;
 use feature_sums::add_rows;
+use numbers::Refusal;
 
 // Writes features[0..16 * count]: sixteen values for each feature row, twelve pitch classes over the greatest of them, three band fractions, and the RMS of its
 // samples; later slots stay. `magnitudes` are `rows` rows of 2,049 bins, of a transform of 4,096 samples every 1,024; a feature row has `length` samples,
@@ -35,25 +37,22 @@ pub fn feature_rows(
     length: u64,
     count: usize,
     features: &mut [f64],
-) -> u32
+) -> Result<(), Refusal>
     ensures { FeatureRowsPromise magnitudes.now rows samples.now (feature_grid rate length count)
-        features.old result features.new }
+        features.old (number_of result) features.new }
 {
     let grid = FeatureGrid {
         rate,
         length,
         count,
     };
-    let number = features_number(magnitudes, rows, samples, grid, features.len());
-    if number != 0 {
-        return number;
-    }
+    refusal(magnitudes, rows, samples, grid, features.len())?;
     let mut codes = [0u32; 2049];
     let mut pasts = [0u32; 2049];
     fill_codes(rate, &mut codes);
     fill_pasts(&codes, &mut pasts);
     fill_features(magnitudes, rows, samples, grid, &codes, &pasts, features);
-    0
+    Ok(())
 }
 
 // Writes four feature rows, i to i + 3, those of them that there are: row t is the first of the transform's that belongs to them or to later ones. Answers the
@@ -122,6 +121,7 @@ fn fill_features(
     let zeros = [0.0f32; 2049];
     let mut t = 0;
     let mut i = 0;
+    // Kept as a while: step_by's loop has a second end, where its count would overflow, to be proved again.
     while i < grid.count {
         t = fill_group(
             magnitudes, &zeros, rows, samples, grid, codes, pasts, t, i, features,

@@ -7,43 +7,46 @@
 
 ghost use Rattle.std.specs.Prelude.{◌≡◌, true, ◌+◌, ◌*◌, ◌≤◌, ◌<◌, length, set};
 ghost use Rattle.numbers.specs.Limits.{magnitude_fine, slab_of, slab_slots};
+ghost use Rattle.numbers.specs.Refusals.{number_of};
 ghost use Rattle.numbers.specs.Lists.{filled, every};
 ghost use Rattle.flux.specs.Flux.{flux_at, flux_refusal, FluxPromise};
 
 use flux_rows::{Four, PART, part_room, rise_at, rise_part, rise_rest};
-use numbers::Slab;
+use numbers::{Refusal, Slab};
 
 // Writes flux[0..rows], the onset strength of each row of magnitudes; slots past them stay. Room: rows slots.
 // Refuses: 1 rows above 1,048,576 or bins outside 1 to 4,096; 2 magnitudes that aren't rows times bins; 3 flux shorter than rows;
 // 4 a magnitude that isn't finite or is of size above 2^126. A refusal writes nothing.
-pub fn spectral_flux(magnitudes: &[f32], rows: usize, bins: usize, flux: &mut [f64]) -> u32
-    ensures { FluxPromise magnitudes.now (slab_of rows bins) flux.old result flux.new }
+pub fn spectral_flux(
+    magnitudes: &[f32],
+    rows: usize,
+    bins: usize,
+    flux: &mut [f64],
+) -> Result<(), Refusal>
+    ensures { FluxPromise magnitudes.now (slab_of rows bins) flux.old (number_of result) flux.new }
 {
     let slab = Slab { rows, bins };
-    let number = refusal(magnitudes, slab, flux.len());
-    if number != 0 {
-        return number;
-    }
+    refusal(magnitudes, slab, flux.len())?;
     fill_flux(magnitudes, slab, 0, rows, flux);
-    0
+    Ok(())
 }
 
-fn refusal(magnitudes: &[f32], slab: Slab, room: usize) -> u32
-    ensures { result ≡ flux_refusal magnitudes.now slab room }
+fn refusal(magnitudes: &[f32], slab: Slab, room: usize) -> Result<(), Refusal>
+    ensures { number_of result ≡ flux_refusal magnitudes.now slab room }
 {
     if !numbers::slab_fine(slab) {
-        return numbers::OUT_OF_BOUNDS;
+        return Err(Refusal::OutOfBounds);
     }
     if !numbers::slab_whole(slab, magnitudes.len()) {
-        return numbers::WRONG_LENGTH;
+        return Err(Refusal::WrongLength);
     }
     if room < slab.rows {
-        return numbers::TOO_LITTLE_ROOM;
+        return Err(Refusal::TooLittleRoom);
     }
     if numbers::magnitudes_fine(magnitudes) {
-        return 0;
+        return Ok(());
     }
-    numbers::WRONG_VALUE
+    Err(Refusal::WrongValue)
 }
 
 // Inner: writes slots from `from` up to, not including, `past` of the flux curve, for callers that have looked at the slab.
@@ -72,15 +75,13 @@ fn fill_four(magnitudes: &[f32], slab: Slab, from: usize, past: usize, out: &mut
     ensures { out.new ≡ filled (flux_at magnitudes.now slab) out.old from past }
 {
     let quarter = (past - from) / 4;
-    let mut k = 0;
-    while k < quarter {
+    for k in 0..quarter {
         put_four(
             out,
             from + k,
             quarter,
             flux_four(magnitudes, slab, from + k, quarter),
         );
-        k += 1;
     }
     fill_each(magnitudes, slab, from + 4 * quarter, past, out);
 }
@@ -91,10 +92,8 @@ fn fill_each(magnitudes: &[f32], slab: Slab, from: usize, past: usize, out: &mut
     requires from_le_past { (from ≤ past) × (past ≤ slab.rows) × (past ≤ length out.old) }
     ensures { out.new ≡ filled (flux_at magnitudes.now slab) out.old from past }
 {
-    let mut t = from;
-    while t < past {
+    for t in from..past {
         out[t] = flux_slot(magnitudes, slab, t);
-        t += 1;
     }
 }
 
@@ -132,6 +131,7 @@ fn flux_four(magnitudes: &[f32], slab: Slab, t: usize, apart: usize) -> Four
         d: 0.0,
     };
     let mut i = 0;
+    // Kept as a while: the place behind the last whole part is used below.
     while PART <= slab.bins - i {
         f = rise_part(
             f, magnitudes, slab, t, apart, i, &mut a, &mut b, &mut c, &mut d,

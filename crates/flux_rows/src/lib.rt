@@ -106,10 +106,8 @@ fn rise(prev: &[f32], cur: &[f32], from: usize, sum: f64) -> f64
     ensures { result ≡ sum_from sum (rises (drop from prev.now) (drop from cur.now)) }
 {
     let mut total = sum;
-    let mut i = from;
-    while i < prev.len() {
+    for i in from..prev.len() {
         total = total + positive_part(wide(cur, i) - wide(prev, i));
-        i += 1;
     }
     total
 }
@@ -134,10 +132,8 @@ fn lift(prev: &[f32], cur: &[f32], from: usize, part: &mut [f64])
     requires part_in_bounds { from + length part.old ≤ length prev.now }
     ensures { part.new ≡ tab (rise_at prev.now cur.now) from (length part.old) }
 {
-    let mut k = 0;
-    while k < part.len() {
+    for k in 0..part.len() {
         part[k] = positive_part(wide(cur, from + k) - wide(prev, from + k));
-        k += 1;
     }
 }
 
@@ -150,15 +146,13 @@ fn add_parts(f: Four, a: &[f64], b: &[f64], c: &[f64], d: &[f64]) -> Four
         × (result.d ≡ sum_from f.d d.now) }
 {
     let mut sums = f;
-    let mut k = 0;
-    while k < a.len() {
+    for k in 0..a.len() {
         sums = Four {
             a: sums.a + a[k],
             b: sums.b + b[k],
             c: sums.c + c[k],
             d: sums.d + d[k],
         };
-        k += 1;
     }
     sums
 }

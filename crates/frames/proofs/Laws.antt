@@ -1,7 +1,7 @@
 -- Where row t begins and what it holds, whole or past the last whole row.
 use mathlib.Core.Path.{◌≡◌, refl, sym, ◌∙◌, ap}
 use mathlib.Core.Bool.{Bool, true, false, ◌&&◌, not}
-use mathlib.Core.List.{List, []}
+use mathlib.Core.List.{List}
 use Prim.Native.Nat.{ℕ, zero, suc, ◌+◌, ◌*◌, ◌/◌, ◌-◌, ◌<◌, ◌≤◌}
 use native.Mathlib.Nat.{le-div_iff_mul-le, suc-mul, sub_self, add-sub_cancel_left, mul-div_cancel}
 use native.Mathlib.Omega.{arith}
@@ -10,7 +10,6 @@ use lib.ListN.{length, take, drop}
 use lib.Seq.{drop-length}
 use lib.Ieee.{Float}
 use borrow.Author.Tests.{lt-ltb, le-ltb, eq-eqb, ne_eqb}
-use Rattle.numbers.specs.Rounded.{pick}
 use Rattle.numbers.specs.Lists.{row}
 use denote.Ref.{Bor}
 use Rattle.frames.specs.Frames.{is_whole, row_start, row_of, RowOf}

@@ -4,11 +4,10 @@ use mathlib.Core.Path.{◌≡◌, refl, sym, ap, ◌∙◌}
 use mathlib.Core.Bool.{Bool, true, false, ◌&&◌, beq}
 use mathlib.Core.List.{List, [], ◌∷◌}
 use mathlib.Core.Logic.{⊎_elim}
-use Prim.Native.Nat.{ℕ, ◌+◌, ◌-◌, ◌*◌, ◌≤◌, ◌<◌, min, max}
+use Prim.Native.Nat.{ℕ, ◌+◌, ◌*◌, ◌≤◌, ◌<◌, min, max}
 use native.Mathlib.Nat.{add_comm, le_of_lt, min-eq_left, min-eq_right, max-eq_left, max-eq_right}
 use native.Mathlib.Omega.{arith}
 use lib.ListN.{get_or}
-use lib.Dec.{T}
 use lib.Ieee.{Float, nan, of_bits, to_bits, of_int, to_unsigned, add, sub, mul, div, neg, le, lt, ne, sum, round, units, size, span, climb, odd, of_fields}
 use Rattle.numbers.specs.Rounded.{◌⊗◌, bits, pick, one}
 use Rattle.numbers.specs.Limits.{similarity_fine}

@@ -7,7 +7,7 @@ use native.Mathlib.Numerals.{add-one}
 use lib.Dec.{leb}
 use lib.ListN.{length, get_or, drop}
 use lib.Seq.{drop-cons}
-use borrow.Author.Tests.{le-leb, lt-leb, leb-true}
+use borrow.Author.Tests.{le-leb, lt-leb}
 use Rattle.numbers.specs.Limits.{rate_fine}
 use Rattle.numbers.specs.Lists.{every, ascending}
 use Rattle.numbers.specs.Refusals.{Row, too_little_room, first_of}

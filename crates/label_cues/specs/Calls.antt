@@ -3,8 +3,7 @@
 use Rattle.std.specs.Prelude.{ℕ, List, [], ◌∷◌, ◌++◌, leb, length}
 use Rattle.numbers.specs.Limits.{rate_fine}
 use Rattle.numbers.specs.Refusals.{Row, out_of_bounds, too_little_room, first_of}
-use Rattle.numbers.specs.Outcomes.{ListWritten}
-use Rattle.numbers.specs.declared.Listing.{Listing}
+use Rattle.numbers.specs.Outcomes.{Listing, ListWritten}
 use Rattle.cue_points.specs.Chunks.{cue_bytes, chunk_length, chunk_frames}
 use Rattle.cues.specs.Calls.{chunk_rows}
 use Rattle.label_tracks.specs.Tracks.{label_bytes, text_frames, text_rows}

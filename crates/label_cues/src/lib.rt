@@ -4,6 +4,7 @@
 #![tactic(auto)]
 
 ghost use Rattle.std.specs.Prelude.{◌≡◌, true, ◌+◌, ◌≤◌, length};
+ghost use Rattle.numbers.specs.Outcomes.{listing};
 ghost use Rattle.numbers.specs.Limits.{most_frame, rate_fine};
 ghost use Rattle.numbers.specs.Lists.{every, listed};
 ghost use Rattle.numbers.specs.Refusals.{first_of};
@@ -17,66 +18,38 @@ ghost use Rattle.label_cues.specs.Calls.{rated_rows, LabelsToCuesPromise, CuesTo
 
 use label_lines::line_end;
 use label_tracks::frame_at;
-use numbers::Listing;
+use numbers::Refusal;
 
 // Writes the cue chunk of a label track's frames into the first bytes and answers how many they are; later bytes stay. Any bytes will do as the track, of
 // any length; no labels give a chunk of count 0.
 // Room: 12 bytes and 24 a label. Refuses 1 (a rate outside 1 to 192,000), 9 (a line that is not of this form), 10 (a time that is no listed frame's),
 // 11 (frames that don't strictly ascend) and 3, and then writes nothing.
-pub fn labels_to_cues(text: &[u8], rate: u32, chunk: &mut [u8]) -> Listing
-    ensures { LabelsToCuesPromise text.now rate chunk.old result chunk.new }
+pub fn labels_to_cues(text: &[u8], rate: u32, chunk: &mut [u8]) -> Result<usize, Refusal>
+    ensures { LabelsToCuesPromise text.now rate chunk.old (listing result) chunk.new }
 {
-    let judged = label_tracks::text_judged(text, rate);
-    let no = judged.number;
-    if no != 0 {
-        return Listing {
-            number: no,
-            count: 0,
-        };
-    }
-    let n = judged.count;
+    let n = label_tracks::text_judged(text, rate)?;
     let bytes = 12 + 24 * n;
     if bytes > chunk.len() {
-        return Listing {
-            number: numbers::TOO_LITTLE_ROOM,
-            count: 0,
-        };
+        return Err(Refusal::TooLittleRoom);
     }
     cue_points::put_head(chunk, n as u32);
     put_points(chunk, text, rate);
-    Listing {
-        number: 0,
-        count: bytes,
-    }
+    Ok(bytes)
 }
 
 // Writes the label track of a cue chunk's frames into the first bytes and answers how many they are; later bytes stay. Any bytes will do as the chunk, of
 // any length; a chunk of count 0 gives no labels.
 // Room: 2d + 21 bytes a point whose time has d digits of seconds, at most 39. Refuses 1 (a rate outside 1 to 192,000), 9 (bytes that are no chunk of this
 // form), 10 (an offset that is no listed frame's), 11 (frames that don't strictly ascend) and 3, and then writes nothing.
-pub fn cues_to_labels(chunk: &[u8], rate: u32, text: &mut [u8]) -> Listing
-    ensures { CuesToLabelsPromise chunk.now rate text.old result text.new }
+pub fn cues_to_labels(chunk: &[u8], rate: u32, text: &mut [u8]) -> Result<usize, Refusal>
+    ensures { CuesToLabelsPromise chunk.now rate text.old (listing result) text.new }
 {
-    let judged = chunk_judged(chunk, rate);
-    let no = judged.number;
-    if no != 0 {
-        return Listing {
-            number: no,
-            count: 0,
-        };
-    }
-    let bytes = judged.count;
+    let bytes = chunk_judged(chunk, rate)?;
     if bytes > text.len() {
-        return Listing {
-            number: numbers::TOO_LITTLE_ROOM,
-            count: 0,
-        };
+        return Err(Refusal::TooLittleRoom);
     }
     put_lines(text, chunk, rate);
-    Listing {
-        number: 0,
-        count: bytes,
-    }
+    Ok(bytes)
 }
 
 // The points of a track's lines, behind the head.
@@ -93,6 +66,7 @@ fn put_points(out: &mut [u8], text: &[u8], rate: u32)
     let mut end = 12;
     let mut i: u32 = 0;
     let mut at = 0;
+    // Kept as a while: a line ends where its digits say.
     while at < text.len() {
         let t = frame_at(text, at, rate);
         end = cue_points::put_point(out, end, i, t * 256 + 512);
@@ -102,50 +76,30 @@ fn put_points(out: &mut [u8], text: &[u8], rate: u32)
 }
 
 // The number of a chunk at a rate, 1, 9, 10, 11, and how many bytes the lines of its frames have. One pass, as in `cues::chunk_refusal`.
-fn chunk_judged(chunk: &[u8], rate: u32) -> Listing
+fn chunk_judged(chunk: &[u8], rate: u32) -> Result<usize, Refusal>
     ensures { Counted
         (first_of (rated_rows chunk.now rate)) (length (label_bytes rate (chunk_frames chunk.now)))
-        result }
+        (listing result) }
 {
     if !numbers::rate_fine(rate) {
-        return Listing {
-            number: numbers::OUT_OF_BOUNDS,
-            count: 0,
-        };
+        return Err(Refusal::OutOfBounds);
     }
     if !cue_points::head_fine(chunk) {
-        return Listing {
-            number: numbers::NOT_OF_THIS_FORM,
-            count: 0,
-        };
+        return Err(Refusal::NotOfThisForm);
     }
     let n = cue_points::point_count(chunk);
     let mut j = lists::unread();
     let mut total: usize = 0;
-    let mut i: u32 = 0;
-    while i < n {
+    for i in 0..n {
         if !cue_points::point_fine(chunk, i) {
-            return Listing {
-                number: numbers::NOT_OF_THIS_FORM,
-                count: 0,
-            };
+            return Err(Refusal::NotOfThisForm);
         }
         j = cue_points::read_offset(j, cue_points::offset_at(chunk, i));
         let u = times::microseconds(cue_points::frame_at(chunk, i), rate);
         total += label_lines::line_length(u);
-        i += 1;
     }
-    let no = lists::read_refusal(j);
-    if no != 0 {
-        return Listing {
-            number: no,
-            count: 0,
-        };
-    }
-    Listing {
-        number: 0,
-        count: total,
-    }
+    lists::read_refusal(j)?;
+    Ok(total)
 }
 
 // The lines of a chunk's frames.
@@ -157,10 +111,8 @@ fn put_lines(out: &mut [u8], chunk: &[u8], rate: u32)
 {
     let n = cue_points::point_count(chunk);
     let mut at = 0;
-    let mut i: u32 = 0;
-    while i < n {
+    for i in 0..n {
         let u = times::microseconds(cue_points::frame_at(chunk, i), rate);
         at = label_lines::put_line(out, at, u);
-        i += 1;
     }
 }

@@ -72,5 +72,5 @@ pub fn time_at(text: &[u8], at: usize) -> u64
     let seconds = texts::number_at(text, at, PAST_SECONDS);
     let fraction = texts::number_at(text, dot + 1, PAST_SECONDS);
     let u = seconds * 1_000_000 + fraction;
-    if u < PAST_TIMES { u } else { PAST_TIMES }
+    u.min(PAST_TIMES)
 }

@@ -52,6 +52,7 @@ fn decimal_length(n: u64) -> usize
 {
     let mut m = n;
     let mut k: usize = 1;
+    // Kept as a while: it ends by the value, digit by digit.
     while m >= 10 {
         m = m / 10;
         k += 1;

@@ -17,11 +17,8 @@ pub fn frame_for(u: u64, rate: u32) -> u64
     ensures { result ≡ frame_for u rate }
 {
     let x = u * ((rate as u64) * 2);
-    let base = 1024000000 + (rate as u64);
-    if x < base {
-        return 0;
-    }
-    (x - base + 511999999) / 512000000
+    let base = 1_024_000_000 + (rate as u64);
+    x.saturating_sub(base).div_ceil(512_000_000)
 }
 
 // Inner: whether a time is that of a listed frame.

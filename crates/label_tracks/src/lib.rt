@@ -4,6 +4,7 @@
 #![tactic(auto)]
 
 ghost use Rattle.std.specs.Prelude.{◌≡◌, true, ◌≤◌, length, drop};
+ghost use Rattle.numbers.specs.Outcomes.{listing};
 ghost use Rattle.numbers.specs.Limits.{rate_fine, most_frame};
 ghost use Rattle.numbers.specs.Refusals.{first_of};
 ghost use Rattle.lists.specs.Grids.{Counted};
@@ -12,7 +13,7 @@ ghost use Rattle.label_lines.specs.Lines.{line_fine, time_of};
 ghost use Rattle.label_tracks.specs.Tracks.{text_times, text_rows};
 
 use label_lines::{line_end, time_at};
-use numbers::Listing;
+use numbers::Refusal;
 
 // Inner: the frame of the line that stands from `at` on, whose time is a listed frame's.
 pub fn frame_at(text: &[u8], at: usize, rate: u32) -> u32
@@ -26,38 +27,24 @@ pub fn frame_at(text: &[u8], at: usize, rate: u32) -> u32
 
 // Inner: the number of a text at a rate, whatever is made of it, and how many lines it has: 1, 9, 10, 11, each of them of the whole text. One pass: a line
 // that is not of the form ends it, and a time that is no listed frame's, or not later than the one before, is kept in mind until the last line.
-pub fn text_judged(text: &[u8], rate: u32) -> Listing
-    ensures { Counted (first_of (text_rows rate text.now)) (length (text_times text.now)) result }
+pub fn text_judged(text: &[u8], rate: u32) -> Result<usize, Refusal>
+    ensures { Counted (first_of (text_rows rate text.now)) (length (text_times text.now)) (listing result) }
 {
     if !numbers::rate_fine(rate) {
-        return Listing {
-            number: numbers::OUT_OF_BOUNDS,
-            count: 0,
-        };
+        return Err(Refusal::OutOfBounds);
     }
     let mut j = lists::unread();
     let mut n: usize = 0;
     let mut at = 0;
+    // Kept as a while: a line ends where its digits say.
     while at < text.len() {
         if !label_lines::line_fine(text, at) {
-            return Listing {
-                number: numbers::NOT_OF_THIS_FORM,
-                count: 0,
-            };
+            return Err(Refusal::NotOfThisForm);
         }
         j = label_times::read_time(j, time_at(text, at), rate);
         at = line_end(text, at);
         n += 1;
     }
-    let no = lists::read_refusal(j);
-    if no != 0 {
-        return Listing {
-            number: no,
-            count: 0,
-        };
-    }
-    Listing {
-        number: 0,
-        count: n,
-    }
+    lists::read_refusal(j)?;
+    Ok(n)
 }

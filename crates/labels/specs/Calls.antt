@@ -3,8 +3,7 @@
 use Rattle.std.specs.Prelude.{ℕ, List, [], ◌∷◌, ◌++◌, leb, length}
 use Rattle.numbers.specs.Limits.{rate_fine}
 use Rattle.numbers.specs.Refusals.{Row, out_of_bounds, too_little_room, first_of}
-use Rattle.numbers.specs.Outcomes.{ListWritten}
-use Rattle.numbers.specs.declared.Listing.{Listing}
+use Rattle.numbers.specs.Outcomes.{Listing, ListWritten}
 use Rattle.lists.specs.Grids.{grid_rows, Counted}
 use Rattle.label_tracks.specs.Tracks.{label_bytes, text_times, text_frames, text_rows}
 

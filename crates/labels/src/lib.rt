@@ -4,93 +4,63 @@
 #![tactic(auto)]
 
 ghost use Rattle.std.specs.Prelude.{◌≡◌, true, ◌+◌, ◌≤◌, length};
+ghost use Rattle.numbers.specs.Outcomes.{listing};
 ghost use Rattle.numbers.specs.Limits.{most_frame, rate_fine, frame_fine};
 ghost use Rattle.numbers.specs.Lists.{every, listed};
-ghost use Rattle.numbers.specs.Refusals.{first_of};
+ghost use Rattle.numbers.specs.Refusals.{number_of, first_of};
 ghost use Rattle.label_tracks.specs.Tracks.{label_bytes};
 ghost use Rattle.labels.specs.Calls.{frames_rows, read_labels_number, LabelsRoomPromise, WriteLabelsPromise, ReadLabelsPromise};
 
 use label_lines::line_end;
 use label_tracks::frame_at;
-use numbers::Listing;
+use numbers::Refusal;
 
 // Tells how many bytes the label track of frames has at a rate.
-// Refuses 1 (a rate outside 1 to 192,000, a frame above 1,048,575) and 11 (frames that don't strictly ascend), with a count of 0.
-pub fn labels_room(frames: &[u32], rate: u32) -> Listing
-    ensures { LabelsRoomPromise frames.now rate result }
+// Refuses 1 (a rate outside 1 to 192,000, a frame above 1,048,575) and 11 (frames that don't strictly ascend).
+pub fn labels_room(frames: &[u32], rate: u32) -> Result<usize, Refusal>
+    ensures { LabelsRoomPromise frames.now rate (listing result) }
 {
-    let no = frames_refusal(frames, rate);
-    if no != 0 {
-        return Listing {
-            number: no,
-            count: 0,
-        };
-    }
-    let bytes = text_length(frames, rate);
-    Listing {
-        number: 0,
-        count: bytes,
-    }
+    frames_refusal(frames, rate)?;
+    Ok(text_length(frames, rate))
 }
 
 // Writes the label track of frames at a rate into the first bytes and answers how many they are; later bytes stay.
 // Room: what `labels_room` tells, at most 39 bytes a frame. Refuses 1 (a rate outside 1 to 192,000, a frame above 1,048,575), 11 (frames that don't
 // strictly ascend) and 3, and then writes nothing.
-pub fn write_labels(frames: &[u32], rate: u32, text: &mut [u8]) -> Listing
-    ensures { WriteLabelsPromise frames.now rate text.old result text.new }
+pub fn write_labels(frames: &[u32], rate: u32, text: &mut [u8]) -> Result<usize, Refusal>
+    ensures { WriteLabelsPromise frames.now rate text.old (listing result) text.new }
 {
-    let no = frames_refusal(frames, rate);
-    if no != 0 {
-        return Listing {
-            number: no,
-            count: 0,
-        };
-    }
-    let bytes = text_length(frames, rate);
+    let bytes = labels_room(frames, rate)?;
     if bytes > text.len() {
-        return Listing {
-            number: numbers::TOO_LITTLE_ROOM,
-            count: 0,
-        };
+        return Err(Refusal::TooLittleRoom);
     }
     put_lines(text, frames, rate);
-    Listing {
-        number: 0,
-        count: bytes,
-    }
+    Ok(bytes)
 }
 
 // Reads the frames of a label track at a rate into the first slots and answers how many they are; later slots stay. Any bytes will do, of any length.
 // Room: one slot a line. Refuses 1 (a rate outside 1 to 192,000), 9 (a line that is not of this form), 10 (a time that is no listed frame's), 11 (frames
 // that don't strictly ascend) and 3, and then writes nothing.
-pub fn read_labels(text: &[u8], rate: u32, frames: &mut [u32]) -> Listing
-    ensures { ReadLabelsPromise text.now rate frames.old result frames.new }
+pub fn read_labels(text: &[u8], rate: u32, frames: &mut [u32]) -> Result<usize, Refusal>
+    ensures { ReadLabelsPromise text.now rate frames.old (listing result) frames.new }
 {
-    let no = read_refusal(text, rate, frames.len());
-    if no != 0 {
-        return Listing {
-            number: no,
-            count: 0,
-        };
-    }
+    read_refusal(text, rate, frames.len())?;
     let mut n: usize = 0;
     let mut at = 0;
+    // Kept as a while: a line ends where its digits say.
     while at < text.len() {
         frames[n] = frame_at(text, at, rate);
         at = line_end(text, at);
         n += 1;
     }
-    Listing {
-        number: 0,
-        count: n,
-    }
+    Ok(n)
 }
 
-fn frames_refusal(frames: &[u32], rate: u32) -> u32
-    ensures { result ≡ first_of (frames_rows frames.now rate) }
+fn frames_refusal(frames: &[u32], rate: u32) -> Result<(), Refusal>
+    ensures { number_of result ≡ first_of (frames_rows frames.now rate) }
 {
     if !numbers::rate_fine(rate) {
-        return numbers::OUT_OF_BOUNDS;
+        return Err(Refusal::OutOfBounds);
     }
     lists::grid_refusal(frames)
 }
@@ -103,10 +73,8 @@ fn text_length(frames: &[u32], rate: u32) -> usize
     ensures { result ≡ length (label_bytes rate frames.now) }
 {
     let mut total: usize = 0;
-    let mut i = 0;
-    while i < frames.len() {
-        total += label_lines::line_length(times::microseconds(frames[i], rate));
-        i += 1;
+    for &t in frames {
+        total += label_lines::line_length(times::microseconds(t, rate));
     }
     total
 }
@@ -118,24 +86,17 @@ fn put_lines(out: &mut [u8], frames: &[u32], rate: u32)
     ensures { out.new ≡ listed (label_bytes rate frames.now) out.old }
 {
     let mut at = 0;
-    let mut i = 0;
-    while i < frames.len() {
-        let u = times::microseconds(frames[i], rate);
-        at = label_lines::put_line(out, at, u);
-        i += 1;
+    for &t in frames {
+        at = label_lines::put_line(out, at, times::microseconds(t, rate));
     }
 }
 
-fn read_refusal(text: &[u8], rate: u32, room: usize) -> u32
-    ensures { result ≡ read_labels_number text.now rate room }
+fn read_refusal(text: &[u8], rate: u32, room: usize) -> Result<(), Refusal>
+    ensures { number_of result ≡ read_labels_number text.now rate room }
 {
-    let judged = label_tracks::text_judged(text, rate);
-    let no = judged.number;
-    if no != 0 {
-        return no;
+    let lines = label_tracks::text_judged(text, rate)?;
+    if lines > room {
+        return Err(Refusal::TooLittleRoom);
     }
-    if judged.count > room {
-        return numbers::TOO_LITTLE_ROOM;
-    }
-    0
+    Ok(())
 }

@@ -98,10 +98,8 @@ pub fn first_apart(weight: &[f64], min_lag: usize, a: usize, b: usize) -> usize
     ensures { result ≡ first_passing (stands_apart min_lag (a ∷ b ∷ [])) (ranked weight.now) (length weight.now) }
 {
     let mut best = weight.len();
-    let mut i = 0;
-    while i < weight.len() {
+    for i in 0..weight.len() {
         best = next_best(weight, min_lag, a, b, i, best);
-        i += 1;
     }
     best
 }

@@ -26,7 +26,6 @@ use lag_sums::abreast::{Eight, block_sums, eight_noughts, eight_sums};
 use lag_sums::{lag_rest, lag_sum};
 use lags::bpm_at;
 use lists::float_of;
-use numbers::least;
 
 // the tempo that is heard most, in beats a minute
 const LIKELIEST: f64 = 120.0;
@@ -74,11 +73,9 @@ fn fill_eight(
     let past = t + (n - lag - 7 - t) / 2 * 2;
     let s = eight_sums(envelope, mean, lag, t, past, below);
     let sums = [s.a, s.b, s.c, s.d, s.e, s.f, s.g, s.h];
-    let mut j = 0;
-    while j < 8 {
+    for j in 0..8 {
         let sum = lag_rest(envelope, mean, lag + j, past, sums[j]);
         clarity[from + j] = clarity_of(sum, ac0, n, lag + j);
-        j += 1;
     }
 }
 
@@ -140,11 +137,9 @@ fn fill_singly(
     requires { (from ≤ past) × (min_lag + past ≤ length envelope.now) × (past ≤ length clarity.old) }
     ensures { clarity.new ≡ filled (clarity_from envelope.now mean ac0 min_lag) clarity.old from past }
 {
-    let mut i = from;
-    while i < past {
+    for i in from..past {
         let lag = min_lag + i;
         clarity[i] = clarity_of(lag_sum(envelope, mean, lag), ac0, envelope.len(), lag);
-        i += 1;
     }
 }
 
@@ -163,6 +158,7 @@ fn fill_eights(
 {
     let z = eight_noughts();
     let mut i = from;
+    // Kept as a while: the place behind the last whole eight is used below.
     while past - i >= 8 {
         fill_eight(envelope, mean, ac0, min_lag, i, 0, z, clarity);
         i += 8;
@@ -190,8 +186,9 @@ pub fn fill_clarity(
         return;
     }
     let mut i = 0;
+    // Kept as a while: the last run begins where it still fits, so the places of runs are no range.
     while i < count {
-        let from = least(i, count - 32);
+        let from = i.min(count - 32);
         fill_thirty_two(envelope, mean, ac0, min_lag, from, clarity);
         i = from + 32;
     }
@@ -220,10 +217,8 @@ pub fn fill_weight(clarity: &[f64], rate: u32, min_lag: usize, max_lag: usize, w
         ≡ filled (weighted clarity.now rate min_lag) weight.old 0 (lag_room min_lag max_lag) }
 {
     let count = max_lag - min_lag + 1;
-    let mut i = 0;
-    while i < count {
+    for i in 0..count {
         weight[i] = clarity[i] * prior_at(rate, min_lag + i);
-        i += 1;
     }
 }
 
@@ -233,10 +228,8 @@ pub fn fill_priors(rate: u32, min_lag: usize, max_lag: usize, priors: &mut [f64]
     ensures { priors.new ≡ filled (prior_from rate min_lag) priors.old 0 (lag_room min_lag max_lag) }
 {
     let count = max_lag - min_lag + 1;
-    let mut i = 0;
-    while i < count {
+    for i in 0..count {
         priors[i] = prior_at(rate, min_lag + i);
-        i += 1;
     }
 }
 
@@ -245,10 +238,8 @@ pub fn weigh(clarity: &[f64], priors: &[f64], count: usize, weight: &mut [f64])
     requires { (count ≤ length clarity.now) × (count ≤ length priors.now) × (count ≤ length weight.old) }
     ensures { weight.new ≡ filled (weighted_by clarity.now priors.now) weight.old 0 count }
 {
-    let mut i = 0;
-    while i < count {
+    for i in 0..count {
         weight[i] = clarity[i] * priors[i];
-        i += 1;
     }
 }
 

@@ -1,7 +1,7 @@
 -- Document 01, Tempo and candidates: the mean of an envelope, and its centred products a lag apart, summed.
 use Rattle.std.specs.Prelude.{ℕ, ◌+◌, ◌-◌, List, length, get_or, Float}
 use Rattle.std.specs.Float.{nan}
-use Rattle.numbers.specs.Rounded.{◌⊖◌, ◌⊗◌, ◌⊘◌, sum_of}
+use Rattle.numbers.specs.Rounded.{◌⊖◌, ◌⊗◌, sum_of}
 use Rattle.numbers.specs.Lists.{curve}
 
 -- the slot at t less the mean

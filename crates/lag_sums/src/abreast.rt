@@ -111,6 +111,7 @@ pub fn eight_sums(
 {
     let mut s = sums;
     let mut t = from;
+    // Kept as a while: step_by's loop has a second end, where its count would overflow, to be proved again.
     while t < past {
         s = eight_more_centred(s, envelope[t] - mean, envelope, mean, t + lag);
         s = eight_more_centred(s, envelope[t + 1] - mean, envelope, mean, t + 1 + lag);
@@ -124,10 +125,8 @@ fn centre(envelope: &[f64], mean: f64, from: usize, out: &mut [f64])
     requires { from + length out.old ≤ length envelope.now }
     ensures { out.new ≡ curve (centred_from envelope.now mean from) (length out.old) }
 {
-    let mut i = 0;
-    while i < out.len() {
+    for i in 0..out.len() {
         out[i] = envelope[from + i] - mean;
-        i += 1;
     }
 }
 
@@ -141,6 +140,7 @@ fn sixteen_run(low: Eight, high: Eight, times: &[f64], later: &[f64], at: usize)
     let mut s = low;
     let mut r = high;
     let mut t = 0;
+    // Kept as a while: step_by's loop has a second end, where its count would overflow, to be proved again.
     while t < times.len() {
         let v = times[t];
         let w = times[t + 1];
@@ -200,6 +200,7 @@ pub fn block_sums(envelope: &[f64], mean: f64, lag: usize, past: usize) -> Thirt
         d: z,
     };
     let mut t = 0;
+    // Kept as a while: step_by's loop has a second end, where its count would overflow, to be proved again.
     while t < past {
         s = block(envelope, mean, lag, t, s);
         t += 128;

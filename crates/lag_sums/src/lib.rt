@@ -18,10 +18,8 @@ pub fn lag_rest(envelope: &[f64], mean: f64, lag: usize, from: usize, sum: f64) 
 {
     let n = envelope.len() - lag;
     let mut z = sum;
-    let mut t = from;
-    while t < n {
+    for t in from..n {
         z = z + (envelope[t] - mean) * (envelope[t + lag] - mean);
-        t += 1;
     }
     z
 }

@@ -17,6 +17,7 @@ use Rattle.floats.specs.Wholes.{round_of}
 use Rattle.options.specs.Options.{with_meter, options_fine}
 use Rattle.options.specs.declared.TempoOpts.{TempoOpts}
 use Rattle.lags.specs.Lags.{
+  LagsSaid,
   sixty,
   lower_bound,
   upper_bound,
@@ -31,7 +32,6 @@ use Rattle.lags.specs.Lags.{
   bounds_fine,
   lag_range,
 }
-use Rattle.lags.specs.declared.LagRange.{LagRange}
 use Rattle.lags.proofs.Ranges.{rate_most, min_lag_least, min_lt_max, max_lag_most}
 
 -- for every rate that isn't refused and every two floats, a NaN (the logic has one, whatever its payload) and the infinities among them,
@@ -92,7 +92,7 @@ abbrev pub max_lag_before : ℕ → TempoOpts → ℕ
 max_lag_before rate o = max (min_lag_before rate o + 1) (round_of (real rate ⊘ hop ⊗ sixty ⊘ lo_before o))
 
 -- what `lag_range` answered
-abbrev pub range_before : ℕ → TempoOpts → LagRange
+abbrev pub range_before : ℕ → TempoOpts → LagsSaid
 range_before rate o =
     pick (fine_before rate o)
     (record { number = 0; min_lag = min_lag_before rate o; max_lag = max_lag_before rate o })
@@ -156,5 +156,5 @@ finite_as_before rate o low high fine =
     ∙ ap (λ (m : ℕ). answer (fine_before rate o) m (max_lag rate o)) (min_lag_same o low high rate)
     ∙ ap (λ (m : ℕ). answer (fine_before rate o) (min_lag_before rate o) m) (max_lag_same o low high rate)
   where
-    answer : Bool → (least most : ℕ) → LagRange
+    answer : Bool → (least most : ℕ) → LagsSaid
     answer b least most = pick b (record { number = 0; min_lag = least; max_lag = most }) (record { number = out_of_bounds; min_lag = 0; max_lag = 0 })

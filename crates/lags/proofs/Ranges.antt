@@ -6,23 +6,21 @@ use Prim.Native.Nat.{ℕ, ◌*◌, ◌^◌, ◌≤◌, ◌<◌}
 use native.Mathlib.Omega.{arith}
 use borrow.Author.Tests.{leb-true}
 use lib.Dec.{T, leb, lit<, lit≤}
-use lib.Ieee.{Float, nan, inf, fin, binary64, is_nan, lt, le, add, of_bits}
+use lib.Ieee.{Float, binary64, is_nan, lt, le, add, of_bits}
 use lib.Ieee.Scale.{finite}
 use Rattle.numbers.specs.Rounded.{◌⊕◌, pick, one, hop}
 use Rattle.numbers.specs.Limits.{most_rate, most_period, between, rate_fine}
 use Rattle.numbers.proofs.Tests.{and_left, and_right, pick_true, pick-false}
-use Rattle.sizes.specs.Sizes.{size_up_to, AtMost, AtLeast, is_plus, Plus}
+use Rattle.sizes.specs.Sizes.{AtMost, AtLeast, is_plus, Plus}
 use Rattle.sizes.proofs.Numbers.{held_short}
 use Rattle.sizes.proofs.Sizes.{div_most, mul_most, real-most}
 use Rattle.sizes.proofs.Order.{le_right, lt_is_le, le_self, le_then_le}
 use Rattle.sizes.proofs.Ranges.{le_least}
 use Rattle.sizes.proofs.Monotone.{add_mono_left}
-use Rattle.floats.specs.Wholes.{round_of}
 use Rattle.float_sizes.proofs.WholeSizes.{round_at_most}
 use Rattle.options.specs.Options.{most_meter, options_fine}
 use Rattle.options.specs.declared.TempoOpts.{TempoOpts}
-use Rattle.lags.specs.declared.LagRange.{LagRange}
-use Rattle.lags.specs.Lags.{sixty, upper_bound, lower_bound, no_less, low_bpm, high_bpm, frames_per_minute, minute_over, min_lag, max_lag, bounds_fine, lag_range}
+use Rattle.lags.specs.Lags.{LagsSaid, sixty, upper_bound, lower_bound, no_less, low_bpm, high_bpm, frames_per_minute, minute_over, min_lag, max_lag, bounds_fine, lag_range}
 
 -- ---- the bounds in beats a minute
 
@@ -137,8 +135,8 @@ unfolding lag_range
 range_of_lem rate o e =
     record {
       fine = e;
-      least = ap (λ (r : LagRange). r.min_lag) (pick_true (bounds_fine rate o) _ _ e);
-      greatest = ap (λ (r : LagRange). r.max_lag) (pick_true (bounds_fine rate o) _ _ e);
+      least = ap (λ (r : LagsSaid). r.min_lag) (pick_true (bounds_fine rate o) _ _ e);
+      greatest = ap (λ (r : LagsSaid). r.max_lag) (pick_true (bounds_fine rate o) _ _ e);
       from_one = min_lag_least rate o;
       ordered = min_lt_max rate o;
       most-min = min_lag_most rate o (fine_rate rate o e);
@@ -152,7 +150,7 @@ answered rate o e = go (bounds_fine rate o) refl
   where
     go : (b : Bool) → bounds_fine rate o ≡ b → Answered rate o
     go true f = range_of_lem rate o f
-    go false f = absurd (one_not_zero (sym (ap (λ (r : LagRange). r.number) (pick-false (bounds_fine rate o) _ _ f)) ∙ e))
+    go false f = absurd (one_not_zero (sym (ap (λ (r : LagsSaid). r.number) (pick-false (bounds_fine rate o) _ _ f)) ∙ e))
       where
         one_not_zero : ◌≡◌ {A = ℕ} 1 0 → ⊥
         one_not_zero z = omega arith

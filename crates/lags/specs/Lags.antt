@@ -1,10 +1,11 @@
 -- Document 01, Tempo and candidates, and request No. 1 of document 02, open tempo bounds: the lags, in frames, that two bounds in beats a minute
 -- stand for, whichever floats they are.
-use Rattle.std.specs.Prelude.{ℕ, ◌+◌, ◌-◌, max, Bool, ◌&&◌, Float}
+use Rattle.std.specs.Prelude.{ℕ, ◌+◌, ◌-◌, max, Bool, ◌&&◌, Float, Result, Ok, Err}
 use Rattle.std.specs.Float.Ieee.{lt, le}
 use Rattle.numbers.specs.Rounded.{◌⊕◌, ◌⊗◌, ◌⊘◌, bits, real, pick, one, hop}
 use Rattle.numbers.specs.Limits.{rate_fine}
-use Rattle.numbers.specs.Refusals.{out_of_bounds}
+use Rattle.numbers.specs.Refusals.{number, out_of_bounds}
+use Rattle.numbers.specs.declared.Refusal.{Refusal}
 use Rattle.floats.specs.Wholes.{round_of}
 use Rattle.options.specs.Options.{options_fine}
 use Rattle.options.specs.declared.TempoOpts.{TempoOpts}
@@ -69,8 +70,19 @@ unfoldable pub bounds_fine : ℕ → TempoOpts → Bool
 unfolding options_fine
 bounds_fine rate o = rate_fine rate && options_fine o
 
--- the answer of `lag_range`: number 0 and both lags, or number 1 and zeros
-unfoldable pub lag_range : ℕ → TempoOpts → LagRange
+-- what `lag_range` says: its number, and the least and the greatest lag
+pub record LagsSaid : Type 0 where
+  pub number : ℕ
+  pub min_lag : ℕ
+  pub max_lag : ℕ
+
+-- by its answer: `Ok` is number 0 and both lags, `Err e` the number of e in the table, and zeros
+abbrev pub lags_said : Result LagRange Refusal → LagsSaid
+lags_said (Ok range) = record { number = 0; min_lag = range.min_lag; max_lag = range.max_lag }
+lags_said (Err e) = record { number = number e; min_lag = 0; max_lag = 0 }
+
+-- what it says: number 0 and both lags, or number 1 and zeros
+unfoldable pub lag_range : ℕ → TempoOpts → LagsSaid
 unfolding bounds_fine min_lag max_lag
 lag_range rate o =
     pick (bounds_fine rate o)

@@ -3,7 +3,7 @@
 // Document 01, Tempo and candidates. The Rust: tempo.rs, what `pick_tempo_peaks` and `stability_of` are made of.
 #![tactic(auto)]
 
-ghost use Rattle.std.specs.Prelude.{◌≡◌, ◌≤◌};
+ghost use Rattle.std.specs.Prelude.{◌≡◌, ◌≤◌, true};
 ghost use Rattle.numbers.specs.Rounded.{real};
 ghost use Rattle.numbers.specs.Limits.{most_period};
 ghost use Rattle.floats.specs.Wholes.{round_of};
@@ -14,13 +14,16 @@ ghost use Rattle.lags.specs.Lags.{
   minute_over,
   bpm_at,
   bounds_fine,
+  min_lag,
+  max_lag,
+  lags_said,
   lag_range,
   lag_room,
 };
 
 use floats::wholes::round_of;
 use lists::float_of;
-use numbers::{HOP, OUT_OF_BOUNDS, greatest, rate_fine};
+use numbers::{HOP, Refusal, rate_fine};
 use options::{TempoOpts, options_fine};
 
 pub mod pairs;
@@ -28,10 +31,9 @@ pub mod pairs;
 // seconds of a minute
 const SIXTY: f64 = 60.0;
 
-// The answer of `lag_range`: its number, and the least and the greatest lag, in frames (0 where it refuses).
+// The least and the greatest lag, in frames.
 #[derive(Clone, Copy)]
 pub struct LagRange {
-    pub number: u32,
     pub min_lag: usize,
     pub max_lag: usize,
 }
@@ -103,21 +105,21 @@ fn lag_of(rate: u32, bpm: f64) -> usize
 // The lags from the fastest tempo to the slowest that the bounds allow. Refuses 1 for a rate outside 1 to 192,000 or a meter outside 1 to 16. Else
 // 1 <= min_lag < max_lag <= 45,000, whatever the bounds: reversed ones are swapped, as are two of which one is a NaN, a narrow range is widened to
 // 1 BPM, and an infinite upper bound is no limit.
-pub fn lag_range(rate: u32, opts: TempoOpts) -> LagRange
-    ensures { result ≡ lag_range rate opts }
+pub fn lag_range(rate: u32, opts: TempoOpts) -> Result<LagRange, Refusal>
+    ensures { lags_said result ≡ lag_range rate opts }
 {
     if !bounds_fine(rate, opts) {
-        return LagRange {
-            number: OUT_OF_BOUNDS,
-            min_lag: 0,
-            max_lag: 0,
-        };
+        return Err(Refusal::OutOfBounds);
     }
-    let min_lag = greatest(1, lag_of(rate, high_bpm(opts)));
-    let max_lag = greatest(min_lag + 1, lag_of(rate, low_bpm(opts)));
-    LagRange {
-        number: 0,
-        min_lag,
-        max_lag,
-    }
+    Ok(lags_in(rate, opts))
+}
+
+// Inner: the lags that it answers, for callers that have looked at the rate and the options.
+pub fn lags_in(rate: u32, opts: TempoOpts) -> LagRange
+    requires { bounds_fine rate opts ≡ true }
+    ensures { result ≡ record { min_lag = min_lag rate opts; max_lag = max_lag rate opts } }
+{
+    let min_lag = lag_of(rate, high_bpm(opts)).max(1);
+    let max_lag = (min_lag + 1).max(lag_of(rate, low_bpm(opts)));
+    LagRange { min_lag, max_lag }
 }

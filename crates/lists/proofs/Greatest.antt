@@ -1,5 +1,5 @@
 -- The first greatest of a run of values, one value at a time; and what the place that is found has, for every list and for one without a NaN.
-use Rattle.std.proofs.Common.{◌≡◌, ℕ, zero, suc, ◌+◌, ◌-◌, ◌<◌, ◌≤◌, Bool, true, false, not, T, ◌⊎◌, sym, refl, ap, ◌∙◌, subst, ⊎_elim, zero-le, le_refl, add-one, arith}
+use Rattle.std.proofs.Common.{◌≡◌, ℕ, zero, suc, ◌+◌, ◌-◌, ◌<◌, ◌≤◌, Bool, true, false, not, T, sym, refl, ap, ◌∙◌, subst, ⊎_elim, zero-le, le_refl, add-one, arith}
 use lib.Ieee.{Float, is_nan, lt, le}
 use Rattle.numbers.specs.Rounded.{pick}
 use Rattle.numbers.proofs.Tests.{which, lt_or_le, true_not_false}

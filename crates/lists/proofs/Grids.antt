@@ -1,12 +1,16 @@
 -- Frames that are lent as a grid, test by test, and how many they can be; and answers that count. Assumes nothing.
-use Rattle.std.proofs.Common.{◌≡◌, ℕ, ◌+◌, ◌≤◌, true, false, List, length, sym, refl, ◌∙◌, arith}
+use Rattle.std.proofs.Common.{◌≡◌, ℕ, ◌+◌, ◌≤◌, true, false, List, length, sym, refl, ap, ◌∙◌, arith}
+use Rattle.std.specs.Prelude.{Result, Ok, Err, IsErrAnd}
 use Rattle.numbers.specs.Limits.{most_frame, frame_fine}
 use Rattle.numbers.specs.Lists.{every, ascending}
 use Rattle.numbers.specs.Refusals.{first_of}
-use Rattle.numbers.specs.declared.Listing.{Listing}
+use Rattle.numbers.specs.Refusals as Refusals
+use Rattle.numbers.specs.declared.Refusal.{Refusal}
+use Rattle.numbers.specs.Outcomes.{Listing, listing}
 use Rattle.numbers.proofs.Tests.{and_left, and_right, refused_keeps, passed_does}
 use Rattle.numbers.proofs.Firsts.{first-zero}
 use Rattle.numbers.proofs.Ascents.{ascending-count}
+use Rattle.numbers.proofs.Outcomes.{number-not_0}
 use Rattle.lists.specs.Grids.{grid_rows, Counted}
 
 module _ (frames : List ℕ) where
@@ -40,6 +44,12 @@ module _ (frames : List ℕ) where
 module _ (number count : ℕ) where
   pub counted_refused : (answer : Listing) → answer.number ≡ number → (answer.number ≡ 0 → ⊥) → answer.count ≡ 0 → Counted number count answer
   counted_refused answer e h n = record { number_is = e; count_is = n ∙ sym (refused_keeps number count 0 (λ z. h (e ∙ z))) }
+
+  -- a refusal that `?` hands on: e is what refused
+  pub counted_on : (r : Result ℕ Refusal) (e : Refusal) → IsErrAnd r (λ (x : Refusal). x ≡ e) → Refusals.number e ≡ number
+      → Counted number count (listing r)
+  counted_on (Ok n) e h k = absurd h
+  counted_on (Err x) e h k = counted_refused (listing (Err x)) (ap Refusals.number h ∙ k) (λ z. number-not_0 x z) refl
 
   pub counted-done : (answer : Listing) → number ≡ 0 → answer.number ≡ 0 → answer.count ≡ count → Counted number count answer
   counted-done answer z e n = record { number_is = e ∙ sym z; count_is = n ∙ sym (passed_does number count 0 z) }

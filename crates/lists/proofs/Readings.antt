@@ -1,10 +1,10 @@
 -- Frames that are read one by one: what one more does to the number. Assumes nothing.
-use Rattle.std.proofs.Common.{◌≡◌, ℕ, ◌+◌, ◌<◌, ◌≤◌, Bool, true, false, ◌&&◌, ltb, leb, List, [], ◌∷◌, refl, ap, ◌∙◌, ltb-false, ltb-true, le-ltb, lt-ltb, le-leb}
+use Rattle.std.proofs.Common.{◌≡◌, ℕ, ◌+◌, Bool, true, false, ◌&&◌, ltb, leb, List, [], ◌∷◌, refl, ltb-false, ltb-true, le-leb}
 use borrow.Author.Tests.{lt-leb}
 use Rattle.numbers.specs.Lists.{ascending}
-use Rattle.numbers.specs.Refusals.{first_of, unless, no_listed_frame, not_ascending}
+use Rattle.numbers.specs.Refusals.{first_of, no_listed_frame, not_ascending}
 use Rattle.numbers.specs.Rounded.{pick}
-use Rattle.numbers.proofs.Tests.{and-false, and-true}
+use Rattle.numbers.proofs.Tests.{and-false}
 use Rattle.lists.specs.declared.Reading.{Reading}
 use Rattle.lists.specs.Grids.{next_read, missed, read_number}
 

@@ -4,7 +4,7 @@ use Rattle.numbers.specs.Limits.{frame_fine}
 use Rattle.numbers.specs.Lists.{every, ascending}
 use Rattle.numbers.specs.Refusals.{Row, out_of_bounds, no_listed_frame, not_ascending, first_of, unless_refused}
 use Rattle.numbers.specs.Rounded.{pick}
-use Rattle.numbers.specs.declared.Listing.{Listing}
+use Rattle.numbers.specs.Outcomes.{Listing}
 use Rattle.lists.specs.declared.Reading.{Reading}
 
 -- what refuses a grid that is lent: 1 for a frame above the largest listed, then "11 for frames not strictly ascending"

@@ -8,10 +8,12 @@ ghost use Rattle.std.specs.Prelude.{◌≡◌, ◌<◌, ◌≤◌, true, [], len
 ghost use Rattle.numbers.specs.Rounded.{real, sum_of};
 ghost use Rattle.numbers.specs.Limits.{at_most};
 ghost use Rattle.numbers.specs.Lists.{every, ascending};
-ghost use Rattle.numbers.specs.Refusals.{first_of};
+ghost use Rattle.numbers.specs.Refusals.{number_of, first_of};
 ghost use Rattle.lists.specs.Grids.{grid_rows, unread, next_read, missed, read_number};
 ghost use Rattle.lists.specs.Greatest.{value_at, first_greatest};
 ghost use Rattle.lists.specs.Means.{mean_of};
+
+use numbers::Refusal;
 
 // Inner: what is found of frames that are read one by one: whether each was a listed frame's, whether they strictly ascend, and the least that the next
 // may be.
@@ -33,12 +35,10 @@ pub struct Best {
 pub fn all_at_most(list: &[u32], most: u32) -> bool
     ensures { result ≡ every (at_most most) list.now }
 {
-    let mut i = 0;
-    while i < list.len() {
-        if list[i] > most {
+    for &x in list {
+        if x > most {
             return false;
         }
-        i += 1;
     }
     true
 }
@@ -48,29 +48,27 @@ pub fn ascends(list: &[u32]) -> bool
     ensures { result ≡ ascending 0 list.now }
 {
     let mut low: u64 = 0;
-    let mut i = 0;
-    while i < list.len() {
-        let entry = list[i] as u64;
+    for &x in list {
+        let entry = x as u64;
         if entry < low {
             return false;
         }
         low = entry + 1;
-        i += 1;
     }
     true
 }
 
 // Inner: the number of frames that a call is lent as a grid: 1 for one above the largest listed, then 11 where they don't strictly ascend.
-pub fn grid_refusal(frames: &[u32]) -> u32
-    ensures { result ≡ first_of (grid_rows frames.now) }
+pub fn grid_refusal(frames: &[u32]) -> Result<(), Refusal>
+    ensures { number_of result ≡ first_of (grid_rows frames.now) }
 {
     if !all_at_most(frames, numbers::MOST_FRAME) {
-        return numbers::OUT_OF_BOUNDS;
+        return Err(Refusal::OutOfBounds);
     }
     if !ascends(frames) {
-        return numbers::NOT_ASCENDING;
+        return Err(Refusal::NotAscending);
     }
-    0
+    Ok(())
 }
 
 // Inner: before the first frame is read.
@@ -115,16 +113,16 @@ pub fn read_none(j: Reading) -> Reading
 }
 
 // Inner: the number when all are read: 10 where one was no listed frame's, then 11 where they don't strictly ascend.
-pub fn read_refusal(j: Reading) -> u32
-    ensures { result ≡ read_number j true [] }
+pub fn read_refusal(j: Reading) -> Result<(), Refusal>
+    ensures { number_of result ≡ read_number j true [] }
 {
     if !j.listed {
-        return numbers::NO_LISTED_FRAME;
+        return Err(Refusal::NoListedFrame);
     }
     if !j.rises {
-        return numbers::NOT_ASCENDING;
+        return Err(Refusal::NotAscending);
     }
-    0
+    Ok(())
 }
 
 // Inner: a count as a float.
@@ -139,10 +137,8 @@ pub fn sum_of(xs: &[f64]) -> f64
     ensures { result ≡ sum_of xs.now }
 {
     let mut sum = 0.0;
-    let mut i = 0;
-    while i < xs.len() {
-        sum = sum + xs[i];
-        i += 1;
+    for &x in xs {
+        sum += x;
     }
     sum
 }
@@ -161,14 +157,12 @@ pub fn first_greatest(values: &[f64], n: usize) -> usize
 {
     let mut at = 0;
     let mut top = values[0];
-    let mut t = 1;
-    while t < n {
+    for t in 1..n {
         let s = values[t];
         if top < s {
             top = s;
             at = t;
         }
-        t += 1;
     }
     at
 }

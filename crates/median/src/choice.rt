@@ -60,6 +60,7 @@ pub fn select(a: &mut [f64], h: usize) -> f64
     let mut m = a.len();
     let mut rank = h;
     let mut apart = APART;
+    // Kept as a while: how many entries are left depends on them.
     while FEW < m {
         let fence = fence_of(a, m, rank, apart);
         let low = fence.low;
@@ -91,9 +92,9 @@ fn fence_of(a: &[f64], m: usize, rank: usize, apart: usize) -> Fence
     requires { (24 < m) × (m ≤ length a.now) × (rank < m) × (apart ≤ 3) }
 {
     let spread = spread_of(a, m);
-    let near = numbers::least(rank * 12 / (m / 2), FEW - 1);
-    let low = near_rank(&spread, FEW, numbers::less(near, apart));
-    let high = near_rank(&spread, FEW, numbers::least(near + apart, FEW - 1));
+    let near = (rank * 12 / (m / 2)).min(FEW - 1);
+    let low = near_rank(&spread, FEW, near.saturating_sub(apart));
+    let high = near_rank(&spread, FEW, (near + apart).min(FEW - 1));
     Fence { low, high }
 }
 
@@ -104,11 +105,9 @@ fn spread_of(a: &[f64], m: usize) -> [f64; 24]
     let mut spread = [TOP; FEW];
     let step = m / FEW;
     let rest = m % FEW;
-    let mut i = 0;
-    while i < FEW {
+    for i in 0..FEW {
         let at = i * step + i * rest / FEW + i * 37 % step;
         spread[i] = a[at];
-        i += 1;
     }
     spread
 }
@@ -122,15 +121,13 @@ fn near_rank(a: &[f64], m: usize, h: usize) -> f64
     let mut at = h;
     if HALF <= h {
         sign = -1.0;
-        at = numbers::less(numbers::less(m, 1), h);
+        at = m.saturating_sub(1).saturating_sub(h);
     }
     let mut least = [TOP; HALF];
-    let mut i = 0;
-    while i < m {
+    for i in 0..m {
         least = with_value(least, sign * a[i]);
-        i += 1;
     }
-    sign * least[numbers::least(at, HALF - 1)]
+    sign * least[at.min(HALF - 1)]
 }
 
 // Thirteen values in order with one more put among them, and the greatest left out. Each slot takes the middle of three, so that they are
@@ -138,10 +135,8 @@ fn near_rank(a: &[f64], m: usize, h: usize) -> f64
 fn with_value(least: [f64; 13], x: f64) -> [f64; 13] {
     let mut next = least;
     next[0] = lower(x, least[0]);
-    let mut i = 1;
-    while i < HALF {
+    for i in 1..HALF {
         next[i] = lower(higher(least[i - 1], x), least[i]);
-        i += 1;
     }
     next
 }
@@ -160,6 +155,7 @@ fn by_halves(a: &[f64], m: usize, rank: usize) -> f64
 {
     let mut bottom = LEAST_KEY;
     let mut top = MOST_KEY;
+    // Kept as a while: a range is halved.
     while bottom < top {
         let middle = bottom + (top - bottom) / 2;
         let value = value_of(middle);
@@ -217,8 +213,7 @@ fn counted(a: &[f64], m: usize, low: f64, high: f64) -> Counts
 {
     let mut c = 0;
     let mut d = 0;
-    let mut i = 0;
-    while i < m {
+    for i in 0..m {
         let x = a[i];
         if x < low {
             c += 1;
@@ -226,7 +221,6 @@ fn counted(a: &[f64], m: usize, low: f64, high: f64) -> Counts
         if x <= high {
             d += 1;
         }
-        i += 1;
     }
     Counts { low: c, high: d }
 }
@@ -237,14 +231,12 @@ fn keep(a: &mut [f64], m: usize, low: f64, high: f64, side: u32) -> usize
     ensures { Kept side low high m a.old result a.new }
 {
     let mut n = 0;
-    let mut i = 0;
-    while i < m {
+    for i in 0..m {
         let x = a[i];
         a[n] = x;
         if on_side(x, low, high, side) {
             n += 1;
         }
-        i += 1;
     }
     n
 }
@@ -286,12 +278,10 @@ fn zero_of(a: &[f64], m: usize, rank: usize) -> f64
     ensures { result ≡ zero_at rank (take m a.now) }
 {
     let mut n = 0;
-    let mut i = 0;
-    while i < m {
+    for i in 0..m {
         if floats::bits::key_of(a[i]) < 0x8000_0000_0000_0000 {
             n += 1;
         }
-        i += 1;
     }
     if rank < n {
         return -0.0;

@@ -8,62 +8,52 @@
 mod choice;
 
 ghost use Rattle.std.specs.Prelude.{◌+◌, ◌*◌, ◌<◌, ◌≤◌, ◌≡◌, map, length};
+ghost use Rattle.numbers.specs.Refusals.{number_of};
 ghost use Rattle.numbers.specs.Lists.{listed};
 ghost use Rattle.median.specs.Median.{sort, median_of, mad_of, absolute, distance};
 ghost use Rattle.median.specs.Ranks.{Same};
 ghost use Rattle.median.specs.Heaps.{swapped, Heap, Sifted, Greater, Arranged};
 ghost use Rattle.median.specs.Answers.{refusal_of, MedianPromise, MadPromise, Chosen};
 
-// A median, or the number of a refusal.
-#[derive(Clone, Copy)]
-pub enum Answer {
-    Value(f64),
-    Refused(u32),
-}
+use numbers::Refusal;
 
 // The median of values, the entry at length div 2 once they are sorted. Lend as many slots of work as there are values.
 // Refuses with 1 an empty list, with 3 too short a work slice, with 4 a value that isn't finite or has size above 2^150.
 // Work's first slots, one for each value, then hold anything; the others, and all of them at a refusal, are unchanged.
-pub fn median_of(values: &[f64], work: &mut [f64]) -> Answer
+pub fn median_of(values: &[f64], work: &mut [f64]) -> Result<f64, Refusal>
     ensures { MedianPromise values.now work.old result work.new }
 {
-    let no = refusal(values, true, work.len());
-    if no != 0 {
-        return Answer::Refused(no);
-    }
-    Answer::Value(median_in(values, work))
+    refusal(values, true, work.len())?;
+    Ok(median_in(values, work))
 }
 
 // The median of the distances |value - median| from a given median. Lend as many slots of work as there are values.
 // Refuses with 1 an empty list, with 3 too short a work slice, with 4 a value or a median that isn't finite or has size above 2^150.
 // Work's first slots, one for each value, then hold anything; the others, and all of them at a refusal, are unchanged.
-pub fn mad_of(values: &[f64], median: f64, work: &mut [f64]) -> Answer
+pub fn mad_of(values: &[f64], median: f64, work: &mut [f64]) -> Result<f64, Refusal>
     ensures { MadPromise values.now median work.old result work.new }
 {
-    let no = refusal(values, numbers::value_fine(median), work.len());
-    if no != 0 {
-        return Answer::Refused(no);
-    }
-    Answer::Value(mad_in(values, median, work))
+    refusal(values, numbers::value_fine(median), work.len())?;
+    Ok(mad_in(values, median, work))
 }
 
 // The number of both calls; fine says whether what is given beside the values is.
-fn refusal(values: &[f64], fine: bool, room: usize) -> u32
-    ensures { result ≡ refusal_of values.now fine room }
+fn refusal(values: &[f64], fine: bool, room: usize) -> Result<(), Refusal>
+    ensures { number_of result ≡ refusal_of values.now fine room }
 {
     if values.len() == 0 {
-        return numbers::OUT_OF_BOUNDS;
+        return Err(Refusal::OutOfBounds);
     }
     if room < values.len() {
-        return numbers::TOO_LITTLE_ROOM;
+        return Err(Refusal::TooLittleRoom);
     }
     if !fine {
-        return numbers::WRONG_VALUE;
+        return Err(Refusal::WrongValue);
     }
     if !numbers::values_fine(values) {
-        return numbers::WRONG_VALUE;
+        return Err(Refusal::WrongValue);
     }
-    0
+    Ok(())
 }
 
 // Inner: the median, for callers that have looked at lengths and values.
@@ -106,10 +96,8 @@ fn copy(src: &[f64], dst: &mut [f64])
     requires { length src.now ≤ length dst.old }
     ensures { dst.new ≡ listed src.now dst.old }
 {
-    let mut i = 0;
-    while i < src.len() {
+    for i in 0..src.len() {
         dst[i] = src[i];
-        i += 1;
     }
 }
 
@@ -117,10 +105,8 @@ fn distances(src: &[f64], median: f64, dst: &mut [f64])
     requires { length src.now ≤ length dst.old }
     ensures { dst.new ≡ listed (map (distance median) src.now) dst.old }
 {
-    let mut i = 0;
-    while i < src.len() {
+    for i in 0..src.len() {
         dst[i] = absolute_of(src[i] - median);
-        i += 1;
     }
 }
 
@@ -142,9 +128,7 @@ fn arrange(a: &mut [f64], stop: usize)
     ensures { Arranged a.new a.old stop }
 {
     make_heap(a);
-    let mut end = a.len();
-    while stop < end {
-        end -= 1;
+    for end in (stop..a.len()).rev() {
         swap(a, 0, end);
         sift_down(a, 0, end);
     }
@@ -154,9 +138,7 @@ fn make_heap(a: &mut [f64])
     ensures { Same a.new a.old × Heap a.new 0 (length a.old) }
 {
     let n = a.len();
-    let mut start = n / 2;
-    while 0 < start {
-        start -= 1;
+    for start in (0..n / 2).rev() {
         sift_down(a, start, n);
     }
 }
@@ -167,6 +149,7 @@ fn sift_down(a: &mut [f64], start: usize, end: usize)
     ensures { Sifted a.new a.old start end }
 {
     let mut parent = start;
+    // Kept as a while: it goes down a heap, from parent to child.
     while parent < end / 2 {
         let child = greater_child(a, parent, end);
         if floats::bits::precedes(a[parent], a[child]) {

@@ -1,18 +1,17 @@
 -- What the numbers of the writer and the reader tell, and that a file written piece by piece is the file. Assumes nothing.
 use mathlib.Core.Path.{◌≡◌, refl, sym, ap, ◌∙◌}
-use mathlib.Core.Bool.{Bool, true, false, ◌&&◌}
+use mathlib.Core.Bool.{Bool, true, false}
 use mathlib.Core.List.{List, [], ◌∷◌, ◌++◌, append_assoc}
 use Prim.Native.Nat.{ℕ, zero, suc, ◌+◌, ◌-◌, ◌*◌, ◌≤◌, ◌<◌}
-use native.Mathlib.Nat.{le_of_suc-le-suc}
 use native.Mathlib.Numerals.{add-one}
 use native.Mathlib.Omega.{arith}
 use lib.Dec.{leb}
 use lib.ListN.{length, get_or, take, drop}
 use lib.Seq.{take-suc}
 use borrow.Author.Tests.{leb-true, le-leb}
-use Rattle.numbers.specs.Limits.{most_rate, most_frame, rate_fine, frame_fine, at_most}
+use Rattle.numbers.specs.Limits.{most_rate, most_frame, rate_fine, frame_fine}
 use Rattle.numbers.specs.Refusals.{Row, unless, first_of}
-use Rattle.numbers.specs.Lists.{curve, filled, listed, over, every, ascending}
+use Rattle.numbers.specs.Lists.{curve, filled, listed, every, ascending}
 use Rattle.numbers.proofs.Ascents.{ascending-count}
 use Rattle.numbers.proofs.Everys.{every_by}
 use Rattle.numbers.proofs.Firsts.{first_skip, first-among}

@@ -2,8 +2,7 @@
 use Rattle.std.specs.Prelude.{ℕ, ◌+◌, ◌-◌, List, [], ◌∷◌, leb, length}
 use Rattle.numbers.specs.Refusals.{first_of, out_of_bounds, wrong_grid, gap_too_long, other_shape, too_little_room}
 use Rattle.numbers.specs.Lists.{every}
-use Rattle.numbers.specs.Outcomes.{ListWritten}
-use Rattle.numbers.specs.declared.Listing.{Listing}
+use Rattle.numbers.specs.Outcomes.{Listing, ListWritten}
 use Rattle.midi_gaps.specs.Gaps.{gaps_of, tempo_track_numbers_fine, is_grid, gaps_fit}
 use Rattle.midi_events.specs.File.{file_of}
 use Rattle.midi_events.specs.Shapes.{track_room, count_in, gaps_in, tempo_some, shaped}

@@ -4,6 +4,8 @@
 #![tactic(auto)]
 
 ghost use Rattle.std.specs.Prelude.{◌≡◌, true, ◌+◌, ◌-◌, ◌*◌, ◌≤◌, ◌<◌, length};
+ghost use Rattle.numbers.specs.Outcomes.{listing};
+ghost use Rattle.numbers.specs.Refusals.{number_of};
 ghost use Rattle.numbers.specs.Lists.{filled};
 ghost use Rattle.texts.specs.Texts.{Put};
 ghost use Rattle.midi_gaps.specs.Gaps.{gaps_of, gaps_fit};
@@ -11,61 +13,51 @@ ghost use Rattle.midi_events.specs.File.{tempo_events, file_of};
 ghost use Rattle.midi_events.specs.Shapes.{track_room, gap_in};
 ghost use Rattle.midi.specs.Tracks.{write_refusal, read_refusal, TempoTrackPromise, TempoGapsPromise};
 
-use numbers::Listing;
+use numbers::Refusal;
 
 // Writes a grid of k beats as a file of k - 1 tempos into the first 26 + 7·(k-1) bytes; later bytes stay. Answers how many bytes it wrote.
 // Refuses: 1 a rate outside 1 to 192,000 or a beat above 1,048,575; 6 fewer than two beats, or beats that don't ascend strictly; 7 a gap above
 // 16,777,215 microseconds; 3 a file with fewer bytes. The first in this order is given, and then no byte changes. 8 can't arise: two frames lie
 // 1,333 microseconds apart or more.
-pub fn write_tempo_track(beats: &[u32], rate: u32, file: &mut [u8]) -> Listing
-    ensures { TempoTrackPromise beats.now rate file.old result file.new }
+pub fn write_tempo_track(beats: &[u32], rate: u32, file: &mut [u8]) -> Result<usize, Refusal>
+    ensures { TempoTrackPromise beats.now rate file.old (listing result) file.new }
 {
-    let number = write_refusal(beats, rate, file.len());
-    if number != 0 {
-        return Listing { number, count: 0 };
-    }
-    let count = put_track(beats, rate, file);
-    Listing { number: 0, count }
+    write_refusal(beats, rate, file.len())?;
+    Ok(put_track(beats, rate, file))
 }
 
 // Reads the gaps of such a file, in microseconds, into the first slots; later slots stay. Answers how many they are. Room: one slot for each gap.
 // Refuses: 8 anything but exactly what `write_tempo_track` writes of one gap or more, none of them 0 (it need not be that of a grid at some rate);
 // 3 fewer slots than gaps. The first in this order is given, and then no slot changes.
-pub fn read_tempo_track(file: &[u8], gaps: &mut [u32]) -> Listing
-    ensures { TempoGapsPromise file.now gaps.old result gaps.new }
+pub fn read_tempo_track(file: &[u8], gaps: &mut [u32]) -> Result<usize, Refusal>
+    ensures { TempoGapsPromise file.now gaps.old (listing result) gaps.new }
 {
-    let number = read_refusal(file, gaps.len());
-    if number != 0 {
-        return Listing { number, count: 0 };
-    }
+    read_refusal(file, gaps.len())?;
     let count = (file.len() - 26) / 7;
     list_gaps(file, count, gaps);
-    Listing { number: 0, count }
+    Ok(count)
 }
 
-fn write_refusal(beats: &[u32], rate: u32, room: usize) -> u32
-    ensures { result ≡ write_refusal beats.now rate room }
+fn write_refusal(beats: &[u32], rate: u32, room: usize) -> Result<(), Refusal>
+    ensures { number_of result ≡ write_refusal beats.now rate room }
 {
-    let number = midi_gaps::grid_refusal(beats, rate);
-    if number != 0 {
-        return number;
-    }
+    midi_gaps::grid_refusal(beats, rate)?;
     if room < 26 + (beats.len() - 1) * 7 {
-        return numbers::TOO_LITTLE_ROOM;
+        return Err(Refusal::TooLittleRoom);
     }
-    0
+    Ok(())
 }
 
-fn read_refusal(file: &[u8], room: usize) -> u32
-    ensures { result ≡ read_refusal file.now room }
+fn read_refusal(file: &[u8], room: usize) -> Result<(), Refusal>
+    ensures { number_of result ≡ read_refusal file.now room }
 {
     if !midi_events::is_shaped(file) {
-        return numbers::OTHER_SHAPE;
+        return Err(Refusal::OtherShape);
     }
     if room < (file.len() - 26) / 7 {
-        return numbers::TOO_LITTLE_ROOM;
+        return Err(Refusal::TooLittleRoom);
     }
-    0
+    Ok(())
 }
 
 // Writes the events of a grid from `from` on, and answers the place behind them.
@@ -76,11 +68,9 @@ fn put_events(beats: &[u32], rate: u32, file: &mut [u8], from: usize) -> usize
 {
     let count = beats.len() - 1;
     let mut at = from;
-    let mut i = 0;
-    while i < count {
+    for i in 0..count {
         let gap = midi_gaps::gap_at(beats, rate, i);
         at = midi_events::put_event(file, at, i, gap as u32);
-        i += 1;
     }
     at
 }
@@ -101,9 +91,7 @@ fn list_gaps(file: &[u8], count: usize, gaps: &mut [u32])
     requires { (track_room count ≤ length file.now) × (count ≤ length gaps.old) }
     ensures { gaps.new ≡ filled (gap_in file.now) gaps.old 0 count }
 {
-    let mut i = 0;
-    while i < count {
+    for i in 0..count {
         gaps[i] = midi_events::gap_in(file, i);
-        i += 1;
     }
 }

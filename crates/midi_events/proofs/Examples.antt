@@ -1,6 +1,6 @@
 -- A file worked by hand from the Standard MIDI Files 1.0 specification: gaps of 58,050 and 87,075 microseconds. Assumes nothing.
 use mathlib.Core.Path.{◌≡◌, refl}
-use mathlib.Core.Bool.{true, false}
+use mathlib.Core.Bool.{true}
 use mathlib.Core.List.{List, [], ◌∷◌}
 use Prim.Native.Nat.{ℕ}
 use Rattle.numbers.specs.Lists.{every}

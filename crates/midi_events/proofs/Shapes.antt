@@ -8,9 +8,9 @@ use lib.Dec.{eqb, leb, ltb}
 use lib.ListN.{length, get_or, drop, length-append, get_or-append, drop_of_length-le}
 use lib.Seq.{drop-drop, get_or-append-add, ext_get_or}
 use borrow.Author.Tests.{eqb-true, eq-eqb, ne_eqb, leb-true, le-leb, lt-leb, lt-ltb, le-ltb}
-use Rattle.numbers.specs.Lists.{curve, every}
-use Rattle.numbers.proofs.Everys.{every_step, every_end}
-use Rattle.numbers.proofs.Tests.{and_left, and_right, and_both, and-false, and-true, true_not_false}
+use Rattle.numbers.specs.Lists.{every}
+use Rattle.numbers.proofs.Everys.{every_step}
+use Rattle.numbers.proofs.Tests.{and_left, and_right, and_both, and-false, and-true}
 use Rattle.numbers.proofs.Tabs.{length-tab, get_or-curve}
 use Rattle.texts.specs.Texts.{starts, exactly}
 use Rattle.texts.proofs.Texts.{starts-append, exactly-is, exactly_own}

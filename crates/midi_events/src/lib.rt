@@ -124,8 +124,7 @@ fn events_stand(file: &[u8], count: usize) -> bool
     requires { (count ≡ count_in file.now) × (track_room count ≤ length file.now) }
     ensures { result ≡ (starts (tempo_events 0 (gaps_in file.now)) (drop 22 file.now) && every tempo_some (gaps_in file.now)) }
 {
-    let mut i = 0;
-    while i < count {
+    for i in 0..count {
         let gap = gap_in(file, i);
         if gap < 1 {
             return false;
@@ -133,7 +132,6 @@ fn events_stand(file: &[u8], count: usize) -> bool
         if !event_stands(file, i, gap) {
             return false;
         }
-        i += 1;
     }
     true
 }

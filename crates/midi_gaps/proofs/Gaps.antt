@@ -7,7 +7,7 @@ use native.Mathlib.Omega.{arith}
 use lib.ListN.{length, get_or, drop}
 use borrow.Author.Tests.{leb-true}
 use Rattle.numbers.specs.Limits.{at_most}
-use Rattle.numbers.specs.Lists.{curve, every, ascending}
+use Rattle.numbers.specs.Lists.{every, ascending}
 use Rattle.numbers.proofs.Ascents.{ascending_less}
 use Rattle.numbers.proofs.Tabs.{length-tab, get_or-curve}
 use Rattle.numbers.proofs.Everys.{every-at, every_step}

@@ -1,5 +1,5 @@
 -- What a call may rely on once it has refused nothing, and that a genuine similarity isn't refused.
-use mathlib.Core.Path.{◌≡◌}
+use mathlib.Core.Path.{◌≡◌, sym, ◌∙◌}
 use mathlib.Core.Bool.{true}
 use mathlib.Core.List.{List}
 use Prim.Native.Nat.{ℕ, ◌*◌, ◌≤◌}
@@ -8,12 +8,16 @@ use lib.ListN.{length}
 use lib.Ieee.{Float}
 use borrow.Author.Tests.{leb-true, eqb-true, le-leb, eq-eqb}
 use Rattle.numbers.specs.Limits.{most_features, similarity_fine}
+use Rattle.std.specs.Prelude.{Result, IsErrAnd}
+use Rattle.numbers.specs.Refusals.{number, number_of}
+use Rattle.numbers.specs.declared.Refusal.{Refusal}
+use Rattle.numbers.proofs.Outcomes.{number-not_0, handed_on}
 use Rattle.numbers.specs.Lists.{every, curve}
-use Rattle.numbers.proofs.Tests.{Passed, lowest-zero, lowest_0}
+use Rattle.numbers.proofs.Tests.{Passed, refused_keeps, lowest-zero, lowest_0}
 use Rattle.numbers.proofs.Tabs.{length-tab}
 use Rattle.row_pairs.specs.Pairs.{similarity_at}
 use Rattle.similarities.specs.Similarity.{similarity_number}
-use Rattle.novelties.specs.Novelty.{novelty_number}
+use Rattle.novelties.specs.Novelty.{novelty_number, NoveltyPromise}
 use Rattle.similarities.proofs.Calls.{SimilarityPassed, similarity_passed}
 use Rattle.row_pairs.proofs.Fine.{similarities_fine}
 
@@ -42,3 +46,10 @@ genuine_passes features rows room slots e h =
     let p = similarity_passed features rows room e in
     lowest_0 _ _ _ _ (le-leb _ _ p.few) (eq-eqb _ _ (length-tab (similarity_at features rows) 0 (rows * 17))) (le-leb _ _ h)
     (similarities_fine features rows p.whole p.fine)
+
+-- a refusal that `?` hands on, of which e is what refused, leaves the lent slots as they were
+pub novelty_refused : {A : Type 0} (similarity : List Float) (rows : ℕ) (was : List Float) (r : Result A Refusal) (e : Refusal) → IsErrAnd r (λ (x : Refusal). x ≡ e)
+    → number e ≡ novelty_number similarity rows (length was) → NoveltyPromise similarity rows was (number_of r) was
+novelty_refused similarity rows was r e h k =
+    let n : number_of r ≡ number e = handed_on r e h in
+    record { answer = n ∙ k; slots = sym (refused_keeps _ _ _ (λ z. number-not_0 e (k ∙ z))) }

@@ -5,6 +5,7 @@
 
 ghost use Rattle.std.specs.Prelude.{◌≡◌, ℕ, ◌+◌, ◌-◌, ◌*◌, ◌^◌, ◌≤◌, ◌<◌, min, max, length, get_or};
 ghost use Rattle.std.specs.Float.{nan};
+ghost use Rattle.numbers.specs.Refusals.{number_of};
 ghost use Rattle.numbers.specs.Lists.{filled};
 ghost use Rattle.kernels.specs.Kernel.{places, middle, kernel_table};
 ghost use Rattle.row_pairs.specs.Pairs.{band_width};
@@ -12,10 +13,7 @@ ghost use Rattle.novelties.specs.Novelty.{slot_of, add_term, add_row, novelty_at
 ghost use Rattle.novelties.specs.Lanes.{lane_count, span, stride, near_room, near_slot, laid_apart, Gathered, lane_term, lane_row, lane_whole, lane_from};
 
 use kernels::kernel;
-use numbers::{
-    MOST_FEATURES, OUT_OF_BOUNDS, TOO_LITTLE_ROOM, WRONG_LENGTH, WRONG_VALUE, greatest, least,
-    less, similarities_fine,
-};
+use numbers::{MOST_FEATURES, Refusal, similarities_fine};
 use similarities::BAND_WIDTH;
 
 // places of the kernel's table: offsets -8 to 7 from a row
@@ -33,37 +31,34 @@ const SPAN: usize = 39;
 // slots from the similarities of one distance to those of the next: whole vectors
 const STRIDE: usize = 40;
 
-// the number that novelty gives
-fn novelty_number(similarity: &[f64], rows: usize, room: usize) -> u32
-    ensures { result ≡ novelty_number similarity.now rows room }
+// what novelty refuses
+fn refusal(similarity: &[f64], rows: usize, room: usize) -> Result<(), Refusal>
+    ensures { number_of result ≡ novelty_number similarity.now rows room }
 {
     if rows > MOST_FEATURES {
-        return OUT_OF_BOUNDS;
+        return Err(Refusal::OutOfBounds);
     }
     if similarity.len() != rows * BAND_WIDTH {
-        return WRONG_LENGTH;
+        return Err(Refusal::WrongLength);
     }
     if room < rows {
-        return TOO_LITTLE_ROOM;
+        return Err(Refusal::TooLittleRoom);
     }
     if !similarities_fine(similarity) {
-        return WRONG_VALUE;
+        return Err(Refusal::WrongValue);
     }
-    0
+    Ok(())
 }
 
 // Writes novelty[0..rows] from a similarity of rows * 17 slots; slots past rows stay.
 // Refuses 1 to 4 and then writes nothing: 1 for more than 50,000 rows, 2 for another length of the similarity, 3 for fewer than rows slots of
 // novelty, 4 for a similarity that isn't within -1 to 1.
-pub fn novelty(similarity: &[f64], rows: usize, novelty: &mut [f64]) -> u32
-    ensures { NoveltyPromise similarity.now rows novelty.old result novelty.new }
+pub fn novelty(similarity: &[f64], rows: usize, novelty: &mut [f64]) -> Result<(), Refusal>
+    ensures { NoveltyPromise similarity.now rows novelty.old (number_of result) novelty.new }
 {
-    let number = novelty_number(similarity, rows, novelty.len());
-    if number != 0 {
-        return number;
-    }
+    refusal(similarity, rows, novelty.len())?;
     fill_novelty(similarity, rows, 0, rows, novelty);
-    0
+    Ok(())
 }
 
 // the slot of the pair of rows a and b
@@ -123,10 +118,8 @@ fn add_row(
     ensures { result ≡ add_row similarity.now rows i u sum }
 {
     let mut total = sum;
-    let mut v = low;
-    while v < past {
+    for v in low..past {
         total = add_term(table, similarity, rows, i, u, v, total);
-        v += 1;
     }
     total
 }
@@ -137,13 +130,11 @@ pub fn novelty_slot(table: &[[f64; 16]; 16], similarity: &[f64], rows: usize, i:
     requires { (table.now ≡ kernel_table) × (length similarity.now ≡ rows * band_width) × (i < rows) }
     ensures { result ≡ novelty_at similarity.now rows i }
 {
-    let low = less(MIDDLE, i);
-    let past = least(PLACES, rows + MIDDLE - i);
+    let low = MIDDLE.saturating_sub(i);
+    let past = PLACES.min(rows + MIDDLE - i);
     let mut total = 0.0;
-    let mut u = low;
-    while u < past {
+    for u in low..past {
         total = add_row(table, similarity, rows, i, low, past, u, total);
-        u += 1;
     }
     total
 }
@@ -164,10 +155,8 @@ fn fill_plain(
         × (past ≤ length novelty.old) }
     ensures { novelty.new ≡ filled (novelty_at similarity.now rows) novelty.old from past }
 {
-    let mut i = from;
-    while i < past {
+    for i in from..past {
         novelty[i] = novelty_slot(table, similarity, rows, i);
-        i += 1;
     }
 }
 
@@ -177,10 +166,8 @@ fn gather_apart(similarity: &[f64], first: usize, d: usize, near: &mut [f64; 640
     requires { (d < places) × (first + d + band_width * (span - 1) < length similarity.now) × (length near.old ≡ near_room) }
     ensures { near.new ≡ filled (laid_apart similarity.now first d) near.old (d * stride) (d * stride + span) }
 {
-    let mut r = 0;
-    while r < SPAN {
+    for r in 0..SPAN {
         near[d * STRIDE + r] = similarity[first + d + BAND_WIDTH * r];
-        r += 1;
     }
 }
 
@@ -191,10 +178,8 @@ pub fn gather(similarity: &[f64], row: usize, near: &mut [f64; 640])
     ensures { Gathered similarity.now (row * band_width) places near.new }
 {
     let first = row * BAND_WIDTH;
-    let mut d = 0;
-    while d < PLACES {
+    for d in 0..PLACES {
         gather_apart(similarity, first, d, near);
-        d += 1;
     }
 }
 
@@ -216,10 +201,8 @@ fn add_lanes(lanes: &mut [f64; 24], weight: f64, near: &[f64; 640], k: usize)
     requires { (length lanes.old ≡ lane_count) × (k + lane_count ≤ near_room) }
     ensures { lanes.new ≡ filled (lane_term lanes.old weight near.now k) lanes.old 0 lane_count }
 {
-    let mut j = 0;
-    while j < LANES {
+    for j in 0..LANES {
         lanes[j] = lanes[j] + weight * near[k + j];
-        j += 1;
     }
 }
 
@@ -228,10 +211,8 @@ fn add_row_lanes(table: &[[f64; 16]; 16], near: &[f64; 640], u: usize, lanes: &m
     requires { (table.now ≡ kernel_table) × (u < places) × (length lanes.old ≡ lane_count) }
     ensures { lanes.new ≡ filled (lane_row lanes.old near.now u) lanes.old 0 lane_count }
 {
-    let mut v = 0;
-    while v < PLACES {
+    for v in 0..PLACES {
         add_lanes(lanes, table[u][v], near, near_slot(u, v));
-        v += 1;
     }
 }
 
@@ -241,10 +222,8 @@ pub fn block_slots(table: &[[f64; 16]; 16], near: &[f64; 640]) -> [f64; 24]
     ensures { (j : ℕ) → j < lane_count → get_or result j nan ≡ lane_whole near.now j }
 {
     let mut lanes = [0.0; 24];
-    let mut u = 0;
-    while u < PLACES {
+    for u in 0..PLACES {
         add_row_lanes(table, near, u, &mut lanes);
-        u += 1;
     }
     lanes
 }
@@ -254,10 +233,8 @@ fn put_part(values: &[f64; 24], first: usize, from: usize, past: usize, novelty:
     requires { (first ≤ from) × (from ≤ past) × (past ≤ first + lane_count) × (past ≤ length novelty.old) }
     ensures { novelty.new ≡ filled (lane_from values.now first) novelty.old from past }
 {
-    let mut k = from;
-    while k < past {
+    for k in from..past {
         novelty[k] = values[k - first];
-        k += 1;
     }
 }
 
@@ -282,9 +259,10 @@ fn fill_blocks(
 {
     let mut near = [0.0; 640];
     let mut i = from;
+    // Kept as a while: the last block begins where it still fits, so the places of blocks are no range.
     while i < past {
-        let first = least(i, rows - REST);
-        let end = least(first + LANES, past);
+        let first = i.min(rows - REST);
+        let end = (first + LANES).min(past);
         gather(similarity, first - MIDDLE, &mut near);
         let values = block_slots(table, &near);
         put_part(&values, first, i, end, novelty);
@@ -302,8 +280,8 @@ pub fn fill_novelty(similarity: &[f64], rows: usize, from: usize, past: usize, n
         fill_plain(&table, similarity, rows, from, past, novelty);
         return;
     }
-    let start = least(greatest(from, MIDDLE), past);
-    let stop = greatest(start, least(past, rows - ON));
+    let start = from.max(MIDDLE).min(past);
+    let stop = start.max(past.min(rows - ON));
     fill_plain(&table, similarity, rows, from, start, novelty);
     fill_blocks(&table, similarity, rows, start, stop, novelty);
     fill_plain(&table, similarity, rows, stop, past, novelty);

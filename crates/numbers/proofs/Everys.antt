@@ -1,7 +1,7 @@
 -- A test of every entry of a list.
 use mathlib.Core.Path.{◌≡◌, refl, sym, ap, ◌∙◌}
 use mathlib.Core.List.{List, [], ◌∷◌, ◌++◌}
-use mathlib.Core.Bool.{Bool, true, false, ◌&&◌}
+use mathlib.Core.Bool.{Bool, true, ◌&&◌}
 use Prim.Native.Nat.{ℕ, zero, suc, ◌+◌, ◌-◌, ◌*◌, ◌≤◌, ◌<◌}
 use native.Mathlib.Nat.{not-suc-le-zero, le_of_suc-le-suc}
 use native.Mathlib.Numerals.{add-one}
@@ -9,7 +9,7 @@ use native.Mathlib.Omega.{arith}
 use lib.ListN.{length, get_or, take, drop, length-drop, drop_of_length-le}
 use lib.Seq.{drop-cons, drop-drop, take-length}
 use Rattle.numbers.specs.Lists.{tab, every}
-use Rattle.numbers.proofs.Tests.{and_left, and_right, and_both, and_assoc, and_assoc_4, and_push, and_push_4}
+use Rattle.numbers.proofs.Tests.{and-true, and_left, and_right, and_both, and_assoc, and_assoc_4, and_push, and_push_4}
 
 module _ {A : Type 0} (p : A → Bool) where
   -- the list from slot i on: its first entry, then the rest
@@ -21,26 +21,31 @@ module _ {A : Type 0} (p : A → Bool) where
   unfolding every
   every_end s i h = rw drop_of_length-le
 
-  -- what is left from slot i on, and what was found before it: the entry goes to what was found
-  pub every_step_1 : (s : List A) (i : ℕ) (z : A) (fine : Bool) → i < length s
-      → (every p (drop i s) && fine) ≡ (every p (drop (i + 1) s) && (p (get_or s i z) && fine))
-  every_step_1 s i z fine h = ap (λ (b : Bool). b && fine) (every_step s i z h) ∙ and_push (p (get_or s i z)) (every p (drop (i + 1) s)) fine
+  -- what is left from slot i on, and what was found before it: what the test answers of the entry goes to what was found
+  pub every_step_1 : (s : List A) (i : ℕ) (z : A) (fine : Bool) {here all : Bool} → i < length s → here ≡ p (get_or s i z)
+      → all ≡ (every p (drop i s) && fine) → all ≡ (every p (drop (i + 1) s) && (here && fine))
+  every_step_1 s i z fine {here} h e f =
+      f ∙ ap (λ (b : Bool). b && fine) (every_step s i z h ∙ ap (λ (b : Bool). b && every p (drop (i + 1) s)) (sym e)) ∙ and_push here _ fine
 
   -- what is left of four lists from slot i on, and what was found before it
   abbrev pub every_4 : List A → List A → List A → List A → ℕ → Bool → Bool
   every_4 a b c d i fine = every p (drop i a) && (every p (drop i b) && (every p (drop i c) && (every p (drop i d) && fine)))
 
   module _ (a b c d : List A) (i : ℕ) (fine : Bool) where
-    pub every_step_4 : (z : A) → i < length a → i < length b → i < length c → i < length d
-        → every_4 a b c d i fine ≡ every_4 a b c d (i + 1) (p (get_or a i z) && (p (get_or b i z) && (p (get_or c i z) && (p (get_or d i z) && fine))))
-    every_step_4 z ha hb hc hd =
-        let at : List A → Bool = λ s. p (get_or s i z) in
+    pub every_step_4 : (w x y z : A) {fa fb fc fd all : Bool} → i < length a → i < length b → i < length c → i < length d
+        → fa ≡ p (get_or a i w) → fb ≡ p (get_or b i x) → fc ≡ p (get_or c i y) → fd ≡ p (get_or d i z)
+        → all ≡ every_4 a b c d i fine → all ≡ every_4 a b c d (i + 1) (fa && (fb && (fc && (fd && fine))))
+    every_step_4 w x y z {fa} {fb} {fc} {fd} ha hb hc hd ea eb ec ed e =
         let rest : List A → Bool = λ s. every p (drop (i + 1) s) in
-        rw (every_step a i z ha, every_step b i z hb, every_step c i z hc, every_step d i z hd)
-        (and_push_4 (at a) (at b) (at c) (at d) (rest a) (rest b) (rest c) (rest d) fine)
+        e ∙ rw (every_step a i w ha, every_step b i x hb, every_step c i y hc, every_step d i z hd, ← ea, ← eb, ← ec, ← ed)
+        (and_push_4 fa fb fc fd (rest a) (rest b) (rest c) (rest d) fine)
 
-    pub every_end_4 : length a ≤ i → length b ≤ i → length c ≤ i → length d ≤ i → every_4 a b c d i fine ≡ fine
-    every_end_4 ha hb hc hd = rw (every_end a i ha, every_end b i hb, every_end c i hc, every_end d i hd)
+    -- at the end of each list what was found is the test of all four
+    pub every_end_4 : length a ≤ i → length b ≤ i → length c ≤ i → length d ≤ i → every_4 a b c d 0 true ≡ every_4 a b c d i fine
+        → fine ≡ (every p a && (every p b && (every p c && every p d)))
+    every_end_4 ha hb hc hd e =
+        let found : every_4 a b c d i fine ≡ fine = rw (every_end a i ha, every_end b i hb, every_end c i hc, every_end d i hd) in
+        sym (e ∙ found) ∙ rw (sym (and-true (every p d)))
 
   pub every-at : (s : List A) (i : ℕ) (z : A) → every p s ≡ true → i < length s → p (get_or s i z) ≡ true
   unfolding every
@@ -66,7 +71,7 @@ module _ {A : Type 0} (p : A → Bool) where
   every_split (x ∷ xs) (suc i) = ap (λ (b : Bool). p x && b) (every_split xs i) ∙ sym (and_assoc (p x) (every p (take i xs)) (every p (drop i xs)))
 
   -- the test of the slots from a up to, not including, e
-  abbrev pub every_part : List A → ℕ → ℕ → Bool
+  abbrev every_part : List A → ℕ → ℕ → Bool
   every_part s a e = every p (take (e - a) (drop a s))
 
   every_next : (s : List A) (q a e : ℕ) → e ≡ a + q → every p (drop a s) ≡ (every_part s a e && every p (drop e s))

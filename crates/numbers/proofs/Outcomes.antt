@@ -1,20 +1,78 @@
 -- What a call that writes a lent list promises, and one that lists: a refusal and an answer each meet it, and any two outcomes that it permits coincide.
 -- Then room that is left open; and what is said of the slots from one on holds of those from a later one on.
-use mathlib.Core.List.{List}
+use mathlib.Core.List.{List, [], ◌∷◌}
 use mathlib.Core.Path.{◌≡◌, refl, sym, ap, ◌∙◌, subst}
 use Prim.Native.Nat.{ℕ, ◌+◌, ◌-◌, ◌≤◌, zero-le}
 use native.Mathlib.Omega.{arith}
-use lib.ListN.{length, drop}
+use lib.ListN.{length, drop, get_or}
 use lib.Seq.{drop-drop, drop_at}
 use Rattle.numbers.specs.Lists.{curve, filled, listed}
-use Rattle.numbers.specs.declared.Listing.{Listing}
-use Rattle.numbers.specs.Outcomes.{Written, ListWritten, Open, OpenUnless}
+use Rattle.std.specs.Prelude.{Result, Ok, Err, IsErrAnd}
+use Rattle.numbers.specs.Refusals.{number_of}
+use Rattle.numbers.specs.Refusals as Refusals
+use Rattle.numbers.specs.declared.Refusal.{Refusal}
+use Rattle.numbers.specs.declared.Refusal.TheVariants.{OutOfBounds, WrongLength, TooLittleRoom, WrongValue, Malformed, WrongGrid, GapTooLong, OtherShape}
+use Rattle.numbers.specs.declared.Refusal.TheVariants.{NotOfThisForm, NoListedFrame, NotAscending}
+use Rattle.numbers.specs.Outcomes.{listing, Listing, Written, ListWritten, Open, OpenUnless}
 use Rattle.numbers.proofs.Tests.{refused_keeps, passed_does}
 use Rattle.numbers.proofs.Tabs.{length-tab, length-filled, filled-whole}
+
+-- a refusal has a number
+pub number-not_0 : (e : Refusal) → Refusals.number e ≡ 0 → ⊥
+number-not_0 OutOfBounds h = cc
+number-not_0 WrongLength h = cc
+number-not_0 TooLittleRoom h = cc
+number-not_0 WrongValue h = cc
+number-not_0 Malformed h = cc
+number-not_0 WrongGrid h = cc
+number-not_0 GapTooLong h = cc
+number-not_0 OtherShape h = cc
+number-not_0 NotOfThisForm h = cc
+number-not_0 NoListedFrame h = cc
+number-not_0 NotAscending h = cc
+
+-- the refusals by their numbers; none has number 0
+refusals : List Refusal
+refusals =
+    OutOfBounds ∷ OutOfBounds ∷ WrongLength ∷ TooLittleRoom ∷ WrongValue ∷ Malformed ∷ WrongGrid ∷ GapTooLong ∷ OtherShape ∷ NotOfThisForm
+    ∷ NoListedFrame ∷ NotAscending ∷ []
+
+refusal-of : ℕ → Refusal
+refusal-of k = get_or refusals k NotAscending
+
+refusal-is : (e : Refusal) → refusal-of (Refusals.number e) ≡ e
+unfolding refusal-of refusals
+refusal-is OutOfBounds = refl
+refusal-is WrongLength = refl
+refusal-is TooLittleRoom = refl
+refusal-is WrongValue = refl
+refusal-is Malformed = refl
+refusal-is WrongGrid = refl
+refusal-is GapTooLong = refl
+refusal-is OtherShape = refl
+refusal-is NotOfThisForm = refl
+refusal-is NoListedFrame = refl
+refusal-is NotAscending = refl
+
+-- a number is one refusal's
+pub number-one : (a b : Refusal) → Refusals.number a ≡ Refusals.number b → a ≡ b
+number-one a b e = sym (refusal-is a) ∙ ap refusal-of e ∙ refusal-is b
+
+-- what `?` hands on has the number of the refusal that it was given
+pub handed_on : {A : Type 0} (r : Result A Refusal) (e : Refusal) → IsErrAnd r (λ (x : Refusal). x ≡ e) → number_of r ≡ Refusals.number e
+handed_on (Ok a) e h = absurd h
+handed_on (Err x) e h = ap Refusals.number h
 
 module _ {A : Type 0} (number : ℕ) (done was : List A) where
   pub written_refused : (answer : ℕ) → answer ≡ number → (answer ≡ 0 → ⊥) → Written number done was answer was
   written_refused answer e h = record { number_is = e; slots_are = sym (refused_keeps number done was (λ z. h (e ∙ z))) }
+
+  -- a refusal that `?` hands on: e is what refused
+  pub written_on : {B : Type 0} (r : Result B Refusal) (e : Refusal) → IsErrAnd r (λ (x : Refusal). x ≡ e) → Refusals.number e ≡ number
+      → Written number done was (number_of r) was
+  written_on r e h n =
+      let k : number_of r ≡ Refusals.number e = handed_on r e h in
+      written_refused (number_of r) (k ∙ n) (λ z. number-not_0 e (sym k ∙ z))
 
   pub written-done : (after : List A) → number ≡ 0 → after ≡ done → Written number done was 0 after
   written-done after z e = record { number_is = sym z; slots_are = e ∙ sym (passed_does number done was z) }
@@ -41,6 +99,13 @@ module _ (number : ℕ) (entries was : List ℕ) where
         count_is = c ∙ sym (passed_does number (length entries) 0 z);
         frames_are = l ∙ sym (passed_does number (listed entries was) was z);
       }
+
+  -- a refusal that `?` hands on: e is what refused
+  pub lists_on : (r : Result ℕ Refusal) (e : Refusal) → IsErrAnd r (λ (x : Refusal). x ≡ e) → Refusals.number e ≡ number
+      → ListWritten number entries was (listing r) was
+  lists_on (Ok n) e h k = absurd h
+  lists_on (Err x) e h k =
+      lists_refused (listing (Err x)) (ap Refusals.number h ∙ k) (λ z. number-not_0 x z) refl
 
   -- any two outcomes coincide
   pub lists_unique : {a b : Listing} {x y : List ℕ} → ListWritten number entries was a x → ListWritten number entries was b y

@@ -1,13 +1,13 @@
 -- A list written over a lent one, and rows of a slab: which rows a patch leaves alone.
-use mathlib.Core.Path.{◌≡◌, refl, sym, ap, ◌∙◌}
-use mathlib.Core.Logic.{◌⊎◌, inl, inr, ⊎_elim}
-use mathlib.Core.List.{List, [], ◌∷◌, ◌++◌}
+use mathlib.Core.Path.{◌≡◌, sym, ap, ◌∙◌}
+use mathlib.Core.Logic.{◌⊎◌, inl, inr}
+use mathlib.Core.List.{List, [], ◌++◌}
 use mathlib.Core.Bool.{Bool, true}
-use Prim.Native.Nat.{ℕ, zero, suc, ◌+◌, ◌-◌, ◌*◌, ◌≤◌, ◌<◌, min}
+use Prim.Native.Nat.{ℕ, ◌+◌, ◌-◌, ◌*◌, ◌≤◌, ◌<◌, min}
 use native.Mathlib.Nat.{add-mul, suc-mul, mul-le-mul_right, min-le_left}
 use native.Mathlib.Omega.{arith}
-use lib.ListN.{length, get_or, take, drop, length-take, length-drop, length-append, get_or-append}
-use lib.Seq.{paste, paste-zero, length-paste, length_paste_head, length-take-le, get_or-take, get_or-drop, get_or-append-add, ext_get_or}
+use lib.ListN.{length, get_or, take, drop, length-take, length-drop, get_or-append}
+use lib.Seq.{paste-zero, length-paste, length_paste_head, length-take-le, get_or-take, get_or-drop, get_or-append-add, ext_get_or}
 use Rattle.numbers.specs.Lists.{row, over, every}
 use Rattle.numbers.proofs.Everys.{every_append, every_take, every_drop}
 

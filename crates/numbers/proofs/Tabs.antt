@@ -6,7 +6,7 @@ use Prim.Native.Nat.{ℕ, zero, suc, ◌+◌, ◌-◌, ◌≤◌, ◌<◌}
 use native.Mathlib.Nat.{not-suc-le-zero, le_of_suc-le-suc, add-zero, add-suc, suc-add, le_refl, zero-add, sub-zero}
 use native.Mathlib.Numerals.{add-one}
 use native.Mathlib.Omega.{arith}
-use lib.ListN.{length, get_or, set, take, drop, length-append, length-drop, take-append-drop, get_or-append, length-set}
+use lib.ListN.{length, get_or, set, take, drop, length-append, length-drop, take-append-drop, get_or-append}
 use lib.Seq.{drop-cons, take_at, set_at, append_snoc, length-take-le, get_or-append-add, get_or-drop, get_or-take, ext_get_or}
 use Rattle.numbers.specs.Lists.{tab, curve, filled, listed}
 use Rattle.numbers.proofs.Tests.{lt_or_le}

@@ -1,10 +1,10 @@
 -- A curve made of windows of another curve, cut at its ends: which of its slots a change of the other can change.
-use mathlib.Core.Path.{◌≡◌, refl, sym, ap, ◌∙◌}
+use mathlib.Core.Path.{◌≡◌, sym, ap, ◌∙◌}
 use mathlib.Core.Logic.{◌⊎◌, inl, inr, ⊎_elim}
 use mathlib.Core.List.{List}
 use Prim.Native.Nat.{ℕ, ◌+◌, ◌-◌, ◌≤◌, ◌<◌, min}
 use native.Mathlib.Omega.{arith}
-use lib.ListN.{length, get_or, take, drop}
+use lib.ListN.{length, get_or, take}
 use lib.Seq.{slice, get_or-take, get_or-drop, ext_get_or, length-slice}
 use Rattle.numbers.specs.Lists.{curve, filled, around}
 use Rattle.numbers.proofs.Tabs.{local_curve}

@@ -1,6 +1,6 @@
 -- Document 01, "After an answer, curves hold their definitions, lists hold their entries first, and later slots are unchanged":
 -- the vocabulary of lists that every contract is written in.
-use Rattle.std.specs.Prelude.{ℕ, zero, suc, ◌+◌, ◌-◌, ◌*◌, min, Bool, true, false, ◌&&◌, leb, List, [], ◌∷◌, ◌++◌, length, take, drop}
+use Rattle.std.specs.Prelude.{◌≡◌, ℕ, zero, suc, ◌+◌, ◌-◌, ◌*◌, min, Bool, true, false, ◌&&◌, leb, List, [], ◌∷◌, ◌++◌, length, take, drop}
 use Rattle.std.proofs.Math.Seq.{paste}
 
 module _ {A : Type 0} where
@@ -29,6 +29,10 @@ module _ {A : Type 0} where
   unfoldable pub every : (A → Bool) → List A → Bool
   every p [] = true
   every p (x ∷ xs) = p x && every p xs
+
+  -- a call whose answers are the test's
+  abbrev pub IsTest : (A → Bool → Type 0) → (A → Bool) → Type 0
+  IsTest answers p = (x : A) (r : Bool) → answers x r → r ≡ p x
 
   -- row t of a slab with b entries a row
   unfoldable pub row : List A → ℕ → ℕ → List A

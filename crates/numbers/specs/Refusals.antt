@@ -1,6 +1,9 @@
 -- Document 01, the table of refusals: "The lowest number that applies is given. A refusal changes nothing lent." The numbers from 6 on are those
 -- of document 02's requests, which say their own order.
-use Rattle.std.specs.Prelude.{ℕ, zero, suc, Bool, true, false, List, [], ◌∷◌}
+use Rattle.std.specs.Prelude.{ℕ, zero, suc, Bool, true, false, List, [], ◌∷◌, Result, Ok, Err}
+use Rattle.numbers.specs.declared.Refusal.{Refusal}
+use Rattle.numbers.specs.declared.Refusal.TheVariants.{OutOfBounds, WrongLength, TooLittleRoom, WrongValue, Malformed, WrongGrid, GapTooLong, OtherShape}
+use Rattle.numbers.specs.declared.Refusal.TheVariants.{NotOfThisForm, NoListedFrame, NotAscending}
 
 -- "a number is outside the bounds above (the size of lent values is number 4's), a patch's start exceeds its row count, a median's
 -- list is empty, or a lent peak list isn't strictly ascending or points past its curve"
@@ -47,6 +50,25 @@ no_listed_frame = 10
 -- "11 for frames not strictly ascending"
 abbrev pub not_ascending : ℕ
 not_ascending = 11
+
+-- the number of a refusal in the table
+abbrev pub number : Refusal → ℕ
+number OutOfBounds = out_of_bounds
+number WrongLength = wrong_length
+number TooLittleRoom = too_little_room
+number WrongValue = wrong_value
+number Malformed = malformed
+number WrongGrid = wrong_grid
+number GapTooLong = gap_too_long
+number OtherShape = other_shape
+number NotOfThisForm = not_of_this_form
+number NoListedFrame = no_listed_frame
+number NotAscending = not_ascending
+
+-- "0: none below applies", and else the number of the refusal
+abbrev pub number_of : {A : Type 0} → Result A Refusal → ℕ
+number_of (Ok answer) = 0
+number_of (Err refusal) = number refusal
 
 -- the number k unless the test holds, and then the rest
 abbrev pub unless : Bool → ℕ → ℕ → ℕ

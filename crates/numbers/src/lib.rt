@@ -3,10 +3,10 @@
 // Inner calls: the crates above share them, and no caller of the library needs them. None refuses anything.
 #![tactic(auto)]
 
-ghost use Rattle.std.specs.Prelude.{◌≡◌, true, ◌&&◌, ◌-◌, min, max, length};
+ghost use Rattle.std.specs.Prelude.{◌≡◌, true, ◌&&◌, length};
 ghost use Rattle.numbers.specs.Limits.{sized, magnitude_fine, value_fine, similarity_fine, rate_fine, slab_fine, slab_whole};
-ghost use Rattle.numbers.specs.Refusals.{unless};
-ghost use Rattle.numbers.specs.Lists.{every};
+ghost use Rattle.numbers.specs.Refusals.{number, number_of, unless};
+ghost use Rattle.numbers.specs.Lists.{every, IsTest};
 
 // samples a second
 pub const MOST_RATE: u32 = 192_000;
@@ -37,28 +37,40 @@ const VALUE_TOP: f64 = 1427247692705959881058285969449495136382746624.0;
 // the size of a similarity
 const SIMILARITY_TOP: f64 = 1.0;
 
-// The numbers of refusal.
-pub const OUT_OF_BOUNDS: u32 = 1;
+// Why a call refuses: a row of the table of refusals. What C is told is its number there.
+#[derive(Clone, Copy, Debug, PartialEq, Eq)]
+pub enum Refusal {
+    OutOfBounds = 1,
+    WrongLength = 2,
+    TooLittleRoom = 3,
+    WrongValue = 4,
+    Malformed = 5,
+    WrongGrid = 6,
+    GapTooLong = 7,
+    OtherShape = 8,
+    NotOfThisForm = 9,
+    NoListedFrame = 10,
+    NotAscending = 11,
+}
 
-pub const WRONG_LENGTH: u32 = 2;
+impl Refusal {
+    // Its number in the table, 1 to 11.
+    pub fn number(self) -> u32
+        ensures { result ≡ number self }
+    {
+        self as u32
+    }
+}
 
-pub const TOO_LITTLE_ROOM: u32 = 3;
-
-pub const WRONG_VALUE: u32 = 4;
-
-pub const MALFORMED: u32 = 5;
-
-pub const WRONG_GRID: u32 = 6;
-
-pub const GAP_TOO_LONG: u32 = 7;
-
-pub const OTHER_SHAPE: u32 = 8;
-
-pub const NOT_OF_THIS_FORM: u32 = 9;
-
-pub const NO_LISTED_FRAME: u32 = 10;
-
-pub const NOT_ASCENDING: u32 = 11;
+// The number of an answer: 0, or that of its refusal.
+pub fn number_of<T>(answer: &Result<T, Refusal>) -> u32
+    ensures { result ≡ number_of answer.now }
+{
+    match answer {
+        Ok(_) => 0,
+        Err(refusal) => refusal.number(),
+    }
+}
 
 // The shape of a slab of magnitudes: so many rows of so many bins, one row behind the other.
 #[derive(Clone, Copy)]
@@ -67,39 +79,11 @@ pub struct Slab {
     pub bins: usize,
 }
 
-// What a call that lists frames or rows, or writes the bytes of a file, answers: its number, and how many entries it listed (0 where it refuses).
-#[derive(Clone, Copy)]
-pub struct Listing {
-    pub number: u32,
-    pub count: usize,
-}
-
-// Inner: the smaller of two.
-pub fn least(a: usize, b: usize) -> usize
-    ensures { result ≡ min a b }
+// Inner: a row of a call's table: it refuses unless its test holds, and then the rows behind it say.
+pub fn unless(holds: bool, refusal: Refusal, rest: Result<(), Refusal>) -> Result<(), Refusal>
+    ensures { number_of result ≡ unless holds (number refusal) (number_of rest) }
 {
-    if a < b { a } else { b }
-}
-
-// Inner: the larger of two.
-pub fn greatest(a: usize, b: usize) -> usize
-    ensures { result ≡ max a b }
-{
-    if a < b { b } else { a }
-}
-
-// Inner: a - b, or 0 where b is larger.
-pub fn less(a: usize, b: usize) -> usize
-    ensures { result ≡ a - b }
-{
-    if a < b { 0 } else { a - b }
-}
-
-// Inner: a row of a call's table: its number unless its test holds, and then what the rows behind it say.
-pub fn unless(holds: bool, number: u32, rest: u32) -> u32
-    ensures { result ≡ unless holds number rest }
-{
-    if holds { rest } else { number }
+    if holds { rest } else { Err(refusal) }
 }
 
 // Inner: whether a sample rate is 1 to 192,000.
@@ -147,130 +131,75 @@ pub fn value_fine(x: f64) -> bool
     size_fine(x, VALUE_TOP)
 }
 
-// Inner: whether a magnitude is fine, and what was found before it.
-fn still_fine(x: f32, fine: bool) -> bool
-    ensures { result ≡ (magnitude_fine x && fine) }
+// Inner: whether a similarity is within -1 to 1.
+fn similarity_fine(x: f64) -> bool
+    ensures { result ≡ similarity_fine x }
 {
-    if magnitude_fine(x) { fine } else { false }
+    size_fine(x, SIMILARITY_TOP)
 }
 
-// Inner: whether every magnitude of four runs of one length is fine. One flat pass with no early exit: the compiler runs it on several
-// lanes, and the four runs come from memory side by side.
-fn runs_fine(a: &[f32], b: &[f32], c: &[f32], d: &[f32]) -> bool
+// Inner: whether every entry of four runs of one length passes the test. One flat pass with no early exit: no test waits for another's answer,
+// and the four runs come from memory side by side.
+fn runs_pass<T: Copy, F: Fn(T) -> bool>(a: &[T], b: &[T], c: &[T], d: &[T], test: &F) -> bool
+    requires callable { F.IsAlwaysCallable test.now }
     requires b_len { length b.now ≡ length a.now }
     requires c_len { length c.now ≡ length a.now }
     requires d_len { length d.now ≡ length a.now }
-    ensures { result ≡
-        (every magnitude_fine a.now
-        && (every magnitude_fine b.now && (every magnitude_fine c.now && every magnitude_fine d.now))) }
+    ensures { (p : _) → IsTest (F.post test.now) p → result ≡
+        (every p a.now && (every p b.now && (every p c.now && every p d.now))) }
 {
     let mut fine = true;
-    let mut i = 0;
-    while i < a.len() {
-        fine = still_fine(
-            a[i],
-            still_fine(b[i], still_fine(c[i], still_fine(d[i], fine))),
-        );
-        i += 1;
+    for i in 0..a.len() {
+        fine = test(a[i]) & (test(b[i]) & (test(c[i]) & (test(d[i]) & fine)));
     }
     fine
 }
 
-// Inner: whether every magnitude of one run is fine.
-fn run_fine(s: &[f32]) -> bool
-    ensures { result ≡ every magnitude_fine s.now }
+// Inner: whether every entry of one run passes the test.
+fn run_passes<T: Copy, F: Fn(T) -> bool>(s: &[T], test: &F) -> bool
+    requires { F.IsAlwaysCallable test.now }
+    ensures { (p : _) → IsTest (F.post test.now) p → result ≡ every p s.now }
 {
     let mut fine = true;
-    let mut i = 0;
-    while i < s.len() {
-        fine = still_fine(s[i], fine);
-        i += 1;
+    for &x in s {
+        fine = test(x) & fine;
     }
     fine
 }
 
-// Inner: whether every magnitude is fine: four quarters side by side, then the at most three that are left.
-pub fn magnitudes_fine(s: &[f32]) -> bool
-    ensures { result ≡ every magnitude_fine s.now }
+// Inner: whether every entry passes the test: four quarters side by side, then the at most three that are left.
+pub fn all_pass<T: Copy, F: Fn(T) -> bool>(s: &[T], test: F) -> bool
+    requires { F.IsAlwaysCallable test }
+    ensures { (p : _) → IsTest (F.post test) p → result ≡ every p s.now }
 {
     let q = s.len() / 4;
-    let quarters = runs_fine(&s[0..q], &s[q..2 * q], &s[2 * q..3 * q], &s[3 * q..4 * q]);
-    let rest = run_fine(&s[4 * q..]);
-    quarters && rest
-}
-
-// Inner: whether the size of a double is fine, and what was found before it.
-fn still_sized(x: f64, top: f64, fine: bool) -> bool
-    ensures { result ≡ (sized top x && fine) }
-{
-    if size_fine(x, top) { fine } else { false }
-}
-
-// Inner: the same test of four runs of doubles, which are of one length.
-fn runs_sized(a: &[f64], b: &[f64], c: &[f64], d: &[f64], top: f64) -> bool
-    requires b_len { length b.now ≡ length a.now }
-    requires c_len { length c.now ≡ length a.now }
-    requires d_len { length d.now ≡ length a.now }
-    ensures { result ≡
-        (every (sized top) a.now
-        && (every (sized top) b.now && (every (sized top) c.now && every (sized top) d.now))) }
-{
-    let mut fine = true;
-    let mut i = 0;
-    while i < a.len() {
-        fine = still_sized(
-            a[i],
-            top,
-            still_sized(
-                b[i],
-                top,
-                still_sized(c[i], top, still_sized(d[i], top, fine)),
-            ),
-        );
-        i += 1;
-    }
-    fine
-}
-
-// Inner: the same of one run.
-fn run_sized(s: &[f64], top: f64) -> bool
-    ensures { result ≡ every (sized top) s.now }
-{
-    let mut fine = true;
-    let mut i = 0;
-    while i < s.len() {
-        fine = still_sized(s[i], top, fine);
-        i += 1;
-    }
-    fine
-}
-
-// Inner: whether every double is finite and of size at most top, in quarters likewise.
-fn all_sized(s: &[f64], top: f64) -> bool
-    ensures { result ≡ every (sized top) s.now }
-{
-    let q = s.len() / 4;
-    let quarters = runs_sized(
+    let quarters = runs_pass(
         &s[0..q],
         &s[q..2 * q],
         &s[2 * q..3 * q],
         &s[3 * q..4 * q],
-        top,
+        &test,
     );
-    let rest = run_sized(&s[4 * q..], top);
-    quarters && rest
+    quarters & run_passes(&s[4 * q..], &test)
+}
+
+// Inner: whether every magnitude is fine.
+pub fn magnitudes_fine(s: &[f32]) -> bool
+    ensures { result ≡ every magnitude_fine s.now }
+{
+    all_pass(s, magnitude_fine)
 }
 
 // Inner: whether every value is fine.
 pub fn values_fine(s: &[f64]) -> bool
     ensures { result ≡ every value_fine s.now }
 {
-    all_sized(s, VALUE_TOP)
+    all_pass(s, value_fine)
 }
 
 // Inner: whether every similarity is fine.
 pub fn similarities_fine(s: &[f64]) -> bool
     ensures { result ≡ every similarity_fine s.now }
 {
-    all_sized(s, SIMILARITY_TOP)
+    all_pass(s, similarity_fine)
 }

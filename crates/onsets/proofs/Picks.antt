@@ -1,8 +1,8 @@
 -- Peaks and suppression: what is kept ascends strictly and points into the curve, and no more is kept than there are peaks.
-use mathlib.Core.Bool.{Bool, true, false, ◌&&◌}
+use mathlib.Core.Bool.{Bool, true, ◌&&◌}
 use mathlib.Core.List.{List, [], ◌∷◌}
 use mathlib.Core.Path.{◌≡◌, refl}
-use Prim.Native.Nat.{ℕ, zero, suc, ◌+◌, ◌-◌, ◌≤◌, ◌<◌}
+use Prim.Native.Nat.{ℕ, zero, suc, ◌+◌, ◌-◌, ◌≤◌}
 use native.Mathlib.Nat.{le_refl}
 use native.Mathlib.Numerals.{add-one}
 use native.Mathlib.Omega.{arith}
@@ -16,7 +16,6 @@ use Rattle.numbers.proofs.Tabs.{length-tab}
 use Rattle.numbers.proofs.Tests.{and_left, and_right, and_both, lowest-zero, pick_both}
 use Rattle.numbers.specs.Limits.{most_rows, value_fine}
 use Rattle.numbers.specs.Lists.{tab, every, ascending}
-use Rattle.numbers.specs.Rounded.{pick}
 use Rattle.onsets.specs.Peaks.{at, is_peak, those, peaks_of, joins, better, bests, suppressed, point_into, suppression_refusal}
 
 -- ---- the entries that pass a test

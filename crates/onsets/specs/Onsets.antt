@@ -4,8 +4,7 @@ use Rattle.numbers.specs.Rounded.{◌⊕◌, ◌⊗◌, ◌⊘◌, bits, real, h
 use Rattle.numbers.specs.Limits.{most_rows, rate_fine, value_fine, frame_fine}
 use Rattle.numbers.specs.Refusals.{lowest}
 use Rattle.numbers.specs.Lists.{curve, every, listed}
-use Rattle.numbers.specs.Outcomes.{Written, ListWritten}
-use Rattle.numbers.specs.declared.Listing.{Listing}
+use Rattle.numbers.specs.Outcomes.{Listing, Written, ListWritten}
 use Rattle.floats.specs.Wholes.{ceil_of}
 use Rattle.threshold.specs.Threshold.{threshold_at}
 use Rattle.onsets.specs.Peaks.{at, peaks_of, suppressed}

@@ -6,8 +6,7 @@ use Rattle.numbers.specs.Rounded.{pick}
 use Rattle.numbers.specs.Limits.{most_rows, value_fine}
 use Rattle.numbers.specs.Refusals.{lowest}
 use Rattle.numbers.specs.Lists.{tab, every, ascending}
-use Rattle.numbers.specs.Outcomes.{ListWritten}
-use Rattle.numbers.specs.declared.Listing.{Listing}
+use Rattle.numbers.specs.Outcomes.{Listing, ListWritten}
 
 -- slot t of a curve
 abbrev pub at : List Float → ℕ → Float

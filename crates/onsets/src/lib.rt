@@ -6,13 +6,15 @@
 pub mod peaks; // peaks.rt: peaks of a curve, and the best of each group of close ones
 
 ghost use Rattle.std.specs.Prelude.{◌≡◌, map, ◌≤◌, length};
+ghost use Rattle.numbers.specs.Outcomes.{listing};
+ghost use Rattle.numbers.specs.Refusals.{number_of};
 ghost use Rattle.numbers.specs.Limits.{most_rows};
 ghost use Rattle.numbers.specs.Lists.{listed};
 ghost use Rattle.threshold.specs.Threshold.{sorting_room};
 ghost use Rattle.onsets.specs.Onsets.{gap_of, frame_time, onsets_refusal, times_refusal, OnsetsPromise, FrameTimesPromise};
 ghost use Rattle.onsets.specs.Steps.{OnsetsListed};
 
-use numbers::{HOP, Listing, THOUSAND};
+use numbers::{HOP, Refusal, THOUSAND};
 
 // the least time between two onsets, in milliseconds
 const MIN_GAP_MS: f64 = 30.0;
@@ -22,39 +24,41 @@ const CENTRE: f64 = 512.0;
 // Lists the frames of the onsets of a flux with its threshold, at a sample rate. Room: one slot for each slot of flux.
 // Refuses: 1 a flux longer than 1,048,576 or a rate outside 1 to 192,000; 2 a threshold of another length; 3 frames shorter than
 // flux; 4 a value of either that isn't finite or is of size above 2^150. Slots past the count stay, all of them at a refusal.
-pub fn pick_onsets(flux: &[f64], threshold: &[f64], rate: u32, frames: &mut [u32]) -> Listing
-    ensures { OnsetsPromise flux.now threshold.now rate frames.old result frames.new }
+pub fn pick_onsets(
+    flux: &[f64],
+    threshold: &[f64],
+    rate: u32,
+    frames: &mut [u32],
+) -> Result<usize, Refusal>
+    ensures { OnsetsPromise flux.now threshold.now rate frames.old (listing result) frames.new }
 {
-    let number = onsets_refusal(flux, threshold, rate, frames.len());
-    if number != 0 {
-        return Listing { number, count: 0 };
-    }
+    onsets_refusal(flux, threshold, rate, frames.len())?;
     let count = peaks::pick_peaks(flux, threshold, gap_of(rate), frames);
-    Listing { number: 0, count }
+    Ok(count)
 }
 
-fn onsets_refusal(flux: &[f64], threshold: &[f64], rate: u32, room: usize) -> u32
-    ensures { result ≡ onsets_refusal flux.now threshold.now rate room }
+fn onsets_refusal(flux: &[f64], threshold: &[f64], rate: u32, room: usize) -> Result<(), Refusal>
+    ensures { number_of result ≡ onsets_refusal flux.now threshold.now rate room }
 {
     if flux.len() > numbers::MOST_ROWS {
-        return numbers::OUT_OF_BOUNDS;
+        return Err(Refusal::OutOfBounds);
     }
     if !numbers::rate_fine(rate) {
-        return numbers::OUT_OF_BOUNDS;
+        return Err(Refusal::OutOfBounds);
     }
     if threshold.len() != flux.len() {
-        return numbers::WRONG_LENGTH;
+        return Err(Refusal::WrongLength);
     }
     if room < flux.len() {
-        return numbers::TOO_LITTLE_ROOM;
+        return Err(Refusal::TooLittleRoom);
     }
     if !numbers::values_fine(flux) {
-        return numbers::WRONG_VALUE;
+        return Err(Refusal::WrongValue);
     }
     if numbers::values_fine(threshold) {
-        return 0;
+        return Ok(());
     }
-    numbers::WRONG_VALUE
+    Err(Refusal::WrongValue)
 }
 
 // Inner: writes the threshold of an envelope, lists its onsets and says how many they are.
@@ -83,46 +87,41 @@ pub fn gap_of(rate: u32) -> usize
     ensures { result ≡ gap_of rate }
 {
     let frames = floats::wholes::ceil_of(MIN_GAP_MS / THOUSAND * (rate as f64) / HOP) as usize;
-    numbers::greatest(1, frames)
+    frames.max(1)
 }
 
 // Writes the time in milliseconds of each frame's centre, at a sample rate, in the frames' order. Room: one slot for each frame.
 // Refuses: 1 a rate outside 1 to 192,000 or a frame above 1,048,575; 3 ms shorter than frames. A refusal writes nothing.
 // The frames need not ascend. Slots past them stay.
-pub fn frame_times(frames: &[u32], rate: u32, ms: &mut [f64]) -> u32
-    ensures { FrameTimesPromise frames.now rate ms.old result ms.new }
+pub fn frame_times(frames: &[u32], rate: u32, ms: &mut [f64]) -> Result<(), Refusal>
+    ensures { FrameTimesPromise frames.now rate ms.old (number_of result) ms.new }
 {
-    let number = times_refusal(frames, rate, ms.len());
-    if number != 0 {
-        return number;
-    }
+    times_refusal(frames, rate, ms.len())?;
     write_times(frames, rate, ms);
-    0
+    Ok(())
 }
 
-fn times_refusal(frames: &[u32], rate: u32, room: usize) -> u32
-    ensures { result ≡ times_refusal frames.now rate room }
+fn times_refusal(frames: &[u32], rate: u32, room: usize) -> Result<(), Refusal>
+    ensures { number_of result ≡ times_refusal frames.now rate room }
 {
     if !numbers::rate_fine(rate) {
-        return numbers::OUT_OF_BOUNDS;
+        return Err(Refusal::OutOfBounds);
     }
     if !lists::all_at_most(frames, numbers::MOST_FRAME) {
-        return numbers::OUT_OF_BOUNDS;
+        return Err(Refusal::OutOfBounds);
     }
     if room < frames.len() {
-        return numbers::TOO_LITTLE_ROOM;
+        return Err(Refusal::TooLittleRoom);
     }
-    0
+    Ok(())
 }
 
 fn write_times(frames: &[u32], rate: u32, ms: &mut [f64])
     requires { length frames.now ≤ length ms.old }
     ensures { ms.new ≡ listed (map (frame_time rate) frames.now) ms.old }
 {
-    let mut i = 0;
-    while i < frames.len() {
+    for i in 0..frames.len() {
         ms[i] = frame_time(frames[i], rate);
-        i += 1;
     }
 }
 

@@ -3,51 +3,54 @@
 // Document 01, Onsets. The Rust: onsets.rs `suppress_close_peaks`, and the peak loops of onsets.rs and structure.rs. Peaks are
 // suppressed as they are found, in one pass: a list lent for the answer has no slot written that isn't an entry.
 ghost use Rattle.std.specs.Prelude.{◌≡◌, true, ◌&&◌, ◌+◌, ◌≤◌, ◌<◌, length};
+ghost use Rattle.numbers.specs.Outcomes.{listing};
+ghost use Rattle.numbers.specs.Refusals.{number_of};
 ghost use Rattle.numbers.specs.Limits.{most_rows};
 ghost use Rattle.numbers.specs.Lists.{one_if, ascending};
 ghost use Rattle.onsets.specs.Peaks.{at, is_peak, peaks_of, suppressed, point_into, suppression_refusal, SuppressionPromise};
 ghost use Rattle.onsets.specs.Steps.{Picked, Stepped, Closed};
 
-use numbers::Listing;
+use numbers::Refusal;
 
 // Lists the best of each group of peaks: a peak joins a group while it is at most gap past its best. Room: one slot for each peak.
 // Refuses: 1 a curve longer than 1,048,576, or peaks that aren't strictly ascending or point past the curve; 3 frames shorter than
 // peaks; 4 a curve value that isn't finite or is of size above 2^150. Slots past the count stay, all of them at a refusal.
-pub fn suppress_close_peaks(peaks: &[u32], curve: &[f64], gap: usize, frames: &mut [u32]) -> Listing
-    ensures { SuppressionPromise peaks.now curve.now gap frames.old result frames.new }
+pub fn suppress_close_peaks(
+    peaks: &[u32],
+    curve: &[f64],
+    gap: usize,
+    frames: &mut [u32],
+) -> Result<usize, Refusal>
+    ensures { SuppressionPromise peaks.now curve.now gap frames.old (listing result) frames.new }
 {
-    let number = refusal(peaks, curve, frames.len());
-    if number != 0 {
-        return Listing { number, count: 0 };
-    }
+    refusal(peaks, curve, frames.len())?;
     let count = suppress(peaks, curve, gap, frames);
-    Listing { number: 0, count }
+    Ok(count)
 }
 
-fn refusal(peaks: &[u32], curve: &[f64], room: usize) -> u32
-    ensures { result ≡ suppression_refusal peaks.now curve.now room }
+fn refusal(peaks: &[u32], curve: &[f64], room: usize) -> Result<(), Refusal>
+    ensures { number_of result ≡ suppression_refusal peaks.now curve.now room }
 {
     if curve.len() > numbers::MOST_ROWS {
-        return numbers::OUT_OF_BOUNDS;
+        return Err(Refusal::OutOfBounds);
     }
     if !peaks_fine(peaks, curve.len()) {
-        return numbers::OUT_OF_BOUNDS;
+        return Err(Refusal::OutOfBounds);
     }
     if room < peaks.len() {
-        return numbers::TOO_LITTLE_ROOM;
+        return Err(Refusal::TooLittleRoom);
     }
     if numbers::values_fine(curve) {
-        return 0;
+        return Ok(());
     }
-    numbers::WRONG_VALUE
+    Err(Refusal::WrongValue)
 }
 
 fn peaks_fine(peaks: &[u32], slots: usize) -> bool
     ensures { result ≡ (ascending 0 peaks.now && point_into slots peaks.now) }
 {
     let mut low = 0;
-    let mut i = 0;
-    while i < peaks.len() {
+    for i in 0..peaks.len() {
         let peak = peaks[i] as usize;
         if peak < low {
             return false;
@@ -56,7 +59,6 @@ fn peaks_fine(peaks: &[u32], slots: usize) -> bool
             return false;
         }
         low = peak + 1;
-        i += 1;
     }
     true
 }
@@ -72,10 +74,8 @@ fn suppress(peaks: &[u32], curve: &[f64], gap: usize, frames: &mut [u32]) -> usi
         best: 0,
         count: 0,
     };
-    let mut i = 0;
-    while i < peaks.len() {
+    for i in 0..peaks.len() {
         group = join(group, curve, gap, peaks[i] as usize, frames);
-        i += 1;
     }
     close(group, frames)
 }
@@ -87,16 +87,14 @@ pub fn pick_peaks(curve: &[f64], threshold: &[f64], gap: usize, frames: &mut [u3
         frames.old
         result frames.new }
 {
-    let last = numbers::less(curve.len(), 1);
+    let last = curve.len().saturating_sub(1);
     let mut group = Group {
         opened: false,
         best: 0,
         count: 0,
     };
-    let mut t = 1;
-    while t < last {
+    for t in 1..last {
         group = visit(group, curve, threshold[t], gap, t, frames);
-        t += 1;
     }
     close(group, frames)
 }
@@ -108,16 +106,14 @@ pub fn pick_above(curve: &[f64], level: f64, gap: usize, frames: &mut [u32]) -> 
         frames.old
         result frames.new }
 {
-    let last = numbers::less(curve.len(), 1);
+    let last = curve.len().saturating_sub(1);
     let mut group = Group {
         opened: false,
         best: 0,
         count: 0,
     };
-    let mut t = 1;
-    while t < last {
+    for t in 1..last {
         group = visit(group, curve, level, gap, t, frames);
-        t += 1;
     }
     close(group, frames)
 }

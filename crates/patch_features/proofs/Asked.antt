@@ -1,10 +1,10 @@
 -- What number 0 says of a patch of features, row by row of the table, and what it asks for.
-use mathlib.Core.Bool.{true, ◌&&◌}
+use mathlib.Core.Bool.{true}
 use mathlib.Core.Path.{◌≡◌}
-use Prim.Native.Nat.{ℕ, ◌+◌, ◌*◌, ◌/◌, ◌≤◌, ◌<◌}
+use Prim.Native.Nat.{ℕ, ◌≤◌}
 use borrow.Author.Tests.{leb-true, le-leb}
 use lib.Dec.{leb}
-use lib.ListN.{length, take}
+use lib.ListN.{length}
 use Rattle.numbers.proofs.Tests.{and_left, and_right, and_both, lowest-zero}
 use Rattle.numbers.specs.Limits.{most_features, feature_width, value_fine}
 use Rattle.numbers.specs.Lists.{every}

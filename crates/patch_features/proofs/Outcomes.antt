@@ -1,18 +1,21 @@
 -- The three outcomes of a patch of features meet its promise, and any two that it permits coincide: what an answer says tells which it is. Assumes nothing.
-use mathlib.Core.List.{List, [], ◌∷◌}
-use mathlib.Core.Path.{◌≡◌, refl, sym, ap, ◌∙◌}
-use Prim.Native.Nat.{ℕ, zero, suc}
+use mathlib.Core.List.{List}
+use mathlib.Core.Path.{◌≡◌, sym, ap, ◌∙◌}
+use Prim.Native.Nat.{ℕ}
 use lib.Ieee.{Float}
 use lib.ListN.{length, take}
+use Rattle.std.specs.Prelude.{Result, Ok, Err, IsErrAnd}
+use Rattle.numbers.proofs.Outcomes.{number-not_0, number-one}
 use Rattle.numbers.proofs.Tests.{refused_keeps}
 use Rattle.numbers.specs.Limits.{feature_width}
 use Rattle.numbers.specs.Lists.{filled}
+use Rattle.numbers.specs.Refusals.{number}
+use Rattle.numbers.specs.declared.Refusal.{Refusal}
 use Rattle.patches.proofs.Wholes.{empty_keeps, full_does}
-use Rattle.patches.proofs.Answers.{same_number, same-slots, some-slots, refused_returns}
-use Rattle.patches.specs.Patches.{Patch, past_row, edited, unless_empty, ranges, ranges_named, returned}
+use Rattle.patches.proofs.Answers.{same_number, same-slots, same_ends, some-slots, refused_returns}
+use Rattle.patches.specs.Patches.{Patch, past_row, edited, ranges, returned}
 use Rattle.novelties.specs.Novelty.{novelty_at}
 use Rattle.patch_features.specs.declared.PatchedFeatures.{PatchedFeatures}
-use Rattle.patch_features.specs.declared.PatchedFeatures.TheVariants.{Refused, Wrote}
 use Rattle.patch_features.specs.Features.{
   FeatureTrack,
   feature_track,
@@ -28,43 +31,41 @@ use Rattle.patch_features.specs.Features.{
   feature_patch_number,
   patched_features_says,
   features_named,
-  features_answered,
   features_after,
   PatchFeaturesPromise,
 }
 
+-- the four slots of an answer
+abbrev pub patched_of : (similarity_first similarity_past novelty_first novelty_past : ℕ) → PatchedFeatures
+patched_of similarity_first similarity_past novelty_first novelty_past =
+    record { similarity_first = similarity_first; similarity_past = similarity_past; novelty_first = novelty_first; novelty_past = novelty_past }
+
 -- what an answer says tells which it is
-pub says_one : (a b : PatchedFeatures) → patched_features_says a ≡ patched_features_says b → a ≡ b
-says_one (Refused k) (Refused l) e = ap Refused (same_number e)
-says_one (Wrote f g t u) (Wrote f' g' t' u') e = cc (same-slots e)
-says_one (Refused k) (Wrote f g t u) e = absurd (some-slots (same-slots e))
-says_one (Wrote f g t u) (Refused k) e = absurd (some-slots (sym (same-slots e)))
-
--- `features_answered` says its number and the slots that the patch names, and no other answer does
-wrote_says : (a b c d : ℕ) (new : List Float) → patched_features_says (unless_empty new (Wrote a b c d) (Wrote 0 0 0 0)) ≡ (0, ranges_named new (ranges a b c d))
-wrote_says a b c d [] = refl
-wrote_says a b c d (x ∷ xs) = refl
-
-pub answered_says : (n rows : ℕ) (patch : Patch) → patched_features_says (features_answered n rows patch) ≡ returned n (features_named rows patch)
-unfolding features_answered
-answered_says zero rows patch = wrote_says _ _ _ _ patch.new
-answered_says (suc k) rows patch = refl
-
-pub is-answered : {rows : ℕ} {was : FeatureTrack} {patch : Patch} {answer : PatchedFeatures} {now : FeatureTrack}
-    → PatchFeaturesPromise rows was patch answer now → answer ≡ features_answered (feature_patch_number rows was patch) rows patch
-is-answered {rows} {patch = patch} done = says_one _ _ (done.answer_is ∙ sym (answered_says _ rows patch))
+pub says_one : (a b : Result PatchedFeatures Refusal) → patched_features_says a ≡ patched_features_says b → a ≡ b
+says_one (Err d) (Err e) h = ap Err (number-one d e (same_number h))
+says_one (Ok p) (Ok q) h =
+    let s = same_ends (same-slots h) in
+    ap Ok (λ i. record { similarity_first = s.0 i; similarity_past = s.1 i; novelty_first = s.2 i; novelty_past = s.3 i })
+says_one (Err e) (Ok q) h = absurd (some-slots (same-slots h))
+says_one (Ok p) (Err e) h = absurd (some-slots (sym (same-slots h)))
 
 module _ (rows : ℕ) (was : FeatureTrack) (patch : Patch) where
-  pub refused : (k : ℕ) → k ≡ feature_patch_number rows was patch → (k ≡ 0 → ⊥) → PatchFeaturesPromise rows was patch (Refused k) was
+  pub refused : (e : Refusal) → number e ≡ feature_patch_number rows was patch → PatchFeaturesPromise rows was patch (Err e) was
   unfolding features_after
-  refused k e h =
+  refused e h =
       record {
-        answer_is = refused_returns k (features_named rows patch) h ∙ ap (λ (n : ℕ). returned n (features_named rows patch)) e;
-        track_is = sym (refused_keeps (feature_patch_number rows was patch) _ was (λ z. h (e ∙ z)));
+        answer_is = refused_returns (number e) (features_named rows patch) (number-not_0 e) ∙ ap (λ (n : ℕ). returned n (features_named rows patch)) h;
+        track_is = sym (refused_keeps (feature_patch_number rows was patch) _ was (λ z. number-not_0 e (h ∙ z)));
       }
 
+  -- a refusal that `?` hands on: e is what refused
+  pub refused_on : (r : Result PatchedFeatures Refusal) (e : Refusal) → IsErrAnd r (λ (x : Refusal). x ≡ e) → number e ≡ feature_patch_number rows was patch
+      → PatchFeaturesPromise rows was patch r was
+  refused_on (Ok slots) e h k = absurd h
+  refused_on (Err x) e h k = refused x (ap number h ∙ k)
+
   module _ (none : feature_patch_number rows was patch ≡ 0) where
-    pub empty : length patch.new ≡ 0 → PatchFeaturesPromise rows was patch (Wrote 0 0 0 0) was
+    pub empty : length patch.new ≡ 0 → PatchFeaturesPromise rows was patch (Ok (patched_of 0 0 0 0)) was
     unfolding features_after
     empty e =
         record {
@@ -78,7 +79,7 @@ module _ (rows : ℕ) (was : FeatureTrack) (patch : Patch) where
         → s ≡ filled (mended_at f rows patch.start (past_row feature_width patch) was.similarity) was.similarity (similarity_first patch)
         (similarity_past patch)
         → n ≡ filled (novelty_at (take (pairs rows) s) rows) was.novelty nf np
-        → PatchFeaturesPromise rows was patch (Wrote sf (similarity_past patch) nf np) (feature_track f s n)
+        → PatchFeaturesPromise rows was patch (Ok (patched_of sf (similarity_past patch) nf np)) (feature_track f s n)
     unfolding features_after mended_features mended_similarity mended_novelty
     wrote some sf nf np a b c f s n ef es en =
         record {
@@ -87,6 +88,6 @@ module _ (rows : ℕ) (was : FeatureTrack) (patch : Patch) where
         }
 
   -- any two outcomes coincide
-  pub unique : {a b : PatchedFeatures} {x y : FeatureTrack} → PatchFeaturesPromise rows was patch a x → PatchFeaturesPromise rows was patch b y
+  pub unique : {a b : Result PatchedFeatures Refusal} {x y : FeatureTrack} → PatchFeaturesPromise rows was patch a x → PatchFeaturesPromise rows was patch b y
       → (a ≡ b) × (x ≡ y)
   unique p q = (says_one _ _ (p.answer_is ∙ sym q.answer_is), p.track_is ∙ sym q.track_is)

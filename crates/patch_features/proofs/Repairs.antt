@@ -10,21 +10,24 @@ use borrow.Author.Tests.{le-leb, eq-eqb}
 use lib.Dec.{lit≤}
 use lib.Ieee.{Float, nan}
 use lib.ListN.{length, get_or, take, drop}
+use Rattle.std.specs.Prelude.{Result, Ok, Err}
+use Rattle.numbers.proofs.Outcomes.{number-not_0}
 use Rattle.numbers.proofs.Overs.{length_over, every-over, patch_fits, row-over, row_over_in, over_none}
 use Rattle.numbers.proofs.Tabs.{length-filled, filled-first, filled_outside, get_or_filled_in}
 use Rattle.numbers.proofs.Tests.{lt_or_le, pick-false, passed_does, and_both, lowest_0}
 use Rattle.numbers.specs.Limits.{feature_width, value_fine, similarity_fine}
 use Rattle.numbers.specs.Lists.{curve, every, filled, row}
 use Rattle.numbers.specs.Refusals.{unless_refused}
+use Rattle.numbers.specs.declared.Refusal.{Refusal}
 use Rattle.patches.proofs.Parts.{filled-rest, filled_by}
+use Rattle.patches.proofs.Answers.{same_number, same-slots, same_ends, some-slots}
 use Rattle.patches.proofs.Wholes.{whole_asked}
-use Rattle.patches.specs.Patches.{Patch, patch_of, past_row, whole_rows, edited, unless_empty}
+use Rattle.patches.specs.Patches.{Patch, patch_of, past_row, whole_rows, edited, unless_empty, returned}
 use Rattle.novelties.proofs.Calls.{genuine_passes}
 use Rattle.novelties.specs.Novelty.{novelty_at, novelty_number, NoveltyPromise}
 use Rattle.row_pairs.specs.Pairs.{similarity_at}
 use Rattle.similarities.specs.Similarity.{similarity_number, SimilarityPromise}
 use Rattle.patch_features.specs.declared.PatchedFeatures.{PatchedFeatures}
-use Rattle.patch_features.specs.declared.PatchedFeatures.TheVariants.{Refused, Wrote}
 use Rattle.patch_features.specs.Features.{
   FeatureTrack,
   feature_track,
@@ -40,7 +43,8 @@ use Rattle.patch_features.specs.Features.{
   mended_features,
   feature_patch_values,
   feature_patch_number,
-  features_answered,
+  patched_features_says,
+  features_named,
   features_after,
   PatchFeaturesPromise,
 }
@@ -60,7 +64,6 @@ use Rattle.patch_features.specs.Runs.{
 }
 use Rattle.patch_features.proofs.Asked.{Asked, asked, bounds_asked, room_asked}
 use Rattle.patch_features.proofs.Fine.{similarities_are_fine, novelties_are_fine}
-use Rattle.patch_features.proofs.Outcomes.{is-answered}
 use Rattle.patch_features.proofs.Mended.{similarity_mends, novelty_mends, similarity-rest, novelty-rest}
 
 -- What holds of the track before a patch, and of a mended one, holds after it: it is refused, empty, or mended.
@@ -88,40 +91,34 @@ pub patched_is_fresh : (rows : ℕ) (was : FeatureTrack) (patch : Patch) → Fre
 patched_is_fresh rows was patch fresh = by_outcome (FreshFeatures rows) rows was patch fresh (mends rows was patch fresh)
 
 -- what `patch_features` promises of one call, whatever it answers
-pub call_is_fresh : (rows : ℕ) (was : FeatureTrack) (patch : Patch) (answer : PatchedFeatures) (now : FeatureTrack)
+pub call_is_fresh : (rows : ℕ) (was : FeatureTrack) (patch : Patch) (answer : Result PatchedFeatures Refusal) (now : FeatureTrack)
     → FreshFeatures rows was → PatchFeaturesPromise rows was patch answer now → FreshFeatures rows now
 call_is_fresh rows was patch answer now fresh done = rw done.track_is (patched_is_fresh rows was patch fresh)
 
 -- ---- (2) An accepted patch leaves the edited rows. Outside them, the pairs that touch one and the slots that the answer names nothing differs.
 
-module _ (rows : ℕ) (was : FeatureTrack) (f g t u : ℕ) (now : FeatureTrack) where
-  accepted_passes : (n : ℕ) (patch : Patch) → Wrote f g t u ≡ features_answered n rows patch → n ≡ 0
-  unfolding features_answered
-  accepted_passes zero patch h = refl
-  accepted_passes (suc n) patch h = let z : ◌≡◌ {A = ℕ} 0 1 = cc in absurd (omega arith)
-
-  edited_by : (n start : ℕ) (new : List Float) → Wrote f g t u ≡ features_answered n rows (patch_of start new)
-      → now ≡ unless_refused n (unless_empty new (mended_features rows was (patch_of start new)) was) was
+module _ (rows : ℕ) (was now : FeatureTrack) where
+  edited_by : (n start : ℕ) (new : List Float) → n ≡ 0 → now ≡ unless_refused n (unless_empty new (mended_features rows was (patch_of start new)) was) was
       → now.features ≡ edited feature_width was.features (patch_of start new)
-  unfolding features_answered mended_features edited
-  edited_by (suc n) start new h k = let z : ◌≡◌ {A = ℕ} 0 1 = cc in absurd (omega arith)
+  unfolding mended_features edited
+  edited_by (suc n) start new h k = absurd (omega arith)
   edited_by zero start [] h k = ap (λ (s : FeatureTrack). s.features) k ∙ sym (over_none was.features (start * feature_width))
   edited_by zero start (x ∷ xs) h k = ap (λ (s : FeatureTrack). s.features) k
 
-pub accepted_is_edited : (rows : ℕ) (was : FeatureTrack) (patch : Patch) (f g t u : ℕ) (now : FeatureTrack)
-    → PatchFeaturesPromise rows was patch (Wrote f g t u) now → now.features ≡ edited feature_width was.features patch
+pub accepted_is_edited : (rows : ℕ) (was : FeatureTrack) (patch : Patch) (slots : PatchedFeatures) (now : FeatureTrack)
+    → PatchFeaturesPromise rows was patch (Ok slots) now → now.features ≡ edited feature_width was.features patch
 unfolding features_after
-accepted_is_edited rows was patch f g t u now done =
-    edited_by rows was f g t u now (feature_patch_number rows was patch) patch.start patch.new (is-answered done) done.track_is
+accepted_is_edited rows was patch slots now done =
+    edited_by rows was now (feature_patch_number rows was patch) patch.start patch.new (sym (same_number done.answer_is)) done.track_is
 
 -- row a + j is then the patch's row j
-pub replaced_are_new : (rows : ℕ) (was : FeatureTrack) (patch : Patch) (f g t u : ℕ) (now : FeatureTrack)
-    → PatchFeaturesPromise rows was patch (Wrote f g t u) now
+pub replaced_are_new : (rows : ℕ) (was : FeatureTrack) (patch : Patch) (slots : PatchedFeatures) (now : FeatureTrack)
+    → PatchFeaturesPromise rows was patch (Ok slots) now
     → (j : ℕ) → j < length patch.new / feature_width → row now.features feature_width (patch.start + j) ≡ row patch.new feature_width j
 unfolding edited
-replaced_are_new rows was patch f g t u now done j h =
-    let w = (asked rows was patch (accepted_passes rows was f g t u now (feature_patch_number rows was patch) patch (is-answered done))).lengths in
-    ap (λ (m : List Float). row m feature_width (patch.start + j)) (accepted_is_edited rows was patch f g t u now done)
+replaced_are_new rows was patch slots now done j h =
+    let w = (asked rows was patch (sym (same_number done.answer_is))).lengths in
+    ap (λ (m : List Float). row m feature_width (patch.start + j)) (accepted_is_edited rows was patch slots now done)
     ∙ row_over_in was.features patch.new rows feature_width patch.start (length patch.new / feature_width) nan w.whole w.new-whole
     w.inside j h
 
@@ -167,25 +164,25 @@ mended_keeps rows was patch a =
       novelty_stays = λ i h. filled_outside _ was.novelty _ _ (omega arith) (omega arith) i nan h;
     }
 
-module _ (rows : ℕ) (was : FeatureTrack) (f g t u : ℕ) (now : FeatureTrack) where
-  kept_by : (n start : ℕ) (new : List Float) → feature_patch_number rows was (patch_of start new) ≡ n → Wrote f g t u ≡ features_answered n rows (patch_of start new)
-      → now ≡ unless_refused n (unless_empty new (mended_features rows was (patch_of start new)) was) was → KeptFeatures (patch_of start new) f g t u was now
-  unfolding features_answered
-  kept_by (suc n) start new e h k = let z : ◌≡◌ {A = ℕ} 0 1 = cc in absurd (omega arith)
-  kept_by zero start [] e h k = rw k (unmoved (patch_of start []) f g t u was)
+module _ (rows : ℕ) (was : FeatureTrack) (slots : PatchedFeatures) (now : FeatureTrack) where
+  kept_by : (n start : ℕ) (new : List Float) → feature_patch_number rows was (patch_of start new) ≡ n
+      → patched_features_says (Ok slots) ≡ returned n (features_named rows (patch_of start new))
+      → now ≡ unless_refused n (unless_empty new (mended_features rows was (patch_of start new)) was) was
+      → KeptFeatures (patch_of start new) slots.similarity_first slots.similarity_past slots.novelty_first slots.novelty_past was now
+  kept_by (suc n) start new e h k = absurd (some-slots (sym (same-slots h)))
+  kept_by zero start [] e h k =
+      rw k (unmoved (patch_of start []) slots.similarity_first slots.similarity_past slots.novelty_first slots.novelty_past was)
   kept_by zero start (x ∷ xs) e h k =
       let patch = patch_of start (x ∷ xs) in
-      let p : f ≡ similarity_first patch = cc in
-      let q : g ≡ similarity_past patch = cc in
-      let r : t ≡ novelty_first patch = cc in
-      let s : u ≡ novelty_past rows patch = cc in
-      rw (k, p, q, r, s) (mended_keeps rows was patch (asked rows was patch e))
+      let s = same_ends (same-slots h) in
+      rw (k, s.0, s.1, s.2, s.3) (mended_keeps rows was patch (asked rows was patch e))
 
-pub outside_stays : (rows : ℕ) (was : FeatureTrack) (patch : Patch) (f g t u : ℕ) (now : FeatureTrack)
-    → PatchFeaturesPromise rows was patch (Wrote f g t u) now → KeptFeatures patch f g t u was now
+pub outside_stays : (rows : ℕ) (was : FeatureTrack) (patch : Patch) (slots : PatchedFeatures) (now : FeatureTrack)
+    → PatchFeaturesPromise rows was patch (Ok slots) now
+    → KeptFeatures patch slots.similarity_first slots.similarity_past slots.novelty_first slots.novelty_past was now
 unfolding features_after
-outside_stays rows was patch f g t u now done =
-    kept_by rows was f g t u now (feature_patch_number rows was patch) patch.start patch.new refl (is-answered done) done.track_is
+outside_stays rows was patch slots now done =
+    kept_by rows was slots now (feature_patch_number rows was patch) patch.start patch.new refl done.answer_is done.track_is
 
 -- ---- (3) An empty patch changes nothing. (4) A refused one changes nothing.
 
@@ -193,24 +190,23 @@ empty_keeps_all : (n : ℕ) (was now : FeatureTrack) → now ≡ unless_refused 
 empty_keeps_all zero was now e = e
 empty_keeps_all (suc n) was now e = e
 
-pub empty_changes_nothing : (rows : ℕ) (was : FeatureTrack) (start : ℕ) (answer : PatchedFeatures) (now : FeatureTrack)
+pub empty_changes_nothing : (rows : ℕ) (was : FeatureTrack) (start : ℕ) (answer : Result PatchedFeatures Refusal) (now : FeatureTrack)
     → PatchFeaturesPromise rows was (patch_of start []) answer now → now ≡ was
 unfolding features_after
 empty_changes_nothing rows was start answer now done = empty_keeps_all (feature_patch_number rows was (patch_of start [])) was now done.track_is
 
-module _ (rows : ℕ) (was now : FeatureTrack) (k : ℕ) where
-  refused_keeps_all : (n start : ℕ) (new : List Float) → Refused k ≡ features_answered n rows (patch_of start new)
+module _ (rows : ℕ) (was now : FeatureTrack) where
+  refused_keeps_all : (n start : ℕ) (new : List Float) → (n ≡ 0 → ⊥)
       → now ≡ unless_refused n (unless_empty new (mended_features rows was (patch_of start new)) was) was → now ≡ was
-  unfolding features_answered
   refused_keeps_all (suc n) start new e h = h
-  refused_keeps_all zero start [] e h = let z : ◌≡◌ {A = ℕ} 0 1 = cc in absurd (omega arith)
-  refused_keeps_all zero start (x ∷ xs) e h = let z : ◌≡◌ {A = ℕ} 0 1 = cc in absurd (omega arith)
+  refused_keeps_all zero start new e h = absurd (e refl)
 
-pub refused_changes_nothing : (rows : ℕ) (was : FeatureTrack) (patch : Patch) (k : ℕ) (now : FeatureTrack)
-    → PatchFeaturesPromise rows was patch (Refused k) now → now ≡ was
+pub refused_changes_nothing : (rows : ℕ) (was : FeatureTrack) (patch : Patch) (e : Refusal) (now : FeatureTrack)
+    → PatchFeaturesPromise rows was patch (Err e) now → now ≡ was
 unfolding features_after
-refused_changes_nothing rows was patch k now done =
-    refused_keeps_all rows was now k (feature_patch_number rows was patch) patch.start patch.new (is-answered done) done.track_is
+refused_changes_nothing rows was patch e now done =
+    refused_keeps_all rows was now (feature_patch_number rows was patch) patch.start patch.new
+    (λ z. number-not_0 e (same_number done.answer_is ∙ z)) done.track_is
 
 -- ---- (5) Any run of patches on a fresh analysis, refused ones among them, ends as one fresh analysis of the last rows.
 

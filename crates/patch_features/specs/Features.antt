@@ -1,17 +1,17 @@
 -- Document 01, "Patching (added)", for feature rows with their similarity and novelty curves: "Copy in the rows, then write .. similarity and
 -- novelty, in demand 3's slots. .. novelty from the lent similarity. The answer names first and past-last slot written per curve;
 -- similarity's range ends at 17b, an empty patch names 0 to 0." Demand 3: "only pairs that touch a replaced row, and novelty slots a-7 to b+7".
-use Rattle.std.specs.Prelude.{ℕ, zero, suc, ◌+◌, ◌-◌, ◌*◌, ◌/◌, ◌%◌, min, ◌≡◌, Bool, ◌&&◌, ◌||◌, List, [], leb, ltb, length, get_or, take, Float}
+use Rattle.std.specs.Prelude.{ℕ, ◌+◌, ◌-◌, ◌*◌, ◌/◌, ◌%◌, min, ◌≡◌, Bool, ◌&&◌, ◌||◌, List, [], leb, ltb, length, get_or, take, Float, Result, Ok, Err}
 use Rattle.std.specs.Float.{nan}
 use Rattle.numbers.specs.Limits.{most_features, feature_width, value_fine, similarity_fine}
 use Rattle.numbers.specs.Lists.{filled, every}
-use Rattle.numbers.specs.Refusals.{lowest, unless_refused}
+use Rattle.numbers.specs.Refusals.{number, lowest, unless_refused}
 use Rattle.numbers.specs.Rounded.{pick}
+use Rattle.numbers.specs.declared.Refusal.{Refusal}
 use Rattle.patches.specs.Patches.{Patch, past_row, whole_rows, edited, unless_empty, ranges, ranges_named, returned}
 use Rattle.row_pairs.specs.Pairs.{band_width, similarity_at}
 use Rattle.novelties.specs.Novelty.{novelty_at}
 use Rattle.patch_features.specs.declared.PatchedFeatures.{PatchedFeatures}
-use Rattle.patch_features.specs.declared.PatchedFeatures.TheVariants.{Refused, Wrote}
 
 -- what is lent and kept: the features, row behind row, and their two curves
 pub record FeatureTrack : Type 0 where
@@ -106,27 +106,21 @@ feature_patch_number rows was patch =
 
 -- ---- the call
 
--- What an answer says, "this paper's number and values for each of its cases". `Refused k` is number k and names no slots; `Wrote` is number 0
--- and names first and past-last slot of the similarity, and of the novelty.
-abbrev pub patched_features_says : PatchedFeatures → ℕ × List ℕ
-patched_features_says (Refused k) = (k, [])
-patched_features_says (Wrote similarity_from similarity_to novelty_from novelty_to) = (0, ranges similarity_from similarity_to novelty_from novelty_to)
+-- What an answer says, "this paper's number and values for each of its cases". `Ok slots` is number 0 and names first and past-last slot of the
+-- similarity, and of the novelty; `Err e` is the number of e in the table and names no slots.
+abbrev pub patched_features_says : Result PatchedFeatures Refusal → ℕ × List ℕ
+patched_features_says (Ok slots) = (0, ranges slots.similarity_first slots.similarity_past slots.novelty_first slots.novelty_past)
+patched_features_says (Err e) = (number e, [])
 
 -- the slots that a patch names
 abbrev pub features_named : (rows : ℕ) → Patch → List ℕ
 features_named rows patch = ranges_named patch.new (ranges (similarity_first patch) (similarity_past patch) (novelty_first patch) (novelty_past rows patch))
-
--- Inner: the one answer with this number that says so (`is-answered`, proofs/Outcomes)
-unfoldable pub features_answered : (number rows : ℕ) → Patch → PatchedFeatures
-features_answered zero rows patch =
-    unless_empty patch.new (Wrote (similarity_first patch) (similarity_past patch) (novelty_first patch) (novelty_past rows patch)) (Wrote 0 0 0 0)
-features_answered (suc k) rows patch = Refused (suc k)
 
 -- the track afterwards: a refusal and an empty patch change nothing
 unfoldable pub features_after : (rows : ℕ) → FeatureTrack → Patch → FeatureTrack
 features_after rows was patch = unless_refused (feature_patch_number rows was patch) (unless_empty patch.new (mended_features rows was patch) was) was
 
 -- What `patch_features` promises: its answer, and the track afterwards, each slot of it.
-pub record PatchFeaturesPromise (rows : ℕ) (was : FeatureTrack) (patch : Patch) (answer : PatchedFeatures) (now : FeatureTrack) : Type 0 where
+pub record PatchFeaturesPromise (rows : ℕ) (was : FeatureTrack) (patch : Patch) (answer : Result PatchedFeatures Refusal) (now : FeatureTrack) : Type 0 where
   pub answer_is : patched_features_says answer ≡ returned (feature_patch_number rows was patch) (features_named rows patch)
   pub track_is : now ≡ features_after rows was patch

@@ -1,14 +1,14 @@
 -- Demand 3: "Likewise for feature rows with their similarity and novelty curves .. Any run of patches, refused ones among them, ends as one
 -- fresh analysis of the last rows." The words in which that is said; proofs/Repairs has the theorems.
-use Rattle.std.specs.Prelude.{ℕ, ◌+◌, ◌*◌, ◌≤◌, ◌<◌, ◌≡◌, true, false, ◌⊎◌, List, [], length, get_or, take, Float}
+use Rattle.std.specs.Prelude.{ℕ, ◌+◌, ◌*◌, ◌≤◌, ◌<◌, ◌≡◌, true, false, ◌⊎◌, List, [], length, get_or, take, Float, Result, Err}
 use Rattle.std.specs.Float.{nan}
 use Rattle.numbers.specs.Limits.{most_features, feature_width, value_fine}
 use Rattle.numbers.specs.Lists.{curve, filled, row, every}
+use Rattle.numbers.specs.declared.Refusal.{Refusal}
 use Rattle.row_pairs.specs.Pairs.{similarity_at}
 use Rattle.novelties.specs.Novelty.{novelty_at}
 use Rattle.patches.specs.Patches.{Patch, patch_of, past_row}
 use Rattle.patch_features.specs.declared.PatchedFeatures.{PatchedFeatures}
-use Rattle.patch_features.specs.declared.PatchedFeatures.TheVariants.{Refused}
 use Rattle.patch_features.specs.Features.{FeatureTrack, feature_track, pairs, touched, PatchFeaturesPromise}
 
 -- the curves that demand 2 gives rows of features
@@ -59,9 +59,9 @@ analysed_features rows lent =
 -- something new: of a sound track there is none, since its length tells its rows.
 pub data RanFeatures (rows : ℕ) : (was now : FeatureTrack) → Type 0 where
   stays : {was : FeatureTrack} → RanFeatures rows was was
-  patches : {was mid now : FeatureTrack} {patch : Patch} {answer : PatchedFeatures}
+  patches : {was mid now : FeatureTrack} {patch : Patch} {answer : Result PatchedFeatures Refusal}
       → PatchFeaturesPromise rows was patch answer mid → RanFeatures rows mid now → RanFeatures rows was now
-  refuses : {was mid now : FeatureTrack} {rows' k : ℕ} {patch : Patch}
-      → PatchFeaturesPromise rows' was patch (Refused k) mid → RanFeatures rows mid now → RanFeatures rows was now
-  empties : {was mid now : FeatureTrack} {rows' start : ℕ} {answer : PatchedFeatures}
+  refuses : {was mid now : FeatureTrack} {rows' : ℕ} {e : Refusal} {patch : Patch}
+      → PatchFeaturesPromise rows' was patch (Err e) mid → RanFeatures rows mid now → RanFeatures rows was now
+  empties : {was mid now : FeatureTrack} {rows' start : ℕ} {answer : Result PatchedFeatures Refusal}
       → PatchFeaturesPromise rows' was (patch_of start []) answer mid → RanFeatures rows mid now → RanFeatures rows was now

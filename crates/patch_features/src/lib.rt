@@ -5,6 +5,7 @@
 #![tactic(auto)]
 
 ghost use Rattle.std.specs.Prelude.{◌||◌, ◌≡◌, ◌+◌, ◌-◌, ◌*◌, ◌^◌, ◌≤◌, ◌<◌, length};
+ghost use Rattle.numbers.specs.Refusals.{number_of};
 ghost use Rattle.numbers.specs.Limits.{most_features, feature_width};
 ghost use Rattle.numbers.specs.Lists.{filled};
 ghost use Rattle.numbers.specs.Rounded.{pick};
@@ -13,6 +14,7 @@ ghost use Rattle.row_pairs.specs.Pairs.{band_width, similarity_at};
 ghost use Rattle.patch_features.specs.Features.{feature_track, first_pair, replaced, touched, mended_at};
 ghost use Rattle.patch_features.specs.Features.{feature_patch_bounds, feature_patch_room, feature_patch_values, feature_patch_number, PatchFeaturesPromise};
 
+use numbers::Refusal;
 use similarities::BAND_WIDTH;
 
 // how many rows after its own a similarity reaches
@@ -22,17 +24,14 @@ const BACK: usize = 8;
 
 const ON: usize = 7;
 
-// What a patch did: the number of its refusal, or the slots that it wrote of each curve, first and past-last. Of the similarity's slots it
-// wrote those of pairs that touch a replaced row.
+// What a patch did: the slots that it wrote of each curve, first and past-last. Of the similarity's slots it wrote those of pairs that touch a
+// replaced row.
 #[derive(Clone, Copy)]
-pub enum PatchedFeatures {
-    Refused(u32),
-    Wrote {
-        similarity_first: usize,
-        similarity_past: usize,
-        novelty_first: usize,
-        novelty_past: usize,
-    },
+pub struct PatchedFeatures {
+    pub similarity_first: usize,
+    pub similarity_past: usize,
+    pub novelty_first: usize,
+    pub novelty_past: usize,
 }
 
 // Replaces rows a = start up to b by the new ones, then writes the similarity of each pair that touches one of them and novelty slots a - 7
@@ -47,30 +46,27 @@ pub fn patch_features(
     new: &[f64],
     similarity: &mut [f64],
     novelty: &mut [f64],
-) -> PatchedFeatures
+) -> Result<PatchedFeatures, Refusal>
     ensures { PatchFeaturesPromise rows
         (feature_track features.old similarity.old novelty.old) (patch_of start new.now)
         result (feature_track features.new similarity.new novelty.new) }
 {
-    let number = refusal(features, rows, start, new, similarity, novelty);
-    if number != 0 {
-        return PatchedFeatures::Refused(number);
-    }
+    refusal(features, rows, start, new, similarity, novelty)?;
     if new.len() == 0 {
-        return PatchedFeatures::Wrote {
+        return Ok(PatchedFeatures {
             similarity_first: 0,
             similarity_past: 0,
             novelty_first: 0,
             novelty_past: 0,
-        };
+        });
     }
-    patches::copy_values(features, start * numbers::FEATURE_WIDTH, new);
+    patches::put_over(features, start * numbers::FEATURE_WIDTH, new);
     let past = start + new.len() / numbers::FEATURE_WIDTH;
     let similarity_first = first_pair(start);
     let similarity_past = past * BAND_WIDTH;
     mend_similarity(features, rows, start, past, similarity);
-    let novelty_first = numbers::less(start, ON);
-    let novelty_past = numbers::least(past + BACK, rows);
+    let novelty_first = start.saturating_sub(ON);
+    let novelty_past = (past + BACK).min(rows);
     let pairs = rows * BAND_WIDTH;
     novelties::fill_novelty(
         &similarity[0..pairs],
@@ -79,12 +75,12 @@ pub fn patch_features(
         novelty_past,
         novelty,
     );
-    PatchedFeatures::Wrote {
+    Ok(PatchedFeatures {
         similarity_first,
         similarity_past,
         novelty_first,
         novelty_past,
-    }
+    })
 }
 
 // the slot of the first pair that touches row `start`
@@ -92,7 +88,7 @@ fn first_pair(start: usize) -> usize
     requires { start ≤ most_features }
     ensures { result ≡ first_pair start }
 {
-    numbers::less(start, BAND) * BAND_WIDTH + numbers::least(start, BAND)
+    start.saturating_sub(BAND) * BAND_WIDTH + start.min(BAND)
 }
 
 // Writes the pairs that touch rows start up to past: those of rows before them slot by slot, as only some touch, and their own rows whole.
@@ -126,10 +122,8 @@ fn mend_before(
         ≡ filled (mended_at features.now rows start past similarity.old) similarity.old from (start * band_width) }
 {
     let to = start * BAND_WIDTH;
-    let mut k = from;
-    while k < to {
+    for k in from..to {
         similarity[k] = mended_slot(features, rows, start, past, k, similarity[k]);
-        k += 1;
     }
 }
 
@@ -165,11 +159,11 @@ fn refusal(
     new: &[f64],
     similarity: &[f64],
     novelty: &[f64],
-) -> u32
-    ensures { result ≡ feature_patch_number rows (feature_track features.now similarity.now novelty.now) (patch_of start new.now) }
+) -> Result<(), Refusal>
+    ensures { number_of result ≡ feature_patch_number rows (feature_track features.now similarity.now novelty.now) (patch_of start new.now) }
 {
     if !bounds_fine(rows, start) {
-        return numbers::OUT_OF_BOUNDS;
+        return Err(Refusal::OutOfBounds);
     }
     if !patches::whole_rows(
         features.len(),
@@ -178,15 +172,15 @@ fn refusal(
         start,
         new.len(),
     ) {
-        return numbers::WRONG_LENGTH;
+        return Err(Refusal::WrongLength);
     }
     if !room_fine(rows, similarity.len(), novelty.len()) {
-        return numbers::TOO_LITTLE_ROOM;
+        return Err(Refusal::TooLittleRoom);
     }
     if !values_fine(features, rows, new, similarity, novelty) {
-        return numbers::WRONG_VALUE;
+        return Err(Refusal::WrongValue);
     }
-    0
+    Ok(())
 }
 
 fn bounds_fine(rows: usize, start: usize) -> bool

@@ -1,19 +1,22 @@
 -- The three outcomes of a patch of magnitudes meet its promise, and any two that it permits coincide: what an answer says tells which it is. Assumes nothing.
-use mathlib.Core.List.{List, [], ◌∷◌}
+use mathlib.Core.List.{List}
 use mathlib.Core.Path.{◌≡◌, refl, sym, ap, ◌∙◌}
-use Prim.Native.Nat.{ℕ, zero, suc}
+use Prim.Native.Nat.{ℕ}
 use lib.Ieee.{Float}
 use lib.ListN.{length, take, drop}
+use Rattle.std.specs.Prelude.{Result, Ok, Err, IsErrAnd}
+use Rattle.numbers.proofs.Outcomes.{number-not_0, number-one}
 use Rattle.numbers.proofs.Tests.{refused_keeps}
 use Rattle.numbers.specs.Lists.{filled}
+use Rattle.numbers.specs.Refusals as Refusals
+use Rattle.numbers.specs.declared.Refusal.{Refusal}
 use Rattle.numbers.specs.declared.Slab.{Slab}
 use Rattle.flux.specs.Flux.{flux_at}
 use Rattle.threshold.specs.Threshold.{threshold_at, window_room}
 use Rattle.patches.proofs.Wholes.{empty_keeps, full_does}
-use Rattle.patches.proofs.Answers.{same_number, same-slots, some-slots, refused_returns}
-use Rattle.patches.specs.Patches.{Patch, edited, unless_empty, ranges, ranges_named, returned}
+use Rattle.patches.proofs.Answers.{same_number, same-slots, same_ends, some-slots, refused_returns}
+use Rattle.patches.specs.Patches.{Patch, edited, ranges, returned}
 use Rattle.patch_magnitudes.specs.declared.Patched.{Patched}
-use Rattle.patch_magnitudes.specs.declared.Patched.TheVariants.{Refused, Wrote}
 use Rattle.patch_magnitudes.specs.Tracks.{MagnitudeTrack, magnitude_track, patch_number}
 use Rattle.patch_magnitudes.specs.Magnitudes.{
   flux_past,
@@ -24,48 +27,47 @@ use Rattle.patch_magnitudes.specs.Magnitudes.{
   mended,
   patched_says,
   rows_named,
-  patch_answered,
   after,
   patch_sorted_in,
   PatchMagnitudesPromise,
 }
 
+-- the four slots of an answer
+abbrev pub patched_of : (flux_first flux_past threshold_first threshold_past : ℕ) → Patched
+patched_of flux_first flux_past threshold_first threshold_past =
+    record { flux_first = flux_first; flux_past = flux_past; threshold_first = threshold_first; threshold_past = threshold_past }
+
 -- what an answer says tells which it is
-pub says_one : (a b : Patched) → patched_says a ≡ patched_says b → a ≡ b
-says_one (Refused k) (Refused l) e = ap Refused (same_number e)
-says_one (Wrote f g t u) (Wrote f' g' t' u') e = cc (same-slots e)
-says_one (Refused k) (Wrote f g t u) e = absurd (some-slots (same-slots e))
-says_one (Wrote f g t u) (Refused k) e = absurd (some-slots (sym (same-slots e)))
-
--- `patch_answered` says its number and the slots that the patch names, and no other answer does
-wrote_says : (a b c d : ℕ) (new : List Float) → patched_says (unless_empty new (Wrote a b c d) (Wrote 0 0 0 0)) ≡ (0, ranges_named new (ranges a b c d))
-wrote_says a b c d [] = refl
-wrote_says a b c d (x ∷ xs) = refl
-
-pub answered_says : (n : ℕ) (slab : Slab) (patch : Patch) → patched_says (patch_answered n slab patch) ≡ returned n (rows_named slab patch)
-unfolding patch_answered
-answered_says zero slab patch = wrote_says _ _ _ _ patch.new
-answered_says (suc k) slab patch = refl
-
-pub is-answered : {slab : Slab} {was : MagnitudeTrack} {patch : Patch} {work : List Float} {answer : Patched} {now : MagnitudeTrack} {work' : List Float}
-    → PatchMagnitudesPromise slab was patch work answer now work' → answer ≡ patch_answered (patch_number slab was patch (length work)) slab patch
-is-answered {slab} {patch = patch} done = says_one _ _ (done.answer_is ∙ sym (answered_says _ slab patch))
+pub says_one : (a b : Result Patched Refusal) → patched_says a ≡ patched_says b → a ≡ b
+says_one (Err d) (Err e) h = ap Err (number-one d e (same_number h))
+says_one (Ok p) (Ok q) h =
+    let s = same_ends (same-slots h) in
+    ap Ok (λ i. record { flux_first = s.0 i; flux_past = s.1 i; threshold_first = s.2 i; threshold_past = s.3 i })
+says_one (Err e) (Ok q) h = absurd (some-slots (same-slots h))
+says_one (Ok p) (Err e) h = absurd (some-slots (sym (same-slots h)))
 
 module _ (slab : Slab) (was : MagnitudeTrack) (patch : Patch) (work : List Float) where
   abbrev number : ℕ
   number = patch_number slab was patch (length work)
 
-  pub refused : (k : ℕ) → k ≡ number → (k ≡ 0 → ⊥) → PatchMagnitudesPromise slab was patch work (Refused k) was work
+  pub refused : (e : Refusal) → Refusals.number e ≡ number → PatchMagnitudesPromise slab was patch work (Err e) was work
   unfolding after
-  refused k e h =
+  refused e h =
       record {
-        answer_is = refused_returns k (rows_named slab patch) h ∙ ap (λ (n : ℕ). returned n (rows_named slab patch)) e;
-        track_is = sym (refused_keeps number _ was (λ z. h (e ∙ z)));
+        answer_is =
+            refused_returns (Refusals.number e) (rows_named slab patch) (number-not_0 e) ∙ ap (λ (n : ℕ). returned n (rows_named slab patch)) h;
+        track_is = sym (refused_keeps number _ was (λ z. number-not_0 e (h ∙ z)));
         works = record { same_length = refl; kept = refl };
       }
 
+  -- a refusal that `?` hands on: e is what refused
+  pub refused_on : (r : Result Patched Refusal) (e : Refusal) → IsErrAnd r (λ (x : Refusal). x ≡ e) → Refusals.number e ≡ number
+      → PatchMagnitudesPromise slab was patch work r was work
+  refused_on (Ok slots) e h k = absurd h
+  refused_on (Err x) e h k = refused x (ap Refusals.number h ∙ k)
+
   module _ (none : number ≡ 0) where
-    pub empty : length patch.new ≡ 0 → PatchMagnitudesPromise slab was patch work (Wrote 0 0 0 0) was work
+    pub empty : length patch.new ≡ 0 → PatchMagnitudesPromise slab was patch work (Ok (patched_of 0 0 0 0)) was work
     unfolding after
     empty e =
         record {
@@ -79,7 +81,7 @@ module _ (slab : Slab) (was : MagnitudeTrack) (patch : Patch) (work : List Float
         → (m f t work' : List Float) → m ≡ edited slab.bins was.magnitudes patch → f ≡ filled (flux_at m slab) was.flux patch.start fp
         → t ≡ filled (threshold_at (take slab.rows f)) was.threshold tf tp → length work' ≡ length work
         → drop (window_room slab.rows) work' ≡ drop (window_room slab.rows) work
-        → PatchMagnitudesPromise slab was patch work (Wrote patch.start fp tf tp) (magnitude_track m f t) work'
+        → PatchMagnitudesPromise slab was patch work (Ok (patched_of patch.start fp tf tp)) (magnitude_track m f t) work'
     unfolding after mended mended_flux mended_threshold patch_sorted_in
     wrote some fp tf tp a b c m f t work' em ef et l k =
         record {
@@ -89,7 +91,7 @@ module _ (slab : Slab) (was : MagnitudeTrack) (patch : Patch) (work : List Float
         }
 
   -- any two outcomes coincide, but for the slots that are sorted in
-  pub unique : {a b : Patched} {x y : MagnitudeTrack} {v w : List Float} → PatchMagnitudesPromise slab was patch work a x v
+  pub unique : {a b : Result Patched Refusal} {x y : MagnitudeTrack} {v w : List Float} → PatchMagnitudesPromise slab was patch work a x v
       → PatchMagnitudesPromise slab was patch work b y w
       → (a ≡ b) × (x ≡ y) × (length v ≡ length w) × (drop (patch_sorted_in number slab.rows patch) v ≡ drop (patch_sorted_in number slab.rows patch) w)
   unique p q = (

@@ -7,6 +7,8 @@ use Prim.Native.Nat.{ℕ, zero, suc, ◌+◌, ◌*◌, ◌/◌, ◌≤◌, ◌<�
 use native.Mathlib.Omega.{arith}
 use lib.Ieee.{Float, nan}
 use lib.ListN.{length, take, drop}
+use Rattle.std.specs.Prelude.{Result, Ok, Err}
+use Rattle.numbers.proofs.Outcomes.{number-not_0}
 use Rattle.numbers.proofs.Slabs.{slab_fits}
 use Rattle.numbers.proofs.Overs.{length_over, every-over, patch_fits, row-over, row_over_in, over_none}
 use Rattle.numbers.proofs.Tabs.{length-tab, length-filled, filled_outside, filled-first}
@@ -14,16 +16,17 @@ use Rattle.numbers.proofs.Tests.{passed_does, and_both, lowest_0}
 use Rattle.numbers.specs.Limits.{magnitude_fine, value_fine}
 use Rattle.numbers.specs.Lists.{curve, every, filled, row}
 use Rattle.numbers.specs.Refusals.{unless_refused}
+use Rattle.numbers.specs.declared.Refusal.{Refusal}
 use Rattle.numbers.specs.declared.Slab.{Slab}
 use Rattle.flux.proofs.Fluxes.{FluxFine, flux_asked}
 use Rattle.onsets.proofs.Onsets.{threshold_takes}
 use Rattle.flux.specs.Flux.{flux_at, FluxPromise}
 use Rattle.threshold.specs.Threshold.{threshold_at, window_room, threshold_refusal, ThresholdPromise}
 use Rattle.patches.proofs.Parts.{filled-rest, filled_by}
+use Rattle.patches.proofs.Answers.{same_number, same-slots, same_ends, some-slots}
 use Rattle.patches.proofs.Wholes.{new_asked}
-use Rattle.patches.specs.Patches.{Patch, patch_of, new_rows, edited, unless_empty}
+use Rattle.patches.specs.Patches.{Patch, patch_of, new_rows, edited, unless_empty, returned}
 use Rattle.patch_magnitudes.specs.declared.Patched.{Patched}
-use Rattle.patch_magnitudes.specs.declared.Patched.TheVariants.{Refused, Wrote}
 use Rattle.patch_magnitudes.specs.Tracks.{MagnitudeTrack, magnitude_track, patch_values, patch_number}
 use Rattle.patch_magnitudes.specs.Magnitudes.{
   flux_first,
@@ -33,14 +36,14 @@ use Rattle.patch_magnitudes.specs.Magnitudes.{
   mended_flux,
   mended_threshold,
   mended,
-  patch_answered,
+  patched_says,
+  rows_named,
   after,
   patch_sorted_in,
   PatchMagnitudesPromise,
 }
 use Rattle.patch_magnitudes.specs.Runs.{flux_curve, threshold_curve, Fresh, Kept, Sound, Good, analysed, Ran, stays, patches, refuses, empties}
 use Rattle.patch_magnitudes.proofs.Asked.{Asked, asked, bounds_asked, lengths_asked, room_asked}
-use Rattle.patch_magnitudes.proofs.Outcomes.{is-answered}
 use Rattle.patch_magnitudes.proofs.Mended.{flux_mends, threshold_mends, flux-rest, threshold-rest, fluxes-fine, thresholds-fine}
 
 -- What holds of the track before a patch, and of a mended one, holds after it: it is refused, empty, or mended.
@@ -70,41 +73,35 @@ patched_is_fresh slab was patch room fresh =
     by_outcome (Fresh slab) slab was patch room fresh (mends slab was patch room fresh)
 
 -- what `patch_magnitudes` promises of one call, whatever it answers
-pub call_is_fresh : (slab : Slab) (was : MagnitudeTrack) (patch : Patch) (work : List Float) (answer : Patched) (now : MagnitudeTrack) (work' : List Float)
+pub call_is_fresh : (slab : Slab) (was : MagnitudeTrack) (patch : Patch) (work : List Float) (answer : Result Patched Refusal) (now : MagnitudeTrack)
+    (work' : List Float)
     → Fresh slab was → PatchMagnitudesPromise slab was patch work answer now work' → Fresh slab now
 call_is_fresh slab was patch work answer now work' fresh done = rw done.track_is (patched_is_fresh slab was patch (length work) fresh)
 
 -- ---- (2) An accepted patch leaves the edited rows. Outside them and the slots that the answer names nothing differs.
 
-module _ (slab : Slab) (was : MagnitudeTrack) (f g t u : ℕ) (now : MagnitudeTrack) where
-  accepted_passes : (n : ℕ) (patch : Patch) → Wrote f g t u ≡ patch_answered n slab patch → n ≡ 0
-  unfolding patch_answered
-  accepted_passes zero patch h = refl
-  accepted_passes (suc n) patch h = let z : ◌≡◌ {A = ℕ} 0 1 = cc in absurd (omega arith)
-
-  edited_by : (n start : ℕ) (new : List Float) → Wrote f g t u ≡ patch_answered n slab (patch_of start new)
-      → now ≡ unless_refused n (unless_empty new (mended slab was (patch_of start new)) was) was
+module _ (slab : Slab) (was now : MagnitudeTrack) where
+  edited_by : (n start : ℕ) (new : List Float) → n ≡ 0 → now ≡ unless_refused n (unless_empty new (mended slab was (patch_of start new)) was) was
       → now.magnitudes ≡ edited slab.bins was.magnitudes (patch_of start new)
-  unfolding patch_answered mended edited
-  edited_by (suc n) start new h k = let z : ◌≡◌ {A = ℕ} 0 1 = cc in absurd (omega arith)
+  unfolding mended edited
+  edited_by (suc n) start new h k = absurd (omega arith)
   edited_by zero start [] h k = ap (λ (s : MagnitudeTrack). s.magnitudes) k ∙ sym (over_none was.magnitudes (start * slab.bins))
   edited_by zero start (x ∷ xs) h k = ap (λ (s : MagnitudeTrack). s.magnitudes) k
 
-pub accepted_is_edited : (slab : Slab) (was : MagnitudeTrack) (patch : Patch) (work : List Float) (f g t u : ℕ) (now : MagnitudeTrack) (work' : List Float)
-    → PatchMagnitudesPromise slab was patch work (Wrote f g t u) now work' → now.magnitudes ≡ edited slab.bins was.magnitudes patch
+pub accepted_is_edited : (slab : Slab) (was : MagnitudeTrack) (patch : Patch) (work : List Float) (slots : Patched) (now : MagnitudeTrack) (work' : List Float)
+    → PatchMagnitudesPromise slab was patch work (Ok slots) now work' → now.magnitudes ≡ edited slab.bins was.magnitudes patch
 unfolding after
-accepted_is_edited slab was patch work f g t u now work' done =
-    edited_by slab was f g t u now (patch_number slab was patch (length work)) patch.start patch.new (is-answered done) done.track_is
+accepted_is_edited slab was patch work slots now work' done =
+    edited_by slab was now (patch_number slab was patch (length work)) patch.start patch.new (sym (same_number done.answer_is)) done.track_is
 
 -- row a + j is then the patch's row j
-pub replaced_are_new : (slab : Slab) (was : MagnitudeTrack) (patch : Patch) (work : List Float) (f g t u : ℕ) (now : MagnitudeTrack) (work' : List Float)
-    → PatchMagnitudesPromise slab was patch work (Wrote f g t u) now work'
+pub replaced_are_new : (slab : Slab) (was : MagnitudeTrack) (patch : Patch) (work : List Float) (slots : Patched) (now : MagnitudeTrack) (work' : List Float)
+    → PatchMagnitudesPromise slab was patch work (Ok slots) now work'
     → (j : ℕ) → j < length patch.new / slab.bins → row now.magnitudes slab.bins (patch.start + j) ≡ row patch.new slab.bins j
 unfolding edited
-replaced_are_new slab was patch work f g t u now work' done j h =
-    let z = accepted_passes slab was f g t u now (patch_number slab was patch (length work)) patch (is-answered done) in
-    let w = (asked slab was patch (length work) z).lengths in
-    ap (λ (m : List Float). row m slab.bins (patch.start + j)) (accepted_is_edited slab was patch work f g t u now work' done)
+replaced_are_new slab was patch work slots now work' done j h =
+    let w = (asked slab was patch (length work) (sym (same_number done.answer_is))).lengths in
+    ap (λ (m : List Float). row m slab.bins (patch.start + j)) (accepted_is_edited slab was patch work slots now work' done)
     ∙ row_over_in was.magnitudes patch.new slab.rows slab.bins patch.start (length patch.new / slab.bins) nan w.whole
     w.new-whole w.inside j h
 
@@ -136,26 +133,25 @@ mended_keeps slab was patch room a =
       threshold_stays = λ i h. filled_outside _ was.threshold _ _ (omega arith) (omega arith) i nan h;
     }
 
-module _ (slab : Slab) (was : MagnitudeTrack) (room f g t u : ℕ) (now : MagnitudeTrack) where
-  kept_by : (n start : ℕ) (new : List Float) → patch_number slab was (patch_of start new) room ≡ n → Wrote f g t u ≡ patch_answered n slab (patch_of start new)
-      → now ≡ unless_refused n (unless_empty new (mended slab was (patch_of start new)) was) was → Kept slab (patch_of start new) f g t u was now
-  unfolding patch_answered
-  kept_by (suc n) start new e h k = let z : ◌≡◌ {A = ℕ} 0 1 = cc in absurd (omega arith)
-  kept_by zero start [] e h k = rw k (unmoved slab (patch_of start []) f g t u was)
+module _ (slab : Slab) (was : MagnitudeTrack) (room : ℕ) (slots : Patched) (now : MagnitudeTrack) where
+  kept_by : (n start : ℕ) (new : List Float) → patch_number slab was (patch_of start new) room ≡ n
+      → patched_says (Ok slots) ≡ returned n (rows_named slab (patch_of start new))
+      → now ≡ unless_refused n (unless_empty new (mended slab was (patch_of start new)) was) was
+      → Kept slab (patch_of start new) slots.flux_first slots.flux_past slots.threshold_first slots.threshold_past was now
+  kept_by (suc n) start new e h k = absurd (some-slots (sym (same-slots h)))
+  kept_by zero start [] e h k =
+      rw k (unmoved slab (patch_of start []) slots.flux_first slots.flux_past slots.threshold_first slots.threshold_past was)
   kept_by zero start (x ∷ xs) e h k =
       let patch = patch_of start (x ∷ xs) in
-      let p : f ≡ flux_first patch = cc in
-      let q : g ≡ flux_past slab patch = cc in
-      let r : t ≡ threshold_first patch = cc in
-      let s : u ≡ threshold_past slab patch = cc in
-      rw (k, p, q, r, s) (mended_keeps slab was patch room (asked slab was patch room e))
+      let s = same_ends (same-slots h) in
+      rw (k, s.0, s.1, s.2, s.3) (mended_keeps slab was patch room (asked slab was patch room e))
 
-pub outside_stays : (slab : Slab) (was : MagnitudeTrack) (patch : Patch) (work : List Float) (f g t u : ℕ) (now : MagnitudeTrack) (work' : List Float)
-    → PatchMagnitudesPromise slab was patch work (Wrote f g t u) now work' → Kept slab patch f g t u was now
+pub outside_stays : (slab : Slab) (was : MagnitudeTrack) (patch : Patch) (work : List Float) (slots : Patched) (now : MagnitudeTrack) (work' : List Float)
+    → PatchMagnitudesPromise slab was patch work (Ok slots) now work'
+    → Kept slab patch slots.flux_first slots.flux_past slots.threshold_first slots.threshold_past was now
 unfolding after
-outside_stays slab was patch work f g t u now work' done =
-    kept_by slab was (length work) f g t u now (patch_number slab was patch (length work)) patch.start patch.new refl
-    (is-answered done) done.track_is
+outside_stays slab was patch work slots now work' done =
+    kept_by slab was (length work) slots now (patch_number slab was patch (length work)) patch.start patch.new refl done.answer_is done.track_is
 
 -- ---- (3) An empty patch changes nothing. (4) A refused one changes nothing.
 
@@ -165,28 +161,28 @@ unfolding patch_sorted_in
 empty_keeps_all zero rows start was now work work' e h = (e, h)
 empty_keeps_all (suc n) rows start was now work work' e h = (e, h)
 
-pub empty_changes_nothing : (slab : Slab) (was : MagnitudeTrack) (start : ℕ) (work : List Float) (answer : Patched) (now : MagnitudeTrack) (work' : List Float)
+pub empty_changes_nothing : (slab : Slab) (was : MagnitudeTrack) (start : ℕ) (work : List Float) (answer : Result Patched Refusal) (now : MagnitudeTrack)
+    (work' : List Float)
     → PatchMagnitudesPromise slab was (patch_of start []) work answer now work' → (now ≡ was) × (work' ≡ work)
 unfolding after
 empty_changes_nothing slab was start work answer now work' done =
     empty_keeps_all (patch_number slab was (patch_of start []) (length work)) slab.rows start was now work work' done.track_is done.works.kept
 
-module _ (slab : Slab) (was now : MagnitudeTrack) (work work' : List Float) (k : ℕ) where
-  refused_keeps_all : (n start : ℕ) (new : List Float) → Refused k ≡ patch_answered n slab (patch_of start new)
+module _ (slab : Slab) (was now : MagnitudeTrack) (work work' : List Float) where
+  refused_keeps_all : (n start : ℕ) (new : List Float) → (n ≡ 0 → ⊥)
       → now ≡ unless_refused n (unless_empty new (mended slab was (patch_of start new)) was) was
       → drop (patch_sorted_in n slab.rows (patch_of start new)) work' ≡ drop (patch_sorted_in n slab.rows (patch_of start new)) work
       → (now ≡ was) × (work' ≡ work)
-  unfolding patch_answered patch_sorted_in
+  unfolding patch_sorted_in
   refused_keeps_all (suc n) start new e h w = (h, w)
-  refused_keeps_all zero start [] e h w = let z : ◌≡◌ {A = ℕ} 0 1 = cc in absurd (omega arith)
-  refused_keeps_all zero start (x ∷ xs) e h w = let z : ◌≡◌ {A = ℕ} 0 1 = cc in absurd (omega arith)
+  refused_keeps_all zero start new e h w = absurd (e refl)
 
-pub refused_changes_nothing : (slab : Slab) (was : MagnitudeTrack) (patch : Patch) (work : List Float) (k : ℕ) (now : MagnitudeTrack) (work' : List Float)
-    → PatchMagnitudesPromise slab was patch work (Refused k) now work' → (now ≡ was) × (work' ≡ work)
+pub refused_changes_nothing : (slab : Slab) (was : MagnitudeTrack) (patch : Patch) (work : List Float) (e : Refusal) (now : MagnitudeTrack) (work' : List Float)
+    → PatchMagnitudesPromise slab was patch work (Err e) now work' → (now ≡ was) × (work' ≡ work)
 unfolding after
-refused_changes_nothing slab was patch work k now work' done =
-    refused_keeps_all slab was now work work' k (patch_number slab was patch (length work)) patch.start patch.new
-    (is-answered done) done.track_is done.works.kept
+refused_changes_nothing slab was patch work e now work' done =
+    refused_keeps_all slab was now work work' (patch_number slab was patch (length work)) patch.start patch.new
+    (λ z. number-not_0 e (same_number done.answer_is ∙ z)) done.track_is done.works.kept
 
 -- ---- (5) Any run of patches on a fresh analysis, refused ones among them, ends as one fresh analysis of the last rows.
 

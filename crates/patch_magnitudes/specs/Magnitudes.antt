@@ -1,17 +1,17 @@
 -- Document 01, "Patching (added)", for magnitude rows with their flux and threshold curves: "Copy in the rows, then write flux and
 -- threshold .. in demand 3's slots. Threshold slots follow from the lent flux as it then stands .. The answer names first and past-last
 -- slot written per curve; .. an empty patch names 0 to 0." Demand 3: "flux slots a to b and threshold slots a-10 to b+10, cut at the ends".
-use Rattle.std.specs.Prelude.{ℕ, zero, suc, ◌+◌, ◌-◌, min, ◌≡◌, List, [], length, take, Float}
+use Rattle.std.specs.Prelude.{ℕ, ◌+◌, ◌-◌, min, ◌≡◌, List, [], length, take, Float, Result, Ok, Err}
 use Rattle.numbers.specs.Lists.{filled}
-use Rattle.numbers.specs.Refusals.{unless_refused}
+use Rattle.numbers.specs.Refusals.{number, unless_refused}
 use Rattle.numbers.specs.Outcomes.{Open}
+use Rattle.numbers.specs.declared.Refusal.{Refusal}
 use Rattle.numbers.specs.declared.Slab.{Slab}
 use Rattle.flux.specs.Flux.{flux_at}
 use Rattle.threshold.specs.Threshold.{reach, threshold_at, window_room}
 use Rattle.patches.specs.Patches.{Patch, past_row, edited, unless_empty, ranges, ranges_named, returned}
 use Rattle.patch_magnitudes.specs.Tracks.{MagnitudeTrack, magnitude_track, patch_number}
 use Rattle.patch_magnitudes.specs.declared.Patched.{Patched}
-use Rattle.patch_magnitudes.specs.declared.Patched.TheVariants.{Refused, Wrote}
 
 -- ---- the slots that are written, first and past-last
 
@@ -46,23 +46,16 @@ mended slab was patch =
 
 -- ---- the call
 
--- What an answer says, "this paper's number and values for each of its cases". `Refused k` is number k and names no slots; `Wrote` is number 0
--- and names first and past-last slot of the flux, and of the threshold.
-abbrev pub patched_says : Patched → ℕ × List ℕ
-patched_says (Refused k) = (k, [])
-patched_says (Wrote flux_from flux_to threshold_from threshold_to) = (0, ranges flux_from flux_to threshold_from threshold_to)
+-- What an answer says, "this paper's number and values for each of its cases". `Ok slots` is number 0 and names first and past-last slot of the
+-- flux, and of the threshold; `Err e` is the number of e in the table and names no slots.
+abbrev pub patched_says : Result Patched Refusal → ℕ × List ℕ
+patched_says (Ok slots) = (0, ranges slots.flux_first slots.flux_past slots.threshold_first slots.threshold_past)
+patched_says (Err e) = (number e, [])
 
 -- the slots that a patch names
 abbrev pub rows_named : Slab → Patch → List ℕ
 rows_named slab patch =
     ranges_named patch.new (ranges (flux_first patch) (flux_past slab patch) (threshold_first patch) (threshold_past slab patch))
-
--- Inner: the one answer with this number that says so (`is-answered`, proofs/Outcomes)
-unfoldable pub patch_answered : (number : ℕ) → Slab → Patch → Patched
-patch_answered zero slab patch =
-    unless_empty patch.new (Wrote (flux_first patch) (flux_past slab patch) (threshold_first patch) (threshold_past slab patch))
-    (Wrote 0 0 0 0)
-patch_answered (suc k) slab patch = Refused (suc k)
 
 -- the track afterwards: a refusal and an empty patch change nothing
 unfoldable pub after : Slab → MagnitudeTrack → Patch → (room : ℕ) → MagnitudeTrack
@@ -77,7 +70,7 @@ patch_sorted_in number rows patch = unless_refused number (unless_empty patch.ne
 -- and none of it where nothing is written.
 pub record PatchMagnitudesPromise
     (slab : Slab) (was : MagnitudeTrack) (patch : Patch) (work : List Float)
-    (answer : Patched) (now : MagnitudeTrack) (work' : List Float) : Type 0 where
+    (answer : Result Patched Refusal) (now : MagnitudeTrack) (work' : List Float) : Type 0 where
   pub answer_is : patched_says answer ≡ returned (patch_number slab was patch (length work)) (rows_named slab patch)
   pub track_is : now ≡ after slab was patch (length work)
   pub works : Open (patch_sorted_in (patch_number slab was patch (length work)) slab.rows patch) work work'

@@ -1,15 +1,15 @@
 -- Demand 3: "Patching equals starting over .. Any run of patches, refused ones among them, ends as one fresh analysis of the last rows."
 -- The words in which that is said; proofs/Repairs has the theorems.
-use Rattle.std.specs.Prelude.{ℕ, ◌+◌, ◌*◌, ◌≤◌, ◌<◌, ◌≡◌, true, ◌⊎◌, List, [], length, get_or, take, Float}
+use Rattle.std.specs.Prelude.{ℕ, ◌+◌, ◌*◌, ◌≤◌, ◌<◌, ◌≡◌, true, ◌⊎◌, List, [], length, get_or, take, Float, Result, Err}
 use Rattle.std.specs.Float.{nan}
 use Rattle.numbers.specs.Limits.{magnitude_fine, slab_fine, slab_slots}
 use Rattle.numbers.specs.Lists.{curve, filled, row, every}
+use Rattle.numbers.specs.declared.Refusal.{Refusal}
 use Rattle.numbers.specs.declared.Slab.{Slab}
 use Rattle.flux.specs.Flux.{flux_at}
 use Rattle.threshold.specs.Threshold.{threshold_at, window_room}
 use Rattle.patches.specs.Patches.{Patch, patch_of, past_row}
 use Rattle.patch_magnitudes.specs.declared.Patched.{Patched}
-use Rattle.patch_magnitudes.specs.declared.Patched.TheVariants.{Refused}
 use Rattle.patch_magnitudes.specs.Tracks.{MagnitudeTrack, magnitude_track}
 use Rattle.patch_magnitudes.specs.Magnitudes.{PatchMagnitudesPromise}
 
@@ -62,9 +62,9 @@ analysed slab lent =
 -- that is accepted with something new: it patches another track, which lies in the same slices.
 pub data Ran (slab : Slab) : (was now : MagnitudeTrack) → Type 0 where
   stays : {was : MagnitudeTrack} → Ran slab was was
-  patches : {was mid now : MagnitudeTrack} {patch : Patch} {work work' : List Float} {answer : Patched}
+  patches : {was mid now : MagnitudeTrack} {patch : Patch} {work work' : List Float} {answer : Result Patched Refusal}
       → PatchMagnitudesPromise slab was patch work answer mid work' → Ran slab mid now → Ran slab was now
-  refuses : {was mid now : MagnitudeTrack} {slab' : Slab} {k : ℕ} {patch : Patch} {work work' : List Float}
-      → PatchMagnitudesPromise slab' was patch work (Refused k) mid work' → Ran slab mid now → Ran slab was now
-  empties : {was mid now : MagnitudeTrack} {slab' : Slab} {start : ℕ} {work work' : List Float} {answer : Patched}
+  refuses : {was mid now : MagnitudeTrack} {slab' : Slab} {e : Refusal} {patch : Patch} {work work' : List Float}
+      → PatchMagnitudesPromise slab' was patch work (Err e) mid work' → Ran slab mid now → Ran slab was now
+  empties : {was mid now : MagnitudeTrack} {slab' : Slab} {start : ℕ} {work work' : List Float} {answer : Result Patched Refusal}
       → PatchMagnitudesPromise slab' was (patch_of start []) work answer mid work' → Ran slab mid now → Ran slab was now

@@ -11,18 +11,15 @@ ghost use Rattle.patches.specs.Patches.{patch_of};
 ghost use Rattle.patch_magnitudes.specs.Tracks.{magnitude_track};
 ghost use Rattle.patch_magnitudes.specs.Magnitudes.{PatchMagnitudesPromise};
 
-use numbers::Slab;
+use numbers::{Refusal, Slab};
 
-// What a patch did: the number of its refusal, or the slots that it wrote of each curve, first and past-last.
+// What a patch did: the slots that it wrote of each curve, first and past-last.
 #[derive(Clone, Copy)]
-pub enum Patched {
-    Refused(u32),
-    Wrote {
-        flux_first: usize,
-        flux_past: usize,
-        threshold_first: usize,
-        threshold_past: usize,
-    },
+pub struct Patched {
+    pub flux_first: usize,
+    pub flux_past: usize,
+    pub threshold_first: usize,
+    pub threshold_past: usize,
 }
 
 // Replaces rows a = start up to b by the new ones, then writes flux slots a to b and threshold slots a - 10 to b + 10, cut at the
@@ -39,31 +36,28 @@ pub fn patch_magnitudes(
     flux: &mut [f64],
     threshold: &mut [f64],
     work: &mut [f64],
-) -> Patched
+) -> Result<Patched, Refusal>
     ensures { PatchMagnitudesPromise (slab_of rows bins)
         (magnitude_track magnitudes.old flux.old threshold.old) (patch_of start new.now) work.old
         result (magnitude_track magnitudes.new flux.new threshold.new) work.new }
 {
     let slab = Slab { rows, bins };
-    let number = refusal::refusal(magnitudes, slab, start, new, flux, threshold, work.len());
-    if number != 0 {
-        return Patched::Refused(number);
-    }
+    refusal::refusal(magnitudes, slab, start, new, flux, threshold, work.len())?;
     if new.len() == 0 {
-        return Patched::Wrote {
+        return Ok(Patched {
             flux_first: 0,
             flux_past: 0,
             threshold_first: 0,
             threshold_past: 0,
-        };
+        });
     }
     let count = new.len() / bins;
     let flux_past = mending::mend_flux(magnitudes, slab, start, count, new, flux);
     let slots = mending::mend_threshold(flux, rows, start, count, threshold, work);
-    Patched::Wrote {
+    Ok(Patched {
         flux_first: start,
         flux_past,
         threshold_first: slots.first,
         threshold_past: slots.past,
-    }
+    })
 }

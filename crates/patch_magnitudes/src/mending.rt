@@ -35,9 +35,9 @@ pub fn mend_flux(
     ensures magnitudes_after { magnitudes.new ≡ edited slab.bins magnitudes.old (patch_of start new.now) }
     ensures flux_after { flux.new ≡ filled (flux_at magnitudes.new slab) flux.old start result }
 {
-    patches::copy_magnitudes(magnitudes, start * slab.bins, new);
+    patches::put_over(magnitudes, start * slab.bins, new);
     let past = start + count;
-    let flux_past = numbers::least(past + 1, slab.rows);
+    let flux_past = (past + 1).min(slab.rows);
     flux::fill_flux(magnitudes, slab, start, flux_past, flux);
     flux_past
 }
@@ -59,8 +59,8 @@ pub fn mend_threshold(
     ensures work_unchanged { drop (window_room rows) work.new ≡ drop (window_room rows) work.old }
 {
     let past = start + count;
-    let threshold_first = numbers::less(start, REACH);
-    let threshold_past = numbers::least(past + REACH + 1, rows);
+    let threshold_first = start.saturating_sub(REACH);
+    let threshold_past = (past + REACH + 1).min(rows);
     threshold::fill_threshold(
         &flux[0..rows],
         threshold,

@@ -2,10 +2,11 @@
 //
 // Document 01, Patching (added).
 ghost use Rattle.std.specs.Prelude.{true, ◌≡◌, ◌≤◌, length};
+ghost use Rattle.numbers.specs.Refusals.{number_of};
 ghost use Rattle.patches.specs.Patches.{patch_of};
 ghost use Rattle.patch_magnitudes.specs.Tracks.{magnitude_track, patch_bounds, patch_lengths, patch_room, patch_values, patch_number};
 
-use numbers::Slab;
+use numbers::{Refusal, Slab};
 use threshold::MEDIAN_WINDOW;
 
 // The number of a patch, lent `room` slots to sort in.
@@ -17,25 +18,25 @@ pub fn refusal(
     flux: &[f64],
     threshold: &[f64],
     room: usize,
-) -> u32
-    ensures { result ≡
+) -> Result<(), Refusal>
+    ensures { number_of result ≡
         patch_number slab (magnitude_track magnitudes.now flux.now threshold.now)
         (patch_of start new.now) room }
 {
     if !bounds_fine(slab, start) {
-        return numbers::OUT_OF_BOUNDS;
+        return Err(Refusal::OutOfBounds);
     }
     if !lengths_fine(slab, magnitudes.len(), start, new.len()) {
-        return numbers::WRONG_LENGTH;
+        return Err(Refusal::WrongLength);
     }
     let rows = slab.rows;
     if !room_fine(rows, flux.len(), threshold.len(), room) {
-        return numbers::TOO_LITTLE_ROOM;
+        return Err(Refusal::TooLittleRoom);
     }
     if !values_fine(magnitudes, rows, new, flux, threshold) {
-        return numbers::WRONG_VALUE;
+        return Err(Refusal::WrongValue);
     }
-    0
+    Ok(())
 }
 
 fn bounds_fine(slab: Slab, start: usize) -> bool
@@ -54,7 +55,7 @@ fn lengths_fine(slab: Slab, slots: usize, start: usize, added: usize) -> bool
 fn room_fine(rows: usize, flux: usize, threshold: usize, room: usize) -> bool
     ensures { result ≡ patch_room rows flux threshold room }
 {
-    rows <= flux && (rows <= threshold && numbers::least(MEDIAN_WINDOW, rows) <= room)
+    rows <= flux && (rows <= threshold && MEDIAN_WINDOW.min(rows) <= room)
 }
 
 fn values_fine(

@@ -12,6 +12,10 @@ module _ {m n : ℕ} {x y : List ℕ} (e : ◌≡◌ {A = ℕ × List ℕ} (m, x
   pub same-slots : x ≡ y
   same-slots = ap (λ (said : ℕ × List ℕ). said.1) e
 
+-- ranges that coincide have the same ends
+pub same_ends : {a b c d a' b' c' d' : ℕ} → ranges a b c d ≡ ranges a' b' c' d' → (a ≡ a') × (b ≡ b') × (c ≡ c') × (d ≡ d')
+same_ends e = (cc, cc, cc, cc)
+
 -- ranges are slots
 pub some-slots : {a b c d : ℕ} → [] ≡ ranges a b c d → ⊥
 some-slots e = let z : ◌≡◌ {A = ℕ} 0 1 = cc in omega arith

@@ -29,26 +29,10 @@ pub fn whole_rows(slots: usize, rows: usize, width: usize, start: usize, added: 
     new_rows(rows, width, start, added)
 }
 
-// Inner: writes the new magnitudes over the old ones from slot `at` on.
-pub fn copy_magnitudes(magnitudes: &mut [f32], at: usize, new: &[f32])
-    requires { at + length new.now ≤ length magnitudes.old }
-    ensures { magnitudes.new ≡ over magnitudes.old at new.now }
+// Inner: writes new values over the old ones from slot `at` on.
+pub fn put_over<T: Copy>(old: &mut [T], at: usize, new: &[T])
+    requires { at + length new.now ≤ length old.old }
+    ensures { old.new ≡ over old.old at new.now }
 {
-    let mut j = 0;
-    while j < new.len() {
-        magnitudes[at + j] = new[j];
-        j += 1;
-    }
-}
-
-// Inner: writes the new values over the old ones from slot `at` on.
-pub fn copy_values(values: &mut [f64], at: usize, new: &[f64])
-    requires { at + length new.now ≤ length values.old }
-    ensures { values.new ≡ over values.old at new.now }
-{
-    let mut k = 0;
-    while k < new.len() {
-        values[at + k] = new[k];
-        k += 1;
-    }
+    old[at..at + new.len()].copy_from_slice(new);
 }

@@ -13,7 +13,7 @@ use lib.Ieee.{Float, nan, lt, le}
 use lib.Ieee.Scale.{finite}
 use Rattle.numbers.specs.Limits.{most_rows, most_period, value_fine}
 use Rattle.numbers.specs.Lists.{listed, every}
-use Rattle.numbers.specs.declared.Listing.{Listing}
+use Rattle.numbers.specs.Outcomes.{Listing}
 use Rattle.numbers.specs.declared.Slab.{Slab}
 use Rattle.numbers.proofs.Tests.{and_left, and_right, lowest-zero, passed_does}
 use Rattle.numbers.proofs.Tabs.{get_or_listed_in, listed-first, filled-first}
@@ -33,8 +33,7 @@ use Rattle.rooms.specs.Rooms.{Results, Spare, envelope_number, magnitudes_number
 use Rattle.rooms.specs.Inner.{Ready}
 use Rattle.rooms.proofs.Rooms.{ready_of}
 use Rattle.track_parts.proofs.Follows.{search_passed}
-use Rattle.track.specs.declared.Analysis.{Analysis}
-use Rattle.track.specs.Analyses.{estimate_in, winners_lag, period_in, beats_in, analysis_of, written_in}
+use Rattle.track.specs.Analyses.{AnalysisSaid, estimate_in, winners_lag, period_in, beats_in, analysis_of, written_in}
 use Rattle.analysis.specs.Analyses.{EnvelopePromise, MagnitudesPromise}
 use Rattle.analysis.proofs.Promises.{flux_is_the_envelope}
 use Rattle.promises.proofs.FullRuns.{answered-number, full_run_number}
@@ -141,7 +140,7 @@ period_most env rate o r s ready =
     omega (arith, ap winners_lag e, winner-most env heard rate o clarity weight work unused)
 
 -- `analyse_envelope`
-pub analysis_is_the_best : {env : List Float} {rate : ℕ} {o : TempoOpts} {was : Results} {lent : Spare} {answer : Analysis} {after : Results} {left : Spare}
+pub analysis_is_the_best : {env : List Float} {rate : ℕ} {o : TempoOpts} {was : Results} {lent : Spare} {answer : AnalysisSaid} {after : Results} {left : Spare}
     → EnvelopePromise env rate o was lent answer after left → answer.number ≡ 0 → 0 < answer.beats
     → BestChain env (get_or answer.candidates 0 unused).lag after.score (take answer.beats after.beats)
 unfolding analysis_of written_in period_in beats_in
@@ -151,14 +150,14 @@ analysis_is_the_best {env} {rate} {o} {was} {lent} {answer} {after} p accepted s
     let ready = ready_of env rate o was lent none in
     let a : answer ≡ analysis_of env rate o = p.answered ∙ passed_does _ _ _ none in
     let w : after ≡ written_in env rate o was = p.written ∙ passed_does _ (written_in env rate o was) was none in
-    let n : answer.beats ≡ length (grid_of env period) = ap (λ (x : Analysis). x.beats) a in
+    let n : answer.beats ≡ length (grid_of env period) = ap (λ (x : AnalysisSaid). x.beats) a in
     let b : Beating env period =
     record { fine = ready.values; rows = ready.rows; long = period_most env rate o was lent ready; some = omega (arith, n) } in
     rw (a, w) (as_written env period was.score was.beats b)
 
 -- `analyse_magnitudes`: the flux that it leaves
 pub analysis_of_magnitudes_is_the_best : {magnitudes : List Float} {slab : Slab} {rate : ℕ} {o : TempoOpts} {flux : List Float} {was : Results} {lent : Spare}
-    {answer : Analysis} {flux' : List Float} {after : Results} {left : Spare}
+    {answer : AnalysisSaid} {flux' : List Float} {after : Results} {left : Spare}
     → MagnitudesPromise magnitudes slab rate o flux was lent answer flux' after left → answer.number ≡ 0 → 0 < answer.beats
     → BestChain (take slab.rows flux') (get_or answer.candidates 0 unused).lag after.score (take answer.beats after.beats)
 analysis_of_magnitudes_is_the_best {magnitudes} {slab} {rate} {o} {flux} {was} {lent} p accepted some =

@@ -6,6 +6,7 @@
 use mathlib.Core.List.{List}
 use mathlib.Core.Path.{◌≡◌, sym, ap, ◌∙◌}
 use Prim.Native.Nat.{ℕ}
+use Rattle.std.specs.Prelude.{Result}
 use denote.Ref.{Bor}
 use lib.Ieee.{Float, of_int, of_bits}
 use lib.ListN.{length, drop}
@@ -13,14 +14,13 @@ use Rattle.numbers.specs.Lists.{curve}
 use Rattle.numbers.specs.declared.Slab.{Slab}
 use Rattle.numbers.specs.Refusals.{unless_refused}
 use Rattle.numbers.specs.Rounded.{real}
-use Rattle.numbers.specs.declared.Listing.{Listing}
-use Rattle.numbers.specs.Outcomes.{Written, ListWritten}
+use Rattle.numbers.specs.Outcomes.{Listing, Written, ListWritten}
 use Rattle.numbers.proofs.Outcomes.{written_unique, lists_unique, open_unique}
 use Rattle.frames.specs.Frames.{RowOf}
 use Rattle.frames.proofs.Laws.{one_part}
 use Rattle.median.specs.Answers.{Answered}
 use Rattle.median.proofs.Outcomes.{answered_unique}
-use Rattle.median.specs.declared.Answer.{Answer}
+use Rattle.numbers.specs.declared.Refusal.{Refusal}
 use Rattle.flux.specs.Flux.{flux_at, FluxPromise}
 use Rattle.threshold.specs.Threshold.{sorting_room, threshold_refusal, ThresholdPromise}
 use Rattle.onsets.specs.Peaks.{SuppressionPromise}
@@ -29,15 +29,12 @@ use Rattle.cues.specs.Calls.{WriteCuesPromise, ReadCuesPromise}
 use Rattle.labels.specs.Calls.{LabelsRoomPromise, WriteLabelsPromise, ReadLabelsPromise}
 use Rattle.label_cues.specs.Calls.{LabelsToCuesPromise, CuesToLabelsPromise}
 use Rattle.threshold.proofs.Thresholds.{thresholds_unique}
-use Rattle.lags.specs.Lags.{min_lag, max_lag, lag_range}
+use Rattle.lags.specs.Lags.{LagsSaid, min_lag, max_lag, lag_range}
 use Rattle.options.specs.Options.{default_options, options_of, with_min_bpm, with_max_bpm, with_meter}
-use Rattle.lags.specs.declared.LagRange.{LagRange}
 use Rattle.options.specs.declared.TempoOpts.{TempoOpts}
-use Rattle.tempo.specs.Answers.{EstimatePromise}
-use Rattle.tempo.specs.declared.TempoEstimate.{TempoEstimate}
+use Rattle.tempo.specs.Answers.{EstimateSaid, EstimatePromise}
 use Rattle.tempo.proofs.Promises as tempo
-use Rattle.stability.specs.Answers.{stability_refusal, left_open, StabilityPromise}
-use Rattle.stability.specs.declared.Steadiness.{Steadiness}
+use Rattle.stability.specs.Answers.{Steadiness, stability_refusal, left_open, StabilityPromise}
 use Rattle.stability.proofs.Promises as stability
 use Rattle.beats.specs.Grids.{GridPromise}
 use Rattle.bars.specs.BarBeats.{BarBeatPromise}
@@ -49,8 +46,7 @@ use Rattle.feature_places.specs.declared.FeatureGrid.{FeatureGrid}
 use Rattle.features.specs.Features.{FeatureRowsPromise}
 use Rattle.similarities.specs.Similarity.{SimilarityPromise}
 use Rattle.novelties.specs.Novelty.{NoveltyPromise}
-use Rattle.sections.specs.Outcomes.{worked_in, Found, BoundaryTimesPromise}
-use Rattle.sections.specs.declared.Sections.{Sections}
+use Rattle.sections.specs.Outcomes.{SectionsSaid, worked_in, Found, BoundaryTimesPromise}
 use Rattle.sections.proofs.Outcomes.{found_unique}
 use Rattle.patches.specs.Patches.{Patch}
 use Rattle.patch_magnitudes.specs.Tracks as tracks
@@ -60,18 +56,16 @@ use Rattle.patch_magnitudes.proofs.Outcomes as magnitude_outcomes
 use Rattle.patch_features.specs.Features as features
 use Rattle.patch_features.specs.declared.PatchedFeatures.{PatchedFeatures}
 use Rattle.patch_features.proofs.Outcomes as feature_outcomes
-use Rattle.rooms.specs.Rooms.{Results, Spare, room_of, magnitudes_number}
-use Rattle.track.specs.Analyses.{open_lags, open_work, Analysed}
+use Rattle.rooms.specs.Rooms.{RoomSaid, Results, Spare, room_of, magnitudes_number}
+use Rattle.track.specs.Analyses.{AnalysisSaid, open_lags, open_work, Analysed}
 use Rattle.analysis.specs.Analyses.{MagnitudesPromise}
-use Rattle.track.specs.declared.Analysis.{Analysis}
-use Rattle.rooms.specs.declared.Room.{Room}
 use Rattle.analysis.proofs.Promises as analyses
 
 -- `lag_range`, `room_of`
-pub lag_range_lem : (rate : ℕ) (o : TempoOpts) {a b : LagRange} → a ≡ lag_range rate o → b ≡ lag_range rate o → a ≡ b
+pub lag_range_lem : (rate : ℕ) (o : TempoOpts) {a b : LagsSaid} → a ≡ lag_range rate o → b ≡ lag_range rate o → a ≡ b
 lag_range_lem rate o p q = p ∙ sym q
 
-pub room_of_lem : (rows rate : ℕ) (o : TempoOpts) {a b : Room} → a ≡ room_of rows rate o → b ≡ room_of rows rate o → a ≡ b
+pub room_of_lem : (rows rate : ℕ) (o : TempoOpts) {a b : RoomSaid} → a ≡ room_of rows rate o → b ≡ room_of rows rate o → a ≡ b
 room_of_lem rows rate o p q = p ∙ sym q
 
 -- `bar_beat_at`: two answers that say the same are one
@@ -192,7 +186,7 @@ pub row : {slab p q : Bor (List Float)} {bins t : ℕ} → RowOf slab bins t p �
 row = one_part
 
 -- `median_of`, `mad_of`: `MedianPromise` and `MadPromise` are `Answered` of their own numbers and values
-pub median : {number : ℕ} {value : Float} {xs work : List Float} {a b : Answer} {v w : List Float}
+pub median : {number : ℕ} {value : Float} {xs work : List Float} {a b : Result Float Refusal} {v w : List Float}
     → Answered number value xs work a v → Answered number value xs work b w
     → let sorted = unless_refused number (length xs) 0 in (a ≡ b) × (length v ≡ length w) × (drop sorted v ≡ drop sorted w)
 median = answered_unique
@@ -205,7 +199,7 @@ pub adaptive_threshold : {flux threshold work : List Float} {a b : ℕ} {x y v w
 adaptive_threshold = thresholds_unique
 
 -- `estimate`: the work slice too, since nothing is sorted in it
-pub estimate : {env : List Float} {onsets rate : ℕ} {o : TempoOpts} {clarity weight work : List Float} {a b : TempoEstimate} {c d w v k l : List Float}
+pub estimate : {env : List Float} {onsets rate : ℕ} {o : TempoOpts} {clarity weight work : List Float} {a b : EstimateSaid} {c d w v k l : List Float}
     → EstimatePromise env onsets rate o clarity weight work a c w k → EstimatePromise env onsets rate o clarity weight work b d v l
     → (a ≡ b) × (c ≡ d) × (w ≡ v) × (k ≡ l)
 estimate = tempo.coincide
@@ -251,14 +245,14 @@ pub novelty : {similarities : List Float} {rows : ℕ} {was : List Float} {m n :
 novelty p q = (p.answer ∙ sym q.answer, p.slots ∙ sym q.slots)
 
 -- `boundaries`: `BoundariesPromise` is `Found` of its number and its boundaries
-pub boundaries : (number : ℕ) (curve : List Float) (bounds rows : List ℕ) (work : List Float) {a b : Sections} {x y : List ℕ} {u v : List Float}
+pub boundaries : (number : ℕ) (curve : List Float) (bounds rows : List ℕ) (work : List Float) {a b : SectionsSaid} {x y : List ℕ} {u v : List Float}
     → Found number curve bounds rows work a x u → Found number curve bounds rows work b y v
     → ((a.number ≡ b.number) × (a.sections ≡ b.sections) × (a.count ≡ b.count) × (a.confidence ≡ b.confidence) × (x ≡ y)
     × (drop (worked_in number (length curve)) u ≡ drop (worked_in number (length curve)) v)) × (length u ≡ length v)
 boundaries number curve bounds rows work p q = (found_unique number curve bounds rows work p q, (open_unique p.works q.works).0)
 
 -- `patch_magnitudes`: both ranges, the rows and both curves; and the work slice past the slots that are sorted in
-pub patch_magnitudes : (slab : Slab) (was : tracks.MagnitudeTrack) (patch : Patch) (work : List Float) {a b : Patched} {x y : tracks.MagnitudeTrack}
+pub patch_magnitudes : (slab : Slab) (was : tracks.MagnitudeTrack) (patch : Patch) (work : List Float) {a b : Result Patched Refusal} {x y : tracks.MagnitudeTrack}
     {v w : List Float}
     → magnitudes.PatchMagnitudesPromise slab was patch work a x v → magnitudes.PatchMagnitudesPromise slab was patch work b y w
     → let sorted = magnitudes.patch_sorted_in (tracks.patch_number slab was patch (length work)) slab.rows patch in
@@ -266,12 +260,12 @@ pub patch_magnitudes : (slab : Slab) (was : tracks.MagnitudeTrack) (patch : Patc
 patch_magnitudes slab was patch work p q = magnitude_outcomes.unique slab was patch work p q
 
 -- `patch_features`: both ranges, the rows and both curves
-pub patch_features : (rows : ℕ) (was : features.FeatureTrack) (patch : Patch) {a b : PatchedFeatures} {x y : features.FeatureTrack}
+pub patch_features : (rows : ℕ) (was : features.FeatureTrack) (patch : Patch) {a b : Result PatchedFeatures Refusal} {x y : features.FeatureTrack}
     → features.PatchFeaturesPromise rows was patch a x → features.PatchFeaturesPromise rows was patch b y → (a ≡ b) × (x ≡ y)
 patch_features rows was patch p q = feature_outcomes.unique rows was patch p q
 
 -- `analyse_envelope`: the answer and each result; what is worked in, past the slots left open
-pub analysis : {number : ℕ} {env : List Float} {rate : ℕ} {o : TempoOpts} {was : Results} {lent : Spare} {a b : Analysis} {x y : Results} {s t : Spare}
+pub analysis : {number : ℕ} {env : List Float} {rate : ℕ} {o : TempoOpts} {was : Results} {lent : Spare} {a b : AnalysisSaid} {x y : Results} {s t : Spare}
     → Analysed number env rate o was lent a x s → Analysed number env rate o was lent b y t
     → (a ≡ b) × (x ≡ y)
     × ((length s.window_clarity ≡ length t.window_clarity)
@@ -290,7 +284,7 @@ analysis p q =
 
 -- `analyse_magnitudes`: the flux too
 pub analysis_of_magnitudes : {m : List Float} {slab : Slab} {rate : ℕ} {o : TempoOpts} {flux : List Float} {was : Results} {lent : Spare}
-    {a b : Analysis} {f g : List Float} {x y : Results} {s t : Spare}
+    {a b : AnalysisSaid} {f g : List Float} {x y : Results} {s t : Spare}
     → MagnitudesPromise m slab rate o flux was lent a f x s → MagnitudesPromise m slab rate o flux was lent b g y t
     → let number = magnitudes_number m slab rate o flux was lent in
     let env = curve (flux_at m slab) slab.rows in

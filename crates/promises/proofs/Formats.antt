@@ -9,7 +9,7 @@ use Prim.Native.Nat.{ℕ, ◌+◌, ◌-◌, ◌*◌, ◌≤◌, ◌<◌}
 use native.Mathlib.Omega.{arith}
 use lib.ListN.{length, take}
 use Rattle.numbers.specs.Lists.{listed, every}
-use Rattle.numbers.specs.declared.Listing.{Listing}
+use Rattle.numbers.specs.Outcomes.{Listing}
 use Rattle.numbers.proofs.Tabs.{listed-first}
 use Rattle.numbers.proofs.Tests.{passed_does}
 use Rattle.midi_gaps.specs.Gaps.{time_at, gaps_of}

@@ -30,14 +30,12 @@ use Rattle.beats.specs.Envelopes.{beatless, scaled}
 use Rattle.beats.specs.Scores.{scores, links}
 use Rattle.beats.specs.Grids.{grid, scores_of, links_of, grid_of}
 use Rattle.beats.proofs.Links.{length-scores, length-links}
-use Rattle.rooms.specs.Rooms.{Results, Spare, frame_slots, lag_slots, lags_of, analysis_numbers_fine, room_of, envelope_number, magnitudes_number}
-use Rattle.rooms.specs.declared.Room.{Room}
+use Rattle.rooms.specs.Rooms.{RoomSaid, Results, Spare, frame_slots, lag_slots, lags_of, analysis_numbers_fine, room_of, envelope_number, magnitudes_number}
 use Rattle.rooms.proofs.Numbers.{room-inside, magnitudes_0}
 use Rattle.rooms.specs.Enough.{Enough}
 use Rattle.rooms.proofs.Rooms.{enough_suffices, ready_of, told, flux-taken}
 use Rattle.onsets.specs.Onsets.{onsets_in}
-use Rattle.track.specs.declared.Analysis.{Analysis}
-use Rattle.track.specs.Analyses.{period_in, beats_in, downbeats_in, analysis_of, without_analysis, written_in}
+use Rattle.track.specs.Analyses.{AnalysisSaid, period_in, beats_in, downbeats_in, analysis_of, without_analysis, written_in}
 use Rattle.analysis.specs.Analyses.{EnvelopePromise, MagnitudesPromise}
 use Rattle.analysis.proofs.Promises.{coincide, flux_is_the_envelope}
 use Rattle.patch_magnitudes.specs.Tracks.{MagnitudeTrack, magnitude_track}
@@ -61,17 +59,17 @@ use Rattle.promises.specs.Repaired.{
 }
 
 -- a refusal's answer holds its number, and any other answer 0
-pub answered-number : (n : ℕ) (env : List Float) (rate : ℕ) (o : TempoOpts) (a : Analysis) → a ≡ unless_refused n (analysis_of env rate o) (without_analysis n)
+pub answered-number : (n : ℕ) (env : List Float) (rate : ℕ) (o : TempoOpts) (a : AnalysisSaid) → a ≡ unless_refused n (analysis_of env rate o) (without_analysis n)
     → a.number ≡ n
 unfolding analysis_of
-answered-number zero env rate o a e = ap (λ (x : Analysis). x.number) e
-answered-number (suc n) env rate o a e = ap (λ (x : Analysis). x.number) e
+answered-number zero env rate o a e = ap (λ (x : AnalysisSaid). x.number) e
+answered-number (suc n) env rate o a e = ap (λ (x : AnalysisSaid). x.number) e
 
 -- ---- what a full run leaves
 
 module _
     (m : List Float) (slab : Slab) (rate : ℕ) (o : TempoOpts) (flux : List Float) (was : Results) (lent : Spare)
-    {a : Analysis} {f : List Float} {y : Results} {s : Spare} where
+    {a : AnalysisSaid} {f : List Float} {y : Results} {s : Spare} where
   -- its answer holds the number that what it was lent is given
   pub full_run_number : MagnitudesPromise m slab rate o flux was lent a f y s → a.number ≡ magnitudes_number m slab rate o flux was lent
   full_run_number p = answered-number _ (curve (flux_at m slab) slab.rows) rate o a p.analysed.answered
@@ -210,11 +208,11 @@ module _
       let s = calls_keep_sound slab sound ran in
       sym
       (magnitudes_0 last.magnitudes slab rate o (length flux) (frame_slots results) (lag_slots results lent) (length lent.work) s.shape
-      (room_of slab.rows rate o) refl (ap (λ (r : Room). r.number) (room-inside slab.rows rate o fine)) (eq-eqb _ _ s.whole) flux_room true
+      (room_of slab.rows rate o) refl (ap (λ (r : RoomSaid). r.number) (room-inside slab.rows rate o fine)) (eq-eqb _ _ s.whole) flux_room true
       (sym (enough_suffices (room_of slab.rows rate o) results lent room)) refl s.fine)
 
   -- and where the curves were those of the rows, it answers and leaves what an analysis of the patched flux does
-  pub same_as_full_run : Fresh slab was → {a b : Analysis} {f : List Float} {x y : Results} {s t : Spare}
+  pub same_as_full_run : Fresh slab was → {a b : AnalysisSaid} {f : List Float} {x y : Results} {s t : Spare}
       → EnvelopePromise (take slab.rows last.flux) rate o results lent a x s
       → MagnitudesPromise last.magnitudes slab rate o flux results lent b f y t
       → SameRun slab last a x b f y
@@ -269,7 +267,7 @@ module _
     (flux : List Float) (flux_room : slab.rows ≤ length flux)
     (full_results₀ : Results) (full_lent : Spare) (full-room : Enough (room_of slab.rows rate o) full_results₀ full_lent) where
   -- an analysis of the flux into the one writes what a full run into the other does
-  pub same_elsewhere : {a b : Analysis} {f : List Float} {x y : Results} {s t : Spare}
+  pub same_elsewhere : {a b : AnalysisSaid} {f : List Float} {x y : Results} {s t : Spare}
       → EnvelopePromise (take slab.rows last.flux) rate o results₀ lent a x s
       → MagnitudesPromise last.magnitudes slab rate o flux full_results₀ full_lent b f y t
       → SameElsewhere slab rate o last a x b f y
@@ -290,8 +288,8 @@ module _
       let ex : x ≡ written_in env rate o results₀ = p.written ∙ passed_does _ (written_in env rate o results₀) _ p0 in
       let ey : y ≡ written_in env rate o full_results₀ = full.written ∙ passed_does _ (written_in env rate o full_results₀) _ q0 in
       let n = period_in env rate o in
-      let onsets : a.onsets ≡ length (onsets_in env rate) = ap (λ (r : Analysis). r.onsets) ea in
-      let beats : a.beats ≡ length (beats_in env rate o) = ap (λ (r : Analysis). r.beats) ea in
+      let onsets : a.onsets ≡ length (onsets_in env rate) = ap (λ (r : AnalysisSaid). r.onsets) ea in
+      let beats : a.beats ≡ length (beats_in env rate o) = ap (λ (r : AnalysisSaid). r.beats) ea in
       record {
         accepted = full_run_number m slab rate o flux full_results₀ full_lent q ∙ there;
         same_flux = fresh.flux ∙ sym curves.flux;
@@ -301,7 +299,7 @@ module _
         same_onsets = rw (onsets, ex, ey) (same_entries (onsets_in env rate) results₀.onsets full_results₀.onsets refl);
         same_beats = rw (beats, ex, ey) (same_entries (beats_in env rate o) results₀.beats full_results₀.beats refl);
         same_downbeats =
-            rw (ap (λ (r : Analysis). r.downbeats) ea, ex, ey)
+            rw (ap (λ (r : AnalysisSaid). r.downbeats) ea, ex, ey)
             (same_entries (downbeats_in env rate o) results₀.downbeats full_results₀.downbeats refl);
         same_scores = λ some. rw (ex, ey) (same_entries (scores_of env n) results₀.score full_results₀.score ((scored env n (rw beats at some)).0 ∙ l));
         same_links = λ some. rw (ex, ey) (same_entries (links_of env n) results₀.back full_results₀.back ((scored env n (rw beats at some)).1 ∙ l));

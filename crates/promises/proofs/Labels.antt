@@ -12,8 +12,7 @@ use lib.ListN.{length, take}
 use Rattle.numbers.specs.Limits.{rate_fine, frame_fine, most_frame}
 use Rattle.numbers.specs.Lists.{every, listed, ascending}
 use Rattle.numbers.specs.Refusals.{unless, first_of}
-use Rattle.numbers.specs.Outcomes.{ListWritten}
-use Rattle.numbers.specs.declared.Listing.{Listing}
+use Rattle.numbers.specs.Outcomes.{Listing, ListWritten}
 use Rattle.numbers.proofs.Tabs.{listed-first}
 use Rattle.numbers.proofs.Tests.{passed_does, lt_or_le}
 use Rattle.times.specs.Micros.{microseconds}

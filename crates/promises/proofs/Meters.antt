@@ -13,11 +13,10 @@ use Rattle.options.specs.declared.TempoOpts.{TempoOpts}
 use Rattle.lags.specs.Lags.{min_lag, max_lag, bounds_fine}
 use Rattle.lags.proofs.OpenBounds.{lags_of_bounds}
 use Rattle.rooms.specs.Rooms.{Results, analysis_numbers_fine, room_of}
-use Rattle.track.specs.Analyses.{estimate_in, period_in, beats_in, downbeats_in, analysis_of, written_in}
-use Rattle.track.specs.declared.Analysis.{Analysis}
+use Rattle.track.specs.Analyses.{AnalysisSaid, estimate_in, period_in, beats_in, downbeats_in, analysis_of, written_in}
 
 -- an analysis with another number of downbeats, and what it leaves with other downbeats
-abbrev pub with_downbeat_count : ℕ → Analysis → Analysis
+abbrev pub with_downbeat_count : ℕ → AnalysisSaid → AnalysisSaid
 with_downbeat_count count a =
     record {
       number = a.number;

@@ -7,36 +7,34 @@
 -- its section; no axiom stands behind one.
 use mathlib.Core.List.{List, [], ◌∷◌}
 use mathlib.Core.Bool.{true}
-use mathlib.Core.Path.{◌≡◌, ◌∙◌}
+use mathlib.Core.Path.{◌≡◌, sym, ◌∙◌}
 use Prim.Native.Nat.{ℕ, zero, suc, ◌+◌, ◌-◌, ◌≤◌, min}
-use native.Mathlib.Omega.{arith}
 use lib.Ieee.{Float}
 use lib.ListN.{length, take}
-use Rattle.numbers.specs.declared.Listing.{Listing}
+use Rattle.std.specs.Prelude.{Result, Ok, Err}
+use Rattle.numbers.specs.Outcomes.{Listing}
+use Rattle.numbers.specs.declared.Refusal.{Refusal}
 use Rattle.numbers.specs.declared.Slab.{Slab}
 use Rattle.numbers.proofs.Slabs.{slab_fits}
 use Rattle.onsets.specs.Onsets.{OnsetsPromise}
 use Rattle.lags.specs.Lags.{bounds_fine}
 use Rattle.options.specs.declared.TempoOpts.{TempoOpts}
-use Rattle.tempo.specs.Answers.{EstimatePromise}
-use Rattle.tempo.specs.declared.TempoEstimate.{TempoEstimate}
-use Rattle.stability.specs.Answers.{StabilityPromise}
-use Rattle.stability.specs.declared.Steadiness.{Steadiness}
+use Rattle.tempo.specs.Answers.{EstimateSaid, EstimatePromise}
+use Rattle.stability.specs.Answers.{Steadiness, StabilityPromise}
 use Rattle.beats.specs.Grids.{GridPromise}
 use Rattle.bars.specs.Downbeats.{DownbeatsPromise}
-use Rattle.patches.specs.Patches.{Patch, patch_of, past_row, edited}
+use Rattle.patches.specs.Patches.{Patch, patch_of, past_row, edited, returned}
+use Rattle.patches.proofs.Answers.{same-slots, same_ends, some-slots}
 use Rattle.patch_magnitudes.specs.declared.Patched.{Patched}
-use Rattle.patch_magnitudes.specs.declared.Patched.TheVariants.{Refused, Wrote}
 use Rattle.patch_magnitudes.specs.Tracks.{MagnitudeTrack, magnitude_track, patch_number}
-use Rattle.patch_magnitudes.specs.Magnitudes.{flux_first, flux_past, threshold_first, threshold_past, patch_answered, PatchMagnitudesPromise}
+use Rattle.patch_magnitudes.specs.Magnitudes.{patched_says, rows_named, PatchMagnitudesPromise}
 use Rattle.patch_magnitudes.specs.Runs.{flux_curve, threshold_curve, Fresh, Kept, Sound, Good, analysed, Ran, stays}
-use Rattle.patch_magnitudes.proofs.Outcomes.{is-answered}
 use Rattle.patch_magnitudes.proofs.Repairs as repairs
 use Rattle.rooms.specs.Rooms.{Results, Spare, room_of}
 use Rattle.rooms.proofs.Numbers.{by_bounds}
 use Rattle.rooms.specs.Enough.{Enough}
 use Rattle.analysis.specs.Analyses.{EnvelopePromise, MagnitudesPromise}
-use Rattle.track.specs.declared.Analysis.{Analysis}
+use Rattle.track.specs.Analyses.{AnalysisSaid}
 use Rattle.promises.specs.Repaired.{Begun, Used, SameRun, SameElsewhere}
 use Rattle.promises.proofs.Determined.{pick-onsets, estimate, stability_of, beat_grid, downbeats, analysis}
 use Rattle.promises.proofs.FullRuns.{begun_is_fresh, begun_is_sound, used_keeps, same_as_full_run, same_elsewhere}
@@ -54,10 +52,10 @@ pub repaired_is_a_full_run :
     → (flux : List Float) → slab.rows ≤ length flux
     → (lent : Results) (spare : Spare) → Enough (room_of slab.rows rate opts) lent spare
     -- On the one hand `analyse_envelope` of the patched flux, lent these slices.
-    → {answer : Analysis} {results : Results} {left : Spare}
+    → {answer : AnalysisSaid} {results : Results} {left : Spare}
     → EnvelopePromise (take slab.rows patched.flux) rate opts lent spare answer results left
     -- On the other a full run on the patched rows, lent the same.
-    → {full_answer : Analysis} {full_flux : List Float} {full_results : Results} {full_left : Spare}
+    → {full_answer : AnalysisSaid} {full_flux : List Float} {full_results : Results} {full_left : Spare}
     → MagnitudesPromise patched.magnitudes slab rate opts flux lent spare full_answer full_flux full_results full_left
     -- The full run isn't refused, and flux, threshold, answer and all eight results are the same.
     → SameRun slab patched answer results full_answer full_flux full_results
@@ -74,12 +72,12 @@ pub repaired_is_a_full_run_elsewhere :
     → (rate : ℕ) (opts : TempoOpts) → bounds_fine rate opts ≡ true
     -- On the one hand `analyse_envelope` of the patched flux, lent slices with room.
     → (lent : Results) (spare : Spare) → Enough (room_of slab.rows rate opts) lent spare
-    → {answer : Analysis} {results : Results} {left : Spare}
+    → {answer : AnalysisSaid} {results : Results} {left : Spare}
     → EnvelopePromise (take slab.rows patched.flux) rate opts lent spare answer results left
     -- On the other a full run on the patched rows, lent others with room.
     → (flux : List Float) → slab.rows ≤ length flux
     → (full_lent : Results) (full_spare : Spare) → Enough (room_of slab.rows rate opts) full_lent full_spare
-    → {full_answer : Analysis} {full_flux : List Float} {full_results : Results} {full_left : Spare}
+    → {full_answer : AnalysisSaid} {full_flux : List Float} {full_results : Results} {full_left : Spare}
     → MagnitudesPromise patched.magnitudes slab rate opts flux full_lent full_spare full_answer full_flux full_results full_left
     -- The full run isn't refused, flux, threshold and answer are the same, and so are the listed frames and each curve where it is written.
     → SameElsewhere slab rate opts patched answer results full_answer full_flux full_results
@@ -91,50 +89,46 @@ repaired_is_a_full_run_elsewhere slab begun used rate opts fine lent spare room 
 -- ---- one patch
 
 -- Where the lent curves were those of the rows, they are those of the edited rows afterwards, bit for bit, whatever the call answers.
-pub patching_equals_starting_over : (slab : Slab) (was : MagnitudeTrack) (patch : Patch) (work : List Float) (answer : Patched) (now : MagnitudeTrack)
-    (work' : List Float)
+pub patching_equals_starting_over : (slab : Slab) (was : MagnitudeTrack) (patch : Patch) (work : List Float) (answer : Result Patched Refusal)
+    (now : MagnitudeTrack) (work' : List Float)
     → Fresh slab was → PatchMagnitudesPromise slab was patch work answer now work' → Fresh slab now
 patching_equals_starting_over = repairs.call_is_fresh
 
 -- The rows are then the edited ones.
-pub rows_are_edited : (slab : Slab) (was : MagnitudeTrack) (patch : Patch) (work : List Float) (f g t u : ℕ) (now : MagnitudeTrack) (work' : List Float)
-    → PatchMagnitudesPromise slab was patch work (Wrote f g t u) now work' → now.magnitudes ≡ edited slab.bins was.magnitudes patch
+pub rows_are_edited : (slab : Slab) (was : MagnitudeTrack) (patch : Patch) (work : List Float) (slots : Patched) (now : MagnitudeTrack) (work' : List Float)
+    → PatchMagnitudesPromise slab was patch work (Ok slots) now work' → now.magnitudes ≡ edited slab.bins was.magnitudes patch
 rows_are_edited = repairs.accepted_is_edited
 
-named : (slab : Slab) (start : ℕ) (x : Float) (xs : List Float) (n f g t u : ℕ) → Wrote f g t u ≡ patch_answered n slab (patch_of start (x ∷ xs))
-    → let past = past_row slab.bins (patch_of start (x ∷ xs)) in (f ≡ start) × (g ≡ min (past + 1) slab.rows) × (t ≡ start - 10)
-    × (u ≡ min (past + 10 + 1) slab.rows)
-unfolding patch_answered
-named slab start x xs (suc n) f g t u e = let z : ◌≡◌ {A = ℕ} 0 1 = cc in absurd (omega arith)
-named slab start x xs zero f g t u e =
-    let patch = patch_of start (x ∷ xs) in
-    let p : f ≡ flux_first patch = cc in
-    let q : g ≡ flux_past slab patch = cc in
-    let r : t ≡ threshold_first patch = cc in
-    let s : u ≡ threshold_past slab patch = cc in
-    (p, q, r, s)
+named : (slab : Slab) (start : ℕ) (x : Float) (xs : List Float) (n : ℕ) (slots : Patched)
+    → patched_says (Ok slots) ≡ returned n (rows_named slab (patch_of start (x ∷ xs)))
+    → let past = past_row slab.bins (patch_of start (x ∷ xs)) in (slots.flux_first ≡ start) × (slots.flux_past ≡ min (past + 1) slab.rows)
+    × (slots.threshold_first ≡ start - 10) × (slots.threshold_past ≡ min (past + 10 + 1) slab.rows)
+named slab start x xs (suc n) slots e = absurd (some-slots (sym (same-slots e)))
+named slab start x xs zero slots e = same_ends (same-slots e)
 
 -- The slots that it names are demand 3's: flux a to b, threshold a-10 to b+10, cut at the ends.
-pub names_its_slots : (slab : Slab) (was : MagnitudeTrack) (start : ℕ) (x : Float) (xs work : List Float) (f g t u : ℕ) (now : MagnitudeTrack)
+pub names_its_slots : (slab : Slab) (was : MagnitudeTrack) (start : ℕ) (x : Float) (xs work : List Float) (slots : Patched) (now : MagnitudeTrack)
     (work' : List Float)
-    → PatchMagnitudesPromise slab was (patch_of start (x ∷ xs)) work (Wrote f g t u) now work'
-    → let past = past_row slab.bins (patch_of start (x ∷ xs)) in (f ≡ start) × (g ≡ min (past + 1) slab.rows) × (t ≡ start - 10)
-    × (u ≡ min (past + 10 + 1) slab.rows)
-names_its_slots slab was start x xs work f g t u now work' done =
-    named slab start x xs (patch_number slab was (patch_of start (x ∷ xs)) (length work)) f g t u (is-answered done)
+    → PatchMagnitudesPromise slab was (patch_of start (x ∷ xs)) work (Ok slots) now work'
+    → let past = past_row slab.bins (patch_of start (x ∷ xs)) in (slots.flux_first ≡ start) × (slots.flux_past ≡ min (past + 1) slab.rows)
+    × (slots.threshold_first ≡ start - 10) × (slots.threshold_past ≡ min (past + 10 + 1) slab.rows)
+names_its_slots slab was start x xs work slots now work' done =
+    named slab start x xs (patch_number slab was (patch_of start (x ∷ xs)) (length work)) slots done.answer_is
 
 -- Outside them and the slots that the answer names nothing differs.
-pub outside_stays : (slab : Slab) (was : MagnitudeTrack) (patch : Patch) (work : List Float) (f g t u : ℕ) (now : MagnitudeTrack) (work' : List Float)
-    → PatchMagnitudesPromise slab was patch work (Wrote f g t u) now work' → Kept slab patch f g t u was now
+pub outside_stays : (slab : Slab) (was : MagnitudeTrack) (patch : Patch) (work : List Float) (slots : Patched) (now : MagnitudeTrack) (work' : List Float)
+    → PatchMagnitudesPromise slab was patch work (Ok slots) now work'
+    → Kept slab patch slots.flux_first slots.flux_past slots.threshold_first slots.threshold_past was now
 outside_stays = repairs.outside_stays
 
 -- An empty patch changes nothing, and a refused one changes nothing.
-pub empty_changes_nothing : (slab : Slab) (was : MagnitudeTrack) (start : ℕ) (work : List Float) (answer : Patched) (now : MagnitudeTrack) (work' : List Float)
+pub empty_changes_nothing : (slab : Slab) (was : MagnitudeTrack) (start : ℕ) (work : List Float) (answer : Result Patched Refusal) (now : MagnitudeTrack)
+    (work' : List Float)
     → PatchMagnitudesPromise slab was (patch_of start []) work answer now work' → (now ≡ was) × (work' ≡ work)
 empty_changes_nothing = repairs.empty_changes_nothing
 
-pub refused_changes_nothing : (slab : Slab) (was : MagnitudeTrack) (patch : Patch) (work : List Float) (k : ℕ) (now : MagnitudeTrack) (work' : List Float)
-    → PatchMagnitudesPromise slab was patch work (Refused k) now work' → (now ≡ was) × (work' ≡ work)
+pub refused_changes_nothing : (slab : Slab) (was : MagnitudeTrack) (patch : Patch) (work : List Float) (e : Refusal) (now : MagnitudeTrack) (work' : List Float)
+    → PatchMagnitudesPromise slab was patch work (Err e) now work' → (now ≡ was) × (work' ≡ work)
 refused_changes_nothing = repairs.refused_changes_nothing
 
 -- ---- any run of patches
@@ -171,7 +165,7 @@ module _ (slab : Slab) (was last : MagnitudeTrack) (fresh : Fresh slab was) (ran
   same_onsets rate frames p q = pick-onsets _ _ rate frames (rw (flux_is, threshold_is) at p) q
 
   -- the tempo, with its candidates and lag curves
-  pub same-tempo : (onsets rate : ℕ) (o : TempoOpts) (clarity weight work : List Float) {a b : TempoEstimate} {c d w v k l : List Float}
+  pub same-tempo : (onsets rate : ℕ) (o : TempoOpts) (clarity weight work : List Float) {a b : EstimateSaid} {c d w v k l : List Float}
       → EstimatePromise (take slab.rows last.flux) onsets rate o clarity weight work a c w k
       → EstimatePromise (flux_curve slab last.magnitudes) onsets rate o clarity weight work b d v l
       → (a ≡ b) × (c ≡ d) × (w ≡ v) × (k ≡ l)
@@ -199,7 +193,7 @@ module _ (slab : Slab) (was last : MagnitudeTrack) (fresh : Fresh slab was) (ran
   same_downbeats beats o frames p q = downbeats _ beats o frames (rw flux_is at p) q
 
   -- the whole analysis in one call, with the period of the beats taken from the tempo
-  pub same_analysis : (rate : ℕ) (o : TempoOpts) (results : Results) (lent : Spare) {a b : Analysis} {x y : Results} {s t : Spare}
+  pub same_analysis : (rate : ℕ) (o : TempoOpts) (results : Results) (lent : Spare) {a b : AnalysisSaid} {x y : Results} {s t : Spare}
       → EnvelopePromise (take slab.rows last.flux) rate o results lent a x s
       → EnvelopePromise (flux_curve slab last.magnitudes) rate o results lent b y t
       → (a ≡ b) × (x ≡ y)

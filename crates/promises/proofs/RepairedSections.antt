@@ -4,34 +4,30 @@
 -- stands behind one.
 use mathlib.Core.List.{List, [], ◌∷◌}
 use mathlib.Core.Bool.{true}
-use mathlib.Core.Path.{◌≡◌}
+use mathlib.Core.Path.{◌≡◌, sym}
 use Prim.Native.Nat.{ℕ, zero, suc, ◌+◌, ◌-◌, ◌*◌, ◌≤◌, min}
-use native.Mathlib.Omega.{arith}
 use lib.Ieee.{Float}
 use lib.ListN.{length, take}
+use Rattle.std.specs.Prelude.{Result, Ok, Err}
 use Rattle.numbers.specs.Limits.{feature_width}
+use Rattle.numbers.specs.declared.Refusal.{Refusal}
 use Rattle.similarities.specs.Similarity.{SimilarityPromise}
 use Rattle.novelties.specs.Novelty.{NoveltyPromise}
 use Rattle.sections.specs.Boundaries.{grid_fine}
-use Rattle.sections.specs.Outcomes.{BoundariesPromise}
-use Rattle.sections.specs.declared.Sections.{Sections}
-use Rattle.patches.specs.Patches.{Patch, patch_of, past_row, edited}
+use Rattle.sections.specs.Outcomes.{SectionsSaid, BoundariesPromise}
+use Rattle.patches.specs.Patches.{Patch, patch_of, past_row, edited, returned}
+use Rattle.patches.proofs.Answers.{same-slots, same_ends, some-slots}
 use Rattle.patch_features.specs.declared.PatchedFeatures.{PatchedFeatures}
-use Rattle.patch_features.specs.declared.PatchedFeatures.TheVariants.{Refused, Wrote}
 use Rattle.patch_features.specs.Features.{
   FeatureTrack,
   feature_track,
   pairs,
-  similarity_first,
-  similarity_past,
-  novelty_first,
-  novelty_past,
   feature_patch_number,
-  features_answered,
+  patched_features_says,
+  features_named,
   PatchFeaturesPromise,
 }
 use Rattle.patch_features.specs.Runs.{novelty_curve, FreshFeatures, KeptFeatures, SoundFeatures, GoodFeatures, analysed_features, RanFeatures, stays}
-use Rattle.patch_features.proofs.Outcomes.{is-answered}
 use Rattle.patch_features.proofs.Repairs as repairs
 use Rattle.promises.specs.RepairedSections.{UsedFeatures, SameSections, SameSectionsElsewhere}
 use Rattle.promises.proofs.Determined.{boundaries}
@@ -53,10 +49,10 @@ pub repaired_is_a_full_run :
     → (similarity novelty : List Float) → pairs rows ≤ length similarity → rows ≤ length novelty
     → (begins : List ℕ) (work : List Float) → rows ≤ length begins → rows ≤ length work
     -- On the one hand `boundaries` of the patched novelty, lent these slices.
-    → {answer : Sections} {begins' : List ℕ} {work' : List Float}
+    → {answer : SectionsSaid} {begins' : List ℕ} {work' : List Float}
     → BoundariesPromise (take rows patched.novelty) samples rate max_sections begins work answer begins' work'
     -- On the other a full run on the patched rows, lent the same: `similarity`, `novelty` of what it left, `boundaries` of what that left.
-    → {m n : ℕ} {full_similarity full_novelty : List Float} {full_answer : Sections} {full_begins : List ℕ} {full_work : List Float}
+    → {m n : ℕ} {full_similarity full_novelty : List Float} {full_answer : SectionsSaid} {full_begins : List ℕ} {full_work : List Float}
     → SimilarityPromise patched.features rows similarity m full_similarity
     → NoveltyPromise (take (pairs rows) full_similarity) rows novelty n full_novelty
     → BoundariesPromise (take rows full_novelty) samples rate max_sections begins work full_answer full_begins full_work
@@ -76,12 +72,12 @@ pub repaired_is_a_full_run_elsewhere :
     → (samples rate max_sections : ℕ) → grid_fine samples rate ≡ true
     -- On the one hand `boundaries` of the patched novelty, lent slices with room.
     → (begins : List ℕ) (work : List Float) → rows ≤ length begins → rows ≤ length work
-    → {answer : Sections} {begins' : List ℕ} {work' : List Float}
+    → {answer : SectionsSaid} {begins' : List ℕ} {work' : List Float}
     → BoundariesPromise (take rows patched.novelty) samples rate max_sections begins work answer begins' work'
     -- On the other a full run on the patched rows, lent others with room.
     → (similarity novelty : List Float) → pairs rows ≤ length similarity → rows ≤ length novelty
     → (full_lent : List ℕ) (full_spare : List Float) → rows ≤ length full_lent → rows ≤ length full_spare
-    → {m n : ℕ} {full_similarity full_novelty : List Float} {full_answer : Sections} {full_begins : List ℕ} {full_work : List Float}
+    → {m n : ℕ} {full_similarity full_novelty : List Float} {full_answer : SectionsSaid} {full_begins : List ℕ} {full_work : List Float}
     → SimilarityPromise patched.features rows similarity m full_similarity
     → NoveltyPromise (take (pairs rows) full_similarity) rows novelty n full_novelty
     → BoundariesPromise (take rows full_novelty) samples rate max_sections full_lent full_spare full_answer full_begins full_work
@@ -94,48 +90,46 @@ repaired_is_a_full_run_elsewhere rows first second used samples rate most grid b
 -- ---- one patch
 
 -- Where the lent curves were those of the rows, they are those of the edited rows afterwards, bit for bit, whatever the call answers.
-pub patching_equals_starting_over : (rows : ℕ) (was : FeatureTrack) (patch : Patch) (answer : PatchedFeatures) (now : FeatureTrack)
+pub patching_equals_starting_over : (rows : ℕ) (was : FeatureTrack) (patch : Patch) (answer : Result PatchedFeatures Refusal) (now : FeatureTrack)
     → FreshFeatures rows was → PatchFeaturesPromise rows was patch answer now → FreshFeatures rows now
 patching_equals_starting_over = repairs.call_is_fresh
 
 -- The rows are then the edited ones.
-pub rows_are_edited : (rows : ℕ) (was : FeatureTrack) (patch : Patch) (f g t u : ℕ) (now : FeatureTrack)
-    → PatchFeaturesPromise rows was patch (Wrote f g t u) now
+pub rows_are_edited : (rows : ℕ) (was : FeatureTrack) (patch : Patch) (slots : PatchedFeatures) (now : FeatureTrack)
+    → PatchFeaturesPromise rows was patch (Ok slots) now
     → now.features ≡ edited feature_width was.features patch
 rows_are_edited = repairs.accepted_is_edited
 
-named : (rows start : ℕ) (x : Float) (xs : List Float) (n f g t u : ℕ) → Wrote f g t u ≡ features_answered n rows (patch_of start (x ∷ xs))
+named : (rows start : ℕ) (x : Float) (xs : List Float) (n : ℕ) (slots : PatchedFeatures)
+    → patched_features_says (Ok slots) ≡ returned n (features_named rows (patch_of start (x ∷ xs)))
     → let past = past_row feature_width (patch_of start (x ∷ xs)) in
-    (f ≡ (start - 16) * 17 + min start 16) × (g ≡ past * 17) × (t ≡ start - 7) × (u ≡ min (past + 8) rows)
-unfolding features_answered
-named rows start x xs (suc n) f g t u e = let z : ◌≡◌ {A = ℕ} 0 1 = cc in absurd (omega arith)
-named rows start x xs zero f g t u e =
-    let patch = patch_of start (x ∷ xs) in
-    let p : f ≡ similarity_first patch = cc in
-    let q : g ≡ similarity_past patch = cc in
-    let r : t ≡ novelty_first patch = cc in
-    let s : u ≡ novelty_past rows patch = cc in
-    (p, q, r, s)
+    (slots.similarity_first ≡ (start - 16) * 17 + min start 16) × (slots.similarity_past ≡ past * 17) × (slots.novelty_first ≡ start - 7)
+    × (slots.novelty_past ≡ min (past + 8) rows)
+named rows start x xs (suc n) slots e = absurd (some-slots (sym (same-slots e)))
+named rows start x xs zero slots e = same_ends (same-slots e)
 
 -- The slots that it names are demand 3's: from pair (max(0, a - 16), a) to 17·b, and novelty a-7 to b+7, cut at the ends.
-pub names_its_slots : (rows : ℕ) (was : FeatureTrack) (start : ℕ) (x : Float) (xs : List Float) (f g t u : ℕ) (now : FeatureTrack)
-    → PatchFeaturesPromise rows was (patch_of start (x ∷ xs)) (Wrote f g t u) now
+pub names_its_slots : (rows : ℕ) (was : FeatureTrack) (start : ℕ) (x : Float) (xs : List Float) (slots : PatchedFeatures) (now : FeatureTrack)
+    → PatchFeaturesPromise rows was (patch_of start (x ∷ xs)) (Ok slots) now
     → let past = past_row feature_width (patch_of start (x ∷ xs)) in
-    (f ≡ (start - 16) * 17 + min start 16) × (g ≡ past * 17) × (t ≡ start - 7) × (u ≡ min (past + 8) rows)
-names_its_slots rows was start x xs f g t u now done = named rows start x xs (feature_patch_number rows was (patch_of start (x ∷ xs))) f g t u (is-answered done)
+    (slots.similarity_first ≡ (start - 16) * 17 + min start 16) × (slots.similarity_past ≡ past * 17) × (slots.novelty_first ≡ start - 7)
+    × (slots.novelty_past ≡ min (past + 8) rows)
+names_its_slots rows was start x xs slots now done =
+    named rows start x xs (feature_patch_number rows was (patch_of start (x ∷ xs))) slots done.answer_is
 
 -- Outside them, the pairs that touch one of them and the slots that the answer names nothing differs.
-pub outside_stays : (rows : ℕ) (was : FeatureTrack) (patch : Patch) (f g t u : ℕ) (now : FeatureTrack)
-    → PatchFeaturesPromise rows was patch (Wrote f g t u) now → KeptFeatures patch f g t u was now
+pub outside_stays : (rows : ℕ) (was : FeatureTrack) (patch : Patch) (slots : PatchedFeatures) (now : FeatureTrack)
+    → PatchFeaturesPromise rows was patch (Ok slots) now
+    → KeptFeatures patch slots.similarity_first slots.similarity_past slots.novelty_first slots.novelty_past was now
 outside_stays = repairs.outside_stays
 
 -- An empty patch changes nothing, and a refused one changes nothing.
-pub empty_changes_nothing : (rows : ℕ) (was : FeatureTrack) (start : ℕ) (answer : PatchedFeatures) (now : FeatureTrack)
+pub empty_changes_nothing : (rows : ℕ) (was : FeatureTrack) (start : ℕ) (answer : Result PatchedFeatures Refusal) (now : FeatureTrack)
     → PatchFeaturesPromise rows was (patch_of start []) answer now → now ≡ was
 empty_changes_nothing = repairs.empty_changes_nothing
 
-pub refused_changes_nothing : (rows : ℕ) (was : FeatureTrack) (patch : Patch) (k : ℕ) (now : FeatureTrack)
-    → PatchFeaturesPromise rows was patch (Refused k) now → now ≡ was
+pub refused_changes_nothing : (rows : ℕ) (was : FeatureTrack) (patch : Patch) (e : Refusal) (now : FeatureTrack)
+    → PatchFeaturesPromise rows was patch (Err e) now → now ≡ was
 refused_changes_nothing = repairs.refused_changes_nothing
 
 -- ---- any run of patches
@@ -155,7 +149,7 @@ good_is_accepted = repairs.good_is_accepted_after_calls
 
 -- The sections of the novelty curve that a run of patches left are those of a full run on the last rows.
 pub same-sections : (rows : ℕ) (was last : FeatureTrack) → FreshFeatures rows was → RanFeatures rows was last
-    → (samples rate max_sections : ℕ) (bounds : List ℕ) (work : List Float) {a b : Sections} {x y : List ℕ} {v w : List Float}
+    → (samples rate max_sections : ℕ) (bounds : List ℕ) (work : List Float) {a b : SectionsSaid} {x y : List ℕ} {v w : List Float}
     → BoundariesPromise (take rows last.novelty) samples rate max_sections bounds work a x v
     → BoundariesPromise (novelty_curve rows last.features) samples rate max_sections bounds work b y w
     → (a.number ≡ b.number) × (a.sections ≡ b.sections) × (a.count ≡ b.count) × (a.confidence ≡ b.confidence) × (x ≡ y)

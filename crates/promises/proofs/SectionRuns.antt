@@ -24,8 +24,7 @@ use Rattle.similarities.proofs.Calls.{similarity_passed}
 use Rattle.novelties.specs.Novelty.{novelty_at, NoveltyPromise}
 use Rattle.novelties.proofs.Calls.{novelty_passed}
 use Rattle.sections.specs.Boundaries.{grid_fine, boundaries_of, boundaries_refusal}
-use Rattle.sections.specs.Outcomes.{BoundariesPromise}
-use Rattle.sections.specs.declared.Sections.{Sections}
+use Rattle.sections.specs.Outcomes.{SectionsSaid, BoundariesPromise}
 use Rattle.patch_features.specs.Features.{FeatureTrack, feature_track, pairs}
 use Rattle.patch_features.specs.Runs.{similarity_curve, novelty_curve, FreshFeatures, SoundFeatures, analysed_features, RanFeatures, stays}
 use Rattle.patch_features.proofs.Fine.{novelties_are_fine}
@@ -118,7 +117,7 @@ module _
     (samples rate max_sections : ℕ) (grid : grid_fine samples rate ≡ true)
     (similarity₀ novelty₀ : List Float) (similarity_room : pairs rows ≤ length similarity₀) (novelty_room : rows ≤ length novelty₀)
     (begins₀ : List ℕ) (work₀ : List Float) (begins-room : rows ≤ length begins₀) (work_room : rows ≤ length work₀)
-    {m n : ℕ} {similarity novelty : List Float} {answer : Sections} {begins : List ℕ} {work : List Float}
+    {m n : ℕ} {similarity novelty : List Float} {answer : SectionsSaid} {begins : List ℕ} {work : List Float}
     (first : SimilarityPromise last.features rows similarity₀ m similarity)
     (second : NoveltyPromise (take (pairs rows) similarity) rows novelty₀ n novelty)
     (third : BoundariesPromise (take rows novelty) samples rate max_sections begins₀ work₀ answer begins work) where
@@ -144,7 +143,7 @@ module _
   )
 
   -- and where the curves were those of the rows, they answer and leave what `boundaries` of the patched novelty does
-  pub same_as_full_run : FreshFeatures rows was → {a : Sections} {x : List ℕ} {w : List Float}
+  pub same_as_full_run : FreshFeatures rows was → {a : SectionsSaid} {x : List ℕ} {w : List Float}
       → BoundariesPromise (take rows last.novelty) samples rate max_sections begins₀ work₀ a x w
       → SameSections rows last a x m similarity n novelty answer begins
   same_as_full_run fresh p =
@@ -174,12 +173,12 @@ module _
     (begins₀ : List ℕ) (work₀ : List Float) (begins-room : rows ≤ length begins₀) (work_room : rows ≤ length work₀)
     (similarity₀ novelty₀ : List Float) (similarity_room : pairs rows ≤ length similarity₀) (novelty_room : rows ≤ length novelty₀)
     (full_begins₀ : List ℕ) (full_work₀ : List Float) (full-begins-room : rows ≤ length full_begins₀) (full-work-room : rows ≤ length full_work₀)
-    {m n : ℕ} {similarity novelty : List Float} {answer : Sections} {begins : List ℕ} {work : List Float}
+    {m n : ℕ} {similarity novelty : List Float} {answer : SectionsSaid} {begins : List ℕ} {work : List Float}
     (first : SimilarityPromise last.features rows similarity₀ m similarity)
     (second : NoveltyPromise (take (pairs rows) similarity) rows novelty₀ n novelty)
     (third : BoundariesPromise (take rows novelty) samples rate max_sections full_begins₀ full_work₀ answer begins work) where
   -- `boundaries` of the novelty answers and lists what they do
-  pub same_elsewhere : {a : Sections} {x : List ℕ} {w : List Float}
+  pub same_elsewhere : {a : SectionsSaid} {x : List ℕ} {w : List Float}
       → BoundariesPromise (take rows last.novelty) samples rate max_sections begins₀ work₀ a x w
       → SameSectionsElsewhere rows last a x m similarity n novelty answer begins
   same_elsewhere {a} {x} p =

@@ -8,7 +8,7 @@ use Rattle.options.specs.declared.TempoOpts.{TempoOpts}
 use Rattle.lags.specs.Lags.{max_lag}
 use Rattle.tempo.specs.Answers.{unwritten}
 use Rattle.rooms.specs.Rooms.{Results, Spare, lags_of}
-use Rattle.track.specs.declared.Analysis.{Analysis}
+use Rattle.track.specs.Analyses.{AnalysisSaid}
 use Rattle.analysis.specs.Analyses.{EnvelopePromise, MagnitudesPromise}
 use Rattle.patch_magnitudes.specs.Tracks.{MagnitudeTrack, magnitude_track}
 use Rattle.patch_magnitudes.specs.Runs.{Ran}
@@ -20,13 +20,13 @@ pub data Thresholded (flux : List Float) : (threshold : List Float) → Type 0 w
   -- `adaptive_threshold`,
   alone : {lent threshold work work' : List Float} → ThresholdPromise flux lent work 0 threshold work' → Thresholded flux threshold
   -- or `analyse_envelope`, at any rate and with any options.
-  analysing : {rate : ℕ} {opts : TempoOpts} {lent results : Results} {spare left : Spare} {answer : Analysis}
+  analysing : {rate : ℕ} {opts : TempoOpts} {lent results : Results} {spare left : Spare} {answer : AnalysisSaid}
       → EnvelopePromise flux rate opts lent spare answer results left → answer.number ≡ 0 → Thresholded flux results.threshold
 
 -- "Lend magnitude rows with the flux and threshold curves demand 2 gives them": rows, with the slices into which their curves were written,
 pub data Begun (slab : Slab) : MagnitudeTrack → Type 0 where
   -- at once by `analyse_magnitudes`, the full run, at any rate and with any options, which isn't refused,
-  at_once : {magnitudes flux₀ flux : List Float} {rate : ℕ} {opts : TempoOpts} {lent results : Results} {spare left : Spare} {answer : Analysis}
+  at_once : {magnitudes flux₀ flux : List Float} {rate : ℕ} {opts : TempoOpts} {lent results : Results} {spare left : Spare} {answer : AnalysisSaid}
       → MagnitudesPromise magnitudes slab rate opts flux₀ lent spare answer flux results left → answer.number ≡ 0
       → Begun slab (magnitude_track magnitudes flux results.threshold)
   -- or in turn: `spectral_flux`, which isn't refused, and then the threshold of the first N slots of what it wrote.
@@ -63,8 +63,8 @@ pub data Used (slab : Slab) : (was now : MagnitudeTrack) → Type 0 where
 -- Of a track of magnitudes with its curves as patches left them: what `analyse_envelope` answers and leaves of the patched flux, and what
 -- `analyse_magnitudes`, the full run, answers and leaves of the patched rows.
 pub record SameRun
-    (slab : Slab) (patched : MagnitudeTrack) (answer : Analysis) (results : Results)
-    (full_answer : Analysis) (full_flux : List Float) (full_results : Results) : Type 0 where
+    (slab : Slab) (patched : MagnitudeTrack) (answer : AnalysisSaid) (results : Results)
+    (full_answer : AnalysisSaid) (full_flux : List Float) (full_results : Results) : Type 0 where
   -- the full run isn't refused
   pub accepted : full_answer.number ≡ 0
   -- both patched curves are the full run's, on their N slots
@@ -77,8 +77,8 @@ pub record SameRun
 
 -- The same where the two are lent different slices: each slot that is written, and not those behind, which stay as each was lent them.
 pub record SameElsewhere
-    (slab : Slab) (rate : ℕ) (opts : TempoOpts) (patched : MagnitudeTrack) (answer : Analysis) (results : Results)
-    (full_answer : Analysis) (full_flux : List Float) (full_results : Results) : Type 0 where
+    (slab : Slab) (rate : ℕ) (opts : TempoOpts) (patched : MagnitudeTrack) (answer : AnalysisSaid) (results : Results)
+    (full_answer : AnalysisSaid) (full_flux : List Float) (full_results : Results) : Type 0 where
   pub accepted : full_answer.number ≡ 0
   pub same_flux : take slab.rows patched.flux ≡ take slab.rows full_flux
   pub same_threshold : take slab.rows patched.threshold ≡ take slab.rows full_results.threshold

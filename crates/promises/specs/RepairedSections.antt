@@ -2,7 +2,7 @@
 -- same of it and of a full run on its last rows. That it is, say the first two theorems of proofs/RepairedSections. The words are those of Repaired.
 use Rattle.std.specs.Prelude.{ℕ, ◌≤◌, ◌≡◌, List, length, take, Float}
 use Rattle.novelties.specs.Novelty.{NoveltyPromise}
-use Rattle.sections.specs.declared.Sections.{Sections}
+use Rattle.sections.specs.Outcomes.{SectionsSaid}
 use Rattle.patch_features.specs.Features.{FeatureTrack, feature_track, pairs}
 use Rattle.patch_features.specs.Runs.{RanFeatures}
 
@@ -35,9 +35,9 @@ pub data UsedFeatures (rows : ℕ) : (was now : FeatureTrack) → Type 0 where
 -- Of a track of features with its curves as patches left them: what `boundaries` answers and lists of the patched novelty, and the full run
 -- on the patched rows, `similarity`, `novelty` and `boundaries`: its two numbers and curves, its answer and its list.
 pub record SameSections
-    (rows : ℕ) (patched : FeatureTrack) (answer : Sections) (begins : List ℕ)
+    (rows : ℕ) (patched : FeatureTrack) (answer : SectionsSaid) (begins : List ℕ)
     (first_number : ℕ) (full_similarity : List Float) (second_number : ℕ) (full_novelty : List Float)
-    (full_answer : Sections) (full_begins : List ℕ) : Type 0 where
+    (full_answer : SectionsSaid) (full_begins : List ℕ) : Type 0 where
   -- none of the full run's calls is refused
   pub similarity_accepted : first_number ≡ 0
   pub novelty_accepted : second_number ≡ 0
@@ -52,9 +52,9 @@ pub record SameSections
 
 -- The same where the two are lent different slices: each slot that is written, and not those behind, which stay as each was lent them.
 pub record SameSectionsElsewhere
-    (rows : ℕ) (patched : FeatureTrack) (answer : Sections) (begins : List ℕ)
+    (rows : ℕ) (patched : FeatureTrack) (answer : SectionsSaid) (begins : List ℕ)
     (first_number : ℕ) (full_similarity : List Float) (second_number : ℕ) (full_novelty : List Float)
-    (full_answer : Sections) (full_begins : List ℕ) : Type 0 where
+    (full_answer : SectionsSaid) (full_begins : List ℕ) : Type 0 where
   pub similarity_accepted : first_number ≡ 0
   pub novelty_accepted : second_number ≡ 0
   pub accepted : full_answer.number ≡ 0

@@ -2,16 +2,13 @@
 ghost use Rattle.std.specs.Prelude.{◌≤◌};
 
 use crate::{inputs, lines};
-use median::Answer;
+use numbers::Refusal;
 
-fn answer(rt: &impl Print, label: &[u8], a: Answer) {
+fn answer(rt: &impl Print, label: &[u8], a: Result<f64, Refusal>) {
     run_show::words(rt, label);
-    match a {
-        Answer::Refused(number) => run_show::small(rt, number),
-        Answer::Value(value) => {
-            run_show::small(rt, 0);
-            run_show::float(rt, value);
-        }
+    run_show::outcome(rt, &a);
+    if let Ok(value) = a {
+        run_show::float(rt, value);
     }
     run_show::end(rt);
 }
@@ -29,15 +26,15 @@ fn onsets_of(rt: &impl Print, curve: &[f64], n: usize, rate: u32)
 {
     let mut threshold = [0.0f64; 40];
     let mut work = [0.0f64; 21];
-    let number = threshold::adaptive_threshold(curve, &mut threshold, &mut work);
-    lines::floats(rt, b"threshold", number, &threshold[0..n]);
+    let answer = threshold::adaptive_threshold(curve, &mut threshold, &mut work);
+    lines::floats(rt, b"threshold", answer, &threshold[0..n]);
     picked(rt, curve, &threshold[0..n], rate);
 }
 
 fn picked(rt: &impl Print, curve: &[f64], threshold: &[f64], rate: u32) {
     let mut frames = [9u32; 60];
     let r = onsets::pick_onsets(curve, threshold, rate, &mut frames);
-    lines::frames(rt, b"onsets", r.number, &frames, lines::first(r.count));
+    lines::frames(rt, b"onsets", r, &frames);
 }
 
 fn suppressed(rt: &impl Print, curve: &[f64], s: u64) {
@@ -50,24 +47,24 @@ fn suppressed(rt: &impl Print, curve: &[f64], s: u64) {
         inputs::up_to_twenty(s) / 2,
         &mut frames,
     );
-    lines::frames(rt, b"suppressed", r.number, &frames, lines::first(r.count));
+    lines::frames(rt, b"suppressed", r, &frames);
 }
 
 fn times(rt: &impl Print, s: u64, rate: u32) {
     let mut peaks = [0u32; 12];
     let mut ms = [0.0f64; 12];
     inputs::fill_peaks(&mut peaks, s);
-    let number = onsets::frame_times(&peaks, rate, &mut ms);
-    lines::floats(rt, b"times", number, &ms);
+    let answer = onsets::frame_times(&peaks, rate, &mut ms);
+    lines::floats(rt, b"times", answer, &ms);
 }
 
 fn fluxes(rt: &impl Print, s: u64) {
     let slab = inputs::slab(s);
     let mut flux = [0.0f64; 40];
-    let number = flux::spectral_flux(&slab, 40, 1, &mut flux);
-    lines::floats(rt, b"flux of one bin", number, &flux);
-    let number = flux::spectral_flux(&slab, 8, 5, &mut flux);
-    lines::floats(rt, b"flux of five bins", number, &flux[0..8]);
+    let answer = flux::spectral_flux(&slab, 40, 1, &mut flux);
+    lines::floats(rt, b"flux of one bin", answer, &flux);
+    let answer = flux::spectral_flux(&slab, 8, 5, &mut flux);
+    lines::floats(rt, b"flux of five bins", answer, &flux[0..8]);
 }
 
 // A rate from 1 to 192,000.

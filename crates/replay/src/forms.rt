@@ -2,13 +2,14 @@
 ghost use Rattle.std.specs.Prelude.{◌≤◌};
 
 use crate::{inputs, lines};
+use sections::Sections;
 
 fn similar(rt: &impl Print, features: &[f64], rows: usize, s: u64)
     requires { rows ≤ 20 }
 {
     let mut similarity = [0.0f64; 340];
-    let number = similarities::similarity(features, rows, &mut similarity);
-    lines::floats(rt, b"similarity", number, &similarity[0..34]);
+    let answer = similarities::similarity(features, rows, &mut similarity);
+    lines::floats(rt, b"similarity", answer, &similarity[0..34]);
     novel(rt, &similarity[0..17 * rows], rows, s);
 }
 
@@ -16,8 +17,8 @@ fn novel(rt: &impl Print, similarity: &[f64], rows: usize, s: u64)
     requires { rows ≤ 20 }
 {
     let mut novelty = [0.0f64; 20];
-    let number = novelties::novelty(similarity, rows, &mut novelty);
-    lines::floats(rt, b"novelty", number, &novelty[0..rows]);
+    let answer = novelties::novelty(similarity, rows, &mut novelty);
+    lines::floats(rt, b"novelty", answer, &novelty[0..rows]);
     sections_of(rt, &novelty[0..rows], s);
 }
 
@@ -26,11 +27,18 @@ fn length_of(s: u64) -> u64 {
     12000 * (s % 16 + 1)
 }
 
+// What is printed where no sections are told.
+const NO_SECTIONS: Sections = Sections {
+    sections: 0,
+    count: 0,
+    confidence: 0.0,
+};
+
 fn sections_of(rt: &impl Print, novelty: &[f64], s: u64) {
     let mut rows = [0u32; 60];
     let mut work = [0.0f64; 60];
     let length = length_of(s);
-    let r = sections::boundaries(
+    let answer = sections::boundaries(
         novelty,
         length,
         48000,
@@ -38,19 +46,21 @@ fn sections_of(rt: &impl Print, novelty: &[f64], s: u64) {
         &mut rows,
         &mut work,
     );
+    let told = answer.unwrap_or(NO_SECTIONS);
+    let listed = lines::first(&rows, told.count);
     run_show::words(rt, b"sections");
-    run_show::small(rt, r.number);
-    run_show::count(rt, r.sections);
-    run_show::float(rt, r.confidence);
-    run_show::smalls(rt, &rows[0..lines::first(r.count)]);
+    run_show::outcome(rt, &answer);
+    run_show::count(rt, told.sections);
+    run_show::float(rt, told.confidence);
+    run_show::smalls(rt, listed);
     run_show::end(rt);
-    times(rt, &rows[0..lines::first(r.count)], length);
+    times(rt, listed, length);
 }
 
 fn times(rt: &impl Print, rows: &[u32], length: u64) {
     let mut ms = [0.0f64; 60];
-    let number = sections::boundary_times(rows, length, 48000, &mut ms);
-    lines::floats(rt, b"first time", number, &ms[0..1]);
+    let answer = sections::boundary_times(rows, length, 48000, &mut ms);
+    lines::floats(rt, b"first time", answer, &ms[0..1]);
 }
 
 // A novelty curve that is no row's: more peaks than sections.

@@ -10,30 +10,22 @@ pub fn next(s: u64) -> u64
 
 // Slot t of a curve of one of four kinds.
 pub fn level(kind: u64, t: usize, s: u64) -> f64 {
-    if kind == 0 {
-        return ((s % 3) as u32) as f64;
+    match kind {
+        0 => (s % 3) as u32 as f64,
+        1 if t % 5 == 1 => (s % 8) as u32 as f64 + 40.0,
+        1 => (s % 2) as u32 as f64,
+        2 => (s % 1000) as u32 as f64 / 8.0,
+        _ => ((s % 201) as u32 as f64 - 100.0) / 16.0,
     }
-    if kind == 1 {
-        if t % 5 == 1 {
-            return ((s % 8) as u32) as f64 + 40.0;
-        }
-        return ((s % 2) as u32) as f64;
-    }
-    if kind == 2 {
-        return (((s % 1000) as u32) as f64) / 8.0;
-    }
-    (((s % 201) as u32) as f64 - 100.0) / 16.0
 }
 
 // Fills a curve, of the kind and with the numbers that follow s.
 pub fn fill(curve: &mut [f64], s: u64) {
     let kind = s % 4;
     let mut x = s;
-    let mut t = 0;
-    while t < curve.len() {
+    for (t, slot) in curve.iter_mut().enumerate() {
         x = next(x);
-        curve[t] = level(kind, t, x);
-        t += 1;
+        *slot = level(kind, t, x);
     }
 }
 
@@ -52,11 +44,9 @@ fn magnitude(s: u64) -> f32 {
 // Fills a slab of magnitudes with the numbers that follow s.
 pub fn fill_magnitudes(slab: &mut [f32], s: u64) {
     let mut x = s;
-    let mut t = 0;
-    while t < slab.len() {
+    for slot in slab.iter_mut() {
         x = next(x);
-        slab[t] = magnitude(x);
-        t += 1;
+        *slot = magnitude(x);
     }
 }
 
@@ -75,11 +65,9 @@ fn peak(t: usize, s: u64) -> u32 {
 // Fills such a list with the numbers that follow s.
 pub fn fill_peaks(peaks: &mut [u32], s: u64) {
     let mut x = s;
-    let mut t = 0;
-    while t < peaks.len() {
+    for (t, slot) in peaks.iter_mut().enumerate() {
         x = next(x);
-        peaks[t] = peak(t, x);
-        t += 1;
+        *slot = peak(t, x);
     }
 }
 

@@ -1,5 +1,7 @@
 // How an answer is written: a label, the number, then floats or frames.
-ghost use Rattle.std.specs.Prelude.{◌≤◌, length};
+ghost use Rattle.std.specs.Prelude.{◌≡◌, min, length};
+
+use numbers::Refusal;
 
 pub fn slots(rt: &impl Print, label: &[u8], xs: &[f64]) {
     run_show::words(rt, label);
@@ -7,26 +9,24 @@ pub fn slots(rt: &impl Print, label: &[u8], xs: &[f64]) {
     run_show::end(rt);
 }
 
-pub fn floats(rt: &impl Print, label: &[u8], number: u32, xs: &[f64]) {
+pub fn floats(rt: &impl Print, label: &[u8], answer: Result<(), Refusal>, xs: &[f64]) {
     run_show::words(rt, label);
-    run_show::small(rt, number);
+    run_show::outcome(rt, &answer);
     run_show::floats(rt, xs);
     run_show::end(rt);
 }
 
-// the first `count` frames of a list
-pub fn frames(rt: &impl Print, label: &[u8], number: u32, list: &[u32], count: usize)
-    requires { count ≤ length list.now }
-{
+// the frames that were listed, none where the answer refuses
+pub fn frames(rt: &impl Print, label: &[u8], answer: Result<usize, Refusal>, list: &[u32]) {
     run_show::words(rt, label);
-    run_show::small(rt, number);
-    run_show::smalls(rt, &list[0..count]);
+    run_show::outcome(rt, &answer);
+    run_show::smalls(rt, first(list, answer.unwrap_or(0)));
     run_show::end(rt);
 }
 
-// A count of entries, at most sixty: the room of every list.
-pub fn first(count: usize) -> usize
-    ensures { result ≤ 60 }
+// The first so many entries of a list that has them.
+pub fn first(list: &[u32], count: usize) -> &[u32]
+    ensures { length result.now ≡ min count (length list.now) }
 {
-    if count < 60 { count } else { 60 }
+    &list[..count.min(list.len())]
 }

@@ -19,10 +19,8 @@ fn round(rt: &impl Print, s: u64) {
 
 fn main(rt: HostRuntime) {
     let mut s = 1;
-    let mut k: u64 = 0;
-    while k < 100 {
+    for _ in 0..100 {
         s = inputs::next(s);
         round(&rt, s);
-        k += 1;
     }
 }

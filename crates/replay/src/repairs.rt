@@ -1,5 +1,6 @@
 // A patch of forty magnitude rows of one bin, and one of twenty feature rows, some refused.
 use crate::{inputs, lines};
+use numbers::Refusal;
 use patch_features::PatchedFeatures;
 use patch_magnitudes::Patched;
 
@@ -10,33 +11,31 @@ fn named(rt: &impl Print, a: usize, b: usize, c: usize, d: usize) {
     run_show::count(rt, d);
 }
 
-fn wrote(rt: &impl Print, p: Patched) {
+fn wrote(rt: &impl Print, answer: Result<Patched, Refusal>) {
     run_show::words(rt, b"patch");
-    match p {
-        Patched::Refused(number) => run_show::small(rt, number),
-        Patched::Wrote {
-            flux_first,
-            flux_past,
-            threshold_first,
-            threshold_past,
-        } => {
-            run_show::small(rt, 0);
-            named(rt, flux_first, flux_past, threshold_first, threshold_past);
-        }
+    run_show::outcome(rt, &answer);
+    if let Ok(p) = answer {
+        named(
+            rt,
+            p.flux_first,
+            p.flux_past,
+            p.threshold_first,
+            p.threshold_past,
+        );
     }
     run_show::end(rt);
 }
 
 fn flux_of(slab: &[f32; 40]) -> [f64; 40] {
     let mut flux = [0.0f64; 40];
-    flux::spectral_flux(slab, 40, 1, &mut flux);
+    let _ = flux::spectral_flux(slab, 40, 1, &mut flux);
     flux
 }
 
 fn threshold_of(flux: &[f64; 40]) -> [f64; 40] {
     let mut threshold = [0.0f64; 40];
     let mut work = [0.0f64; 21];
-    threshold::adaptive_threshold(flux, &mut threshold, &mut work);
+    let _ = threshold::adaptive_threshold(flux, &mut threshold, &mut work);
     threshold
 }
 
@@ -68,38 +67,30 @@ fn patched(rt: &impl Print, flux: &[f64; 40], threshold: &[f64; 40]) {
     lines::slots(rt, b"patched threshold", threshold);
 }
 
-fn wrote_features(rt: &impl Print, p: PatchedFeatures) {
+fn wrote_features(rt: &impl Print, answer: Result<PatchedFeatures, Refusal>) {
     run_show::words(rt, b"feature patch");
-    match p {
-        PatchedFeatures::Refused(number) => run_show::small(rt, number),
-        PatchedFeatures::Wrote {
-            similarity_first,
-            similarity_past,
-            novelty_first,
-            novelty_past,
-        } => {
-            run_show::small(rt, 0);
-            named(
-                rt,
-                similarity_first,
-                similarity_past,
-                novelty_first,
-                novelty_past,
-            );
-        }
+    run_show::outcome(rt, &answer);
+    if let Ok(p) = answer {
+        named(
+            rt,
+            p.similarity_first,
+            p.similarity_past,
+            p.novelty_first,
+            p.novelty_past,
+        );
     }
     run_show::end(rt);
 }
 
 fn similarity_of(features: &[f64; 320]) -> [f64; 340] {
     let mut similarity = [0.0f64; 340];
-    similarities::similarity(features, 20, &mut similarity);
+    let _ = similarities::similarity(features, 20, &mut similarity);
     similarity
 }
 
 fn novelty_of(similarity: &[f64; 340]) -> [f64; 20] {
     let mut novelty = [0.0f64; 20];
-    novelties::novelty(similarity, 20, &mut novelty);
+    let _ = novelties::novelty(similarity, 20, &mut novelty);
     novelty
 }
 

@@ -1,16 +1,23 @@
 // Lags, tempo, stability, beats and bars of envelopes of sixty slots, at rates that have few lags.
-ghost use Rattle.std.specs.Prelude.{◌≤◌};
-
 use crate::{inputs, lines};
 use bars::BarBeat;
+use lags::LagRange;
+use numbers::Refusal;
 use options::TempoOpts;
 use stability::Stability;
 use tempo::{Candidate, Tempo, TempoEstimate};
 
+// What is printed where no lags are named.
+const NO_LAGS: LagRange = LagRange {
+    min_lag: 0,
+    max_lag: 0,
+};
+
 fn range(rt: &impl Print, rate: u32, opts: TempoOpts) {
-    let r = lags::lag_range(rate, opts);
+    let answer = lags::lag_range(rate, opts);
+    let r = answer.unwrap_or(NO_LAGS);
     run_show::words(rt, b"lags");
-    run_show::small(rt, r.number);
+    run_show::outcome(rt, &answer);
     run_show::count(rt, r.min_lag);
     run_show::count(rt, r.max_lag);
     run_show::end(rt);
@@ -31,22 +38,34 @@ fn found(rt: &impl Print, t: Tempo) {
     }
 }
 
-fn told(rt: &impl Print, e: TempoEstimate) {
+// What is printed where nothing is estimated.
+const NO_ESTIMATE: TempoEstimate = TempoEstimate {
+    tempo: Tempo::None,
+    candidates: [Candidate {
+        lag: 0,
+        salience: 0.0,
+    }; 3],
+    count: 0,
+};
+
+fn told(rt: &impl Print, answer: Result<TempoEstimate, Refusal>) {
+    let e = answer.unwrap_or(NO_ESTIMATE);
     run_show::words(rt, b"tempo");
-    run_show::small(rt, e.number);
-    let t = e.tempo;
-    found(rt, t);
+    run_show::outcome(rt, &answer);
+    found(rt, e.tempo);
     run_show::count(rt, e.count);
-    candidate(rt, e.candidates[0]);
-    candidate(rt, e.candidates[1]);
-    candidate(rt, e.candidates[2]);
+    for &c in &e.candidates {
+        candidate(rt, c);
+    }
     run_show::end(rt);
 }
 
 // The lag of a tempo, or a period without one.
-fn lag_of(e: TempoEstimate, period: usize) -> usize {
-    let c = e.candidates[0];
-    if e.count == 0 { period } else { c.lag }
+fn lag_of(answer: Result<TempoEstimate, Refusal>, period: usize) -> usize {
+    match answer {
+        Ok(e) if e.count > 0 => e.candidates[0].lag,
+        _ => period,
+    }
 }
 
 // The tempo, and the lag to go on with.
@@ -71,7 +90,7 @@ fn windows(rt: &impl Print, envelope: &[f64], rate: u32, opts: TempoOpts, lag: u
     let mut clarity = [0.0f64; 60];
     let mut weight = [0.0f64; 60];
     let mut work = [0.0f64; 60];
-    let w = stability::stability_of(
+    let answer = stability::stability_of(
         envelope,
         rate,
         opts,
@@ -80,8 +99,7 @@ fn windows(rt: &impl Print, envelope: &[f64], rate: u32, opts: TempoOpts, lag: u
         &mut weight,
         &mut work,
     );
-    let share = w.stability;
-    steady(rt, share);
+    steady(rt, answer.unwrap_or(Stability::None));
 }
 
 fn steady(rt: &impl Print, stability: Stability) {
@@ -101,44 +119,23 @@ fn steady(rt: &impl Print, stability: Stability) {
     run_show::end(rt);
 }
 
+// The beats, the last score, and the bars of the beats.
 fn beats_of(rt: &impl Print, envelope: &[f64], period: usize) {
     let mut score = [0.0f64; 60];
     let mut back = [0u32; 60];
     let mut beats = [0u32; 60];
-    let r = beats::beat_grid(envelope, period, &mut score, &mut back, &mut beats);
-    grid_told(
-        rt,
-        envelope,
-        r.number,
-        lines::first(r.count),
-        &beats,
-        score[59],
-    );
-}
-
-// The beats, the last score, and the bars of the beats.
-fn grid_told(
-    rt: &impl Print,
-    envelope: &[f64],
-    number: u32,
-    count: usize,
-    beats: &[u32; 60],
-    score: f64,
-)
-    requires { count ≤ 60 }
-{
-    let frames = &beats[..];
-    lines::frames(rt, b"beats", number, frames, count);
+    let answer = beats::beat_grid(envelope, period, &mut score, &mut back, &mut beats);
+    lines::frames(rt, b"beats", answer, &beats);
     run_show::words(rt, b"last score");
-    run_show::float(rt, score);
+    run_show::float(rt, score[59]);
     run_show::end(rt);
-    bars_of(rt, envelope, &frames[0..count]);
+    bars_of(rt, envelope, lines::first(&beats, answer.unwrap_or(0)));
 }
 
 fn bars_of(rt: &impl Print, envelope: &[f64], beats: &[u32]) {
     let mut frames = [0u32; 60];
-    let r = bars::downbeats(envelope, beats, TempoOpts::new(), &mut frames);
-    lines::frames(rt, b"downbeats", r.number, &frames, lines::first(r.count));
+    let answer = bars::downbeats(envelope, beats, TempoOpts::new(), &mut frames);
+    lines::frames(rt, b"downbeats", answer, &frames);
 }
 
 fn at(rt: &impl Print, time: f64, downbeats: &[f64], beats: &[f64]) {

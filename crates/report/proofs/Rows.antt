@@ -4,13 +4,12 @@ use mathlib.Core.Bool.{Bool, true, false, ◌&&◌}
 use mathlib.Core.List.{List, [], ◌∷◌, ◌++◌, append-nil}
 use Prim.Native.Nat.{ℕ, zero, suc, ◌+◌, ◌-◌, ◌*◌, ◌≤◌, ◌<◌, min}
 use native.Mathlib.Omega.{arith}
-use lib.Ieee.{Float, nan}
-use lib.ListN.{length, get_or, set, take, drop, length-drop, length-append, drop_of_length-le}
-use lib.Seq.{get_or-drop, drop_at, take_at, take_all, take-append-le, drop-append-le}
+use lib.Ieee.{Float}
+use lib.ListN.{length, take, drop, length-drop, length-append, drop_of_length-le}
+use lib.Seq.{paste, drop_at, take_at, take_all, take-append-le, drop-append-le}
 use Rattle.numbers.proofs.Overs.{row_end}
-use Rattle.numbers.proofs.Tabs.{filled_more, filled-whole, get_or_filled_high, tab_ext, curve_of_lem}
 use Rattle.numbers.specs.Limits.{slab_of}
-use Rattle.numbers.specs.Lists.{tab, filled, row, every}
+use Rattle.numbers.specs.Lists.{row, every}
 use Rattle.numbers.specs.Rounded.{sum_of}
 use Rattle.flux.proofs.Fluxes.{flux-from, flux-same, flux-first}
 use Rattle.flux.specs.Flux.{rises, flux_at}
@@ -20,29 +19,16 @@ use Rattle.report.proofs.Values.{row-values}
 
 -- ---- the second of two rows becomes the first
 
--- slot j of the row that lies `bins` slots ahead
-abbrev pub ahead : List Float → ℕ → ℕ → Float
-ahead kept bins j = get_or kept (bins + j) nan
-
-module _ (was : List Float) (bins : ℕ) (e : length was ≡ 2 * bins) where
-  pub shift_more : (kept : List Float) (i : ℕ) → i < bins → kept ≡ filled (ahead was bins) was 0 i
-      → set kept i (get_or kept (bins + i) nan) ≡ filled (ahead was bins) was 0 (i + 1)
-  shift_more kept i h f =
-      let here : get_or kept (bins + i) nan ≡ ahead was bins i
-      = ap (λ (r : List Float). get_or r (bins + i) nan) f
-      ∙ get_or_filled_high (ahead was bins) was 0 i (omega arith) (omega arith) (bins + i) nan (omega arith) in
-      ap (λ (x : Float). set kept i x) here
-      ∙ ap (λ (r : List Float). set r i (ahead was bins i)) f
-      ∙ filled_more (ahead was bins) was 0 i (omega arith) nan (omega arith)
-
-  pub shift_end : filled (ahead was bins) was 0 bins ≡ drop bins was ++ drop bins was
-  shift_end =
-      let d = drop bins was in
-      let l : length d ≡ bins = simp length-drop (omega arith) in
-      filled-whole (ahead was bins) was bins
-      ∙ ap (λ (r : List Float). r ++ d)
-      (tab_ext (ahead was bins) (λ j. get_or d j nan) 0 bins (λ j p q. sym (get_or-drop bins was j nan))
-      ∙ ap (tab (λ j. get_or d j nan) 0) (sym l) ∙ curve_of_lem d nan)
+-- as `copy_within` leaves them
+pub row-moved : (was : List Float) (bins : ℕ) → length was ≡ 2 * bins → paste was 0 (drop bins was) (2 * bins - bins) ≡ drop bins was ++ drop bins was
+row-moved was bins e =
+    let d = drop bins was in
+    let n : 2 * bins - bins ≡ bins = omega arith in
+    let z : 0 + bins ≡ bins = omega arith in
+    let l : length d ≤ bins = simp length-drop (omega arith) in
+    ap (paste was 0 d) n
+    ∙ ap (λ (r : List Float). r ++ drop (0 + bins) was) (take_all bins d l)
+    ∙ ap (λ (k : ℕ). d ++ drop k was) z
 
 -- the row of these bytes is read behind it
 pub kept_put : (kept whole ys : List Float) (bytes : List ℕ) (bins : ℕ) → length kept ≡ 2 * bins → length bytes ≡ bins * 4

@@ -1,15 +1,12 @@
 -- Document 01, "The reporting program": what is refused, and the flux of what is not. "Too little or too much data is number 2. More than 8,000
 -- rows is number 1."
 -- Number 5 is "the file header is malformed"; where it is not, the lowest of the others that applies is given, over the whole input.
-use Rattle.std.specs.Prelude.{ℕ, ◌*◌, ◌/◌, Bool, true, ◌&&◌, List, [], leb, eqb, Float, length, take, drop}
+use Rattle.std.specs.Prelude.{ℕ, ◌*◌, ◌/◌, Bool, true, ◌&&◌, List, [], Option, Some, None, leb, eqb, Float, length, take, drop}
 use Rattle.numbers.specs.Rounded.{pick}
 use Rattle.numbers.specs.Limits.{most_bins, between, magnitude_fine, slab_of}
 use Rattle.numbers.specs.Lists.{curve, every}
 use Rattle.numbers.specs.Refusals.{lowest, malformed}
-use Rattle.report_npy.specs.declared.Preamble.{Preamble}
-use Rattle.report_npy.specs.declared.Preamble.TheVariants as preamble
-use Rattle.report_npy.specs.declared.Header.{Header}
-use Rattle.report_npy.specs.declared.Header.TheVariants as header
+use Rattle.report_npy.specs.declared.Shape.{Shape}
 use Rattle.report_npy.specs.Header.{header_of, preamble_of}
 use Rattle.report_npy.specs.Values.{single_at}
 use Rattle.flux.specs.Flux.{flux_at}
@@ -38,16 +35,16 @@ data_number rows bins body =
     lowest (shape_fine rows bins) (eqb (length body) (rows * bins * 4)) true (every magnitude_fine (values_of body))
 
 -- the number of a header and the data behind it
-unfoldable pub header_number : Header → (body : List ℕ) → ℕ
+unfoldable pub header_number : Option Shape → (body : List ℕ) → ℕ
 unfolding data_number
-header_number header.Malformed body = malformed
-header_number (header.Shape rows bins) body = data_number rows bins body
+header_number None body = malformed
+header_number (Some shape) body = data_number shape.rows shape.bins body
 
 -- the number of what stands behind the ten bytes, which say how long the header's text is: an input that ends before it is malformed
-unfoldable pub preamble_number : Preamble → (rest : List ℕ) → ℕ
+unfoldable pub preamble_number : Option ℕ → (rest : List ℕ) → ℕ
 unfolding header_number
-preamble_number preamble.Malformed rest = malformed
-preamble_number (preamble.Length size) rest =
+preamble_number None rest = malformed
+preamble_number (Some size) rest =
     pick (leb size (length rest)) (header_number (header_of (take size rest)) (drop size rest)) malformed
 
 -- the number of a whole input
@@ -57,15 +54,15 @@ report_number input = preamble_number (preamble_of (take preamble_length input))
 
 -- ---- the flux of an input that nothing refuses: the curve of the rows that its header says
 
-unfoldable pub header_flux : Header → (body : List ℕ) → List Float
+unfoldable pub header_flux : Option Shape → (body : List ℕ) → List Float
 unfolding values_of
-header_flux header.Malformed body = []
-header_flux (header.Shape rows bins) body = curve (flux_at (values_of body) (slab_of rows bins)) rows
+header_flux None body = []
+header_flux (Some shape) body = curve (flux_at (values_of body) (slab_of shape.rows shape.bins)) shape.rows
 
-unfoldable pub preamble_flux : Preamble → (rest : List ℕ) → List Float
+unfoldable pub preamble_flux : Option ℕ → (rest : List ℕ) → List Float
 unfolding header_flux
-preamble_flux preamble.Malformed rest = []
-preamble_flux (preamble.Length size) rest = header_flux (header_of (take size rest)) (drop size rest)
+preamble_flux None rest = []
+preamble_flux (Some size) rest = header_flux (header_of (take size rest)) (drop size rest)
 
 unfoldable pub report_flux : (input : List ℕ) → List Float
 unfolding preamble_flux

@@ -6,8 +6,10 @@
 pub mod stream; // stream.rt: the flux of rows that come one after the other, with two of them kept
 
 ghost use Rattle.std.specs.Prelude.{◌≡◌, true};
-ghost use Rattle.numbers.specs.Refusals.{lowest};
+ghost use Rattle.numbers.specs.Refusals.{lowest, number_of};
 ghost use Rattle.report.specs.Input.{shape_fine};
+
+use numbers::Refusal;
 
 // rows of a reported array
 pub const MOST_REPORTED: usize = 8_000;
@@ -19,19 +21,19 @@ pub fn shape_fine(rows: u64, bins: u64) -> bool
     rows <= MOST_REPORTED as u64 && (1 <= bins && bins <= numbers::MOST_BINS as u64)
 }
 
-// Inner: the number of a shape with data behind it: whether it is within the bounds, whether the data are as long as it says, and whether each
-// of their values is fine.
-pub fn number_of(shape: bool, whole: bool, fine: bool) -> u32
-    ensures { result ≡ lowest shape whole true fine }
+// Inner: what refuses a shape with data behind it, if anything: whether it is within the bounds, whether the data are as long as it says, and whether
+// each of their values is fine.
+pub fn refusal_of(shape: bool, whole: bool, fine: bool) -> Result<(), Refusal>
+    ensures { number_of result ≡ lowest shape whole true fine }
 {
     if !shape {
-        return numbers::OUT_OF_BOUNDS;
+        return Err(Refusal::OutOfBounds);
     }
     if !whole {
-        return numbers::WRONG_LENGTH;
+        return Err(Refusal::WrongLength);
     }
     if !fine {
-        return numbers::WRONG_VALUE;
+        return Err(Refusal::WrongValue);
     }
-    0
+    Ok(())
 }

@@ -9,24 +9,12 @@ ghost use Rattle.report.specs.Stream.{RowTaken};
 
 use numbers::Slab;
 
-// The second of the two rows becomes the first.
-fn shift(kept: &mut [f32], bins: usize)
-    requires { length kept.old ≡ 2 * bins }
-    ensures { kept.new ≡ drop bins kept.old ++ drop bins kept.old }
-{
-    let mut i: usize = 0;
-    while i < bins {
-        kept[i] = kept[bins + i];
-        i += 1;
-    }
-}
-
 // Keeps the row before and, behind it, the row of these bytes.
 fn keep_row(bytes: &[u8], bins: usize, kept: &mut [f32])
     requires { (length bytes.now ≡ bins * 4) × (length kept.old ≡ 2 * bins) }
     ensures { kept.new ≡ drop bins kept.old ++ values_of bytes.now }
 {
-    shift(kept, bins);
+    kept.copy_within(bins..2 * bins, 0);
     report_npy::read_values(bytes, &mut kept[bins..]);
 }
 
@@ -51,6 +39,6 @@ pub fn take_row(
         return false;
     }
     let pair = Slab { rows: 2, bins };
-    flux[t] = flux::flux_slot(kept, pair, numbers::least(t, 1));
+    flux[t] = flux::flux_slot(kept, pair, t.min(1));
     true
 }

@@ -3,17 +3,20 @@
 use mathlib.Core.Path.{◌≡◌, refl, sym, ap, ◌∙◌, subst}
 use mathlib.Core.Bool.{Bool, true, false, ◌||◌}
 use mathlib.Core.Logic.{⊎_elim}
-use mathlib.Core.List.{List, [], ◌∷◌}
-use Prim.Native.Nat.{ℕ, ◌-◌, ◌≤◌, ◌<◌}
+use mathlib.Core.List.{List}
+use Prim.Native.Nat.{ℕ, ◌≤◌, ◌<◌}
 use native.Mathlib.Omega.{arith}
 use borrow.Author.Tests.{le-leb}
 use lib.Dec.{leb, ltb, eqb}
-use lib.ListN.{length, get_or, take, drop, length-append, length-take, length-drop}
+use lib.ListN.{length, take, drop, length-append, length-drop}
 use lib.Seq.{take-append_seam}
 use lib.Ieee.{Float, add, mul, div, lt, le, of_bits, of_int}
+use Rattle.std.specs.Prelude.{Result, Ok, Err, IsOk}
+use Rattle.numbers.specs.declared.Refusal.{Refusal}
 use Rattle.numbers.specs.Rounded.{◌⊘◌, real, pick}
 use Rattle.numbers.specs.Limits.{most_rows, value_fine}
 use Rattle.numbers.specs.Lists.{every, listed}
+use Rattle.numbers.proofs.Outcomes.{number-not_0}
 use Rattle.numbers.proofs.Tests.{and_both, lowest_0, passed_does, lt_or_le}
 use Rattle.options.specs.declared.TempoOpts.{TempoOpts}
 use Rattle.options.specs.Options.{default_options, options_fine}
@@ -26,11 +29,10 @@ use Rattle.stability.specs.declared.Stability.TheVariants.{None, Share}
 use Rattle.stability.specs.Windows.{windows_of, agreeing_to}
 use Rattle.stability.specs.Answers.{share_of, agreeing_in, windows_in}
 use Rattle.stability.proofs.Promises.{windows-most, agreeing-most}
-use Rattle.track.specs.declared.Analysis.{Analysis}
-use Rattle.rooms.specs.declared.Room.{Room}
-use Rattle.rooms.specs.Rooms.{Results, Spare, frame_slots, lag_slots, lags_of, analysis_numbers_fine, room_of, suffices, envelope_refusal, envelope_number}
+use Rattle.rooms.specs.Rooms.{RoomSaid, Results, Spare, frame_slots, lag_slots, lags_of, analysis_numbers_fine, room_of, suffices, envelope_refusal, envelope_number}
 use Rattle.onsets.specs.Onsets.{onsets_in}
-use Rattle.track.specs.Analyses.{estimate_in, period_in, beats_in, downbeats_in, analysis_of, written_in}
+use Rattle.track.specs.declared.Analysis.{Analysis}
+use Rattle.track.specs.Analyses.{AnalysisSaid, analysis_said, estimate_in, period_in, beats_in, downbeats_in, analysis_of, written_in}
 use Rattle.analysis.specs.Analyses.{EnvelopePromise}
 use Rattle.rooms.proofs.Numbers.{in_bounds, by_bounds, room-inside}
 use Rattle.rooms.specs.Enough.{Enough}
@@ -135,7 +137,7 @@ lag_slots_lem : lags_of report_rate default_options ≡ 338
 unfolding min_lag max_lag of_int of_bits div mul add lt le
 lag_slots_lem = refl
 
-module _ (env : List Float) (r : Results) (s : Spare) (answer : Analysis) (after : Results) (left : Spare) (o : TempoOpts)
+module _ (env : List Float) (r : Results) (s : Spare) (answer : AnalysisSaid) (after : Results) (left : Spare) (o : TempoOpts)
     (told : EnvelopePromise env report_rate o r s answer after left) (is : o ≡ default_options)
     (few : length env ≤ most_reported) (fine : every value_fine env ≡ true)
     (curves : CurvesLent r.threshold r.clarity r.weight s.window_clarity s.window_weight r.score s.work)
@@ -164,7 +166,7 @@ module _ (env : List Float) (r : Results) (s : Spare) (answer : Analysis) (after
       lowest_0 (analysis_numbers_fine (length env) report_rate default_options) true
       (suffices (room_of (length env) report_rate default_options) (frame_slots r) (lag_slots r s) (length s.work)) (every value_fine env)
       n refl
-      (ap (λ (x : Room). suffices x (frame_slots r) (lag_slots r s) (length s.work)) (room-inside (length env) report_rate default_options n) ∙ q)
+      (ap (λ (x : RoomSaid). suffices x (frame_slots r) (lag_slots r s) (length s.work)) (room-inside (length env) report_rate default_options n) ∙ q)
       fine
 
   done : EnvelopePromise env report_rate default_options r s answer after left
@@ -172,6 +174,12 @@ module _ (env : List Float) (r : Results) (s : Spare) (answer : Analysis) (after
 
   answer_is : answer ≡ analysis_of env report_rate default_options
   answer_is = done.answered ∙ passed_does _ _ _ not_refused
+
+  -- nothing refuses it
+  pub analysis-ok : (said : Result Analysis Refusal) → answer ≡ analysis_said said → IsOk said
+  unfolding analysis_of
+  analysis-ok (Ok a) e = refl
+  analysis-ok (Err k) e = absurd (number-not_0 k (ap (λ (a : AnalysisSaid). a.number) (sym e ∙ answer_is)))
 
   after_is : after ≡ written_in env report_rate default_options r
   after_is = done.written ∙ passed_does _ _ _ not_refused
@@ -189,7 +197,7 @@ module _ (env : List Float) (r : Results) (s : Spare) (answer : Analysis) (after
   pub lines_are : lines_of answer after.onsets after.beats after.downbeats ≡ report_of env
   unfolding report_of analysis_of
   lines_are =
-      ap (λ (a : Analysis). lines_of a after.onsets after.beats after.downbeats) answer_is
+      ap (λ (a : AnalysisSaid). lines_of a after.onsets after.beats after.downbeats) answer_is
       ∙ answer_lines env report_rate default_options (omega arith) bounds fine r after.onsets after.beats after.downbeats onsets_are beats_are
       downbeats_are
 

@@ -3,7 +3,7 @@ use Rattle.std.specs.Prelude.{ℕ, List, take, Float}
 use Rattle.numbers.specs.Refusals.{unless_refused}
 use Rattle.options.specs.Options.{default_options}
 use Rattle.lags.specs.Lags.{min_lag, max_lag}
-use Rattle.tempo.specs.declared.TempoEstimate.{TempoEstimate}
+use Rattle.tempo.specs.Answers.{EstimateSaid}
 use Rattle.stability.specs.declared.Stability.{Stability}
 use Rattle.stability.specs.Answers.{share_of, agreeing_in, windows_in}
 use Rattle.onsets.specs.Onsets.{onsets_in}
@@ -17,7 +17,7 @@ abbrev pub report_rate : ℕ
 report_rate = 48000
 
 -- the lags of the candidates of an estimate, the winner's first
-abbrev pub lags_in : TempoEstimate → List ℕ
+abbrev pub lags_in : EstimateSaid → List ℕ
 lags_in e = take e.count (candidate_lags e.candidates)
 
 -- the stability of a flux

@@ -82,7 +82,8 @@ fn put_over(
         beats,
         downbeats,
         work,
-    );
+    )
+    .unwrap();
     put_lines(answer, onsets, beats, downbeats, bytes)
 }
 

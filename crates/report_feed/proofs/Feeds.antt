@@ -2,8 +2,8 @@
 use mathlib.Core.Path.{◌≡◌, refl, sym, ap, ◌∙◌}
 use mathlib.Core.Bool.{Bool, true, false}
 use mathlib.Core.List.{List, [], ◌∷◌, ◌++◌, append-nil, append_assoc}
-use Prim.Native.Nat.{ℕ, ◌+◌, ◌-◌, ◌*◌, ◌≤◌, ◌<◌, min}
-use native.Mathlib.Nat.{sub-zero, mul-le-mul_right, add-mul}
+use Prim.Native.Nat.{ℕ, ◌+◌, ◌*◌, ◌≤◌, ◌<◌, min}
+use native.Mathlib.Nat.{mul-le-mul_right, add-mul}
 use native.Mathlib.Numerals.{add-one}
 use native.Mathlib.Omega.{arith}
 use lib.Dec.{ltb, eqb}
@@ -15,15 +15,15 @@ use Rattle.numbers.proofs.Everys.{every_take, every_drop, every_append}
 use Rattle.numbers.proofs.Tests.{true_not_false, and_left, and_right, pick_true, pick-false, lowest-zero, lowest_2}
 use Rattle.numbers.specs.Limits.{magnitude_fine, slab_of}
 use Rattle.numbers.specs.Lists.{every, filled}
-use Rattle.numbers.specs.Refusals.{lowest}
+use Rattle.numbers.specs.Refusals.{lowest, number}
+use Rattle.numbers.specs.declared.Refusal.{Refusal}
+use Rattle.numbers.specs.declared.Refusal.TheVariants.{OutOfBounds, WrongLength, Malformed}
 use Rattle.numbers.specs.Rounded.{pick}
 use Rattle.flux.specs.Flux.{flux_at}
-use Rattle.report_npy.specs.declared.Preamble.{Preamble}
-use Rattle.report_npy.specs.declared.Preamble.TheVariants as preamble
-use Rattle.report_npy.specs.declared.Header.{Header}
-use Rattle.report_npy.specs.declared.Header.TheVariants as header
+use Rattle.std.specs.Prelude.{Option, Some, None}
+use Rattle.report_npy.specs.declared.Shape.{Shape}
 use Rattle.texts.specs.Texts.{starts}
-use Rattle.report_npy.specs.Header.{header_of, preamble_of}
+use Rattle.report_npy.specs.Header.{header_of, preamble_of, shape_of}
 use Rattle.report.specs.Input.{preamble_length, values_of, shape_fine, data_number, report_number}
 use Rattle.report.specs.Stream.{RowTaken}
 use Rattle.report.proofs.Streams.{streamed-none, streamed-more}
@@ -80,10 +80,6 @@ begins =
 
 -- ---- one step
 
--- how long the first k entries of what is lent are
-pub part_length : {A : Type 0} (k : ℕ) (xs : List A) → k ≤ length xs → length (take (k - 0) xs) ≡ k
-part_length k xs h = length-take-le (k - 0) xs (omega arith) ∙ omega arith
-
 -- one byte more, apart from what the state is
 record Moved (byte : ℕ) (feed : Feed) (held : List ℕ) (kept flux : List Float) (feed' : Feed) (held' : List ℕ) (kept' flux' : List Float) : Type 0 where
   ready : FeedReady feed' held' kept' flux'
@@ -118,10 +114,10 @@ pub step_at : {bytes : List ℕ} {feed told feed' : Feed} {held held' : List ℕ
 step_at e s = rw e s
 
 -- nothing is taken, since the input is refused
-pub step_refused : {number byte : ℕ} {held : List ℕ} {kept flux : List Float} → FeedReady (come.Refused number) held kept flux
-    → Step (byte ∷ []) (come.Refused number) held kept flux (come.Refused number) held kept flux
+pub step_refused : {refusal : Refusal} {byte : ℕ} {held : List ℕ} {kept flux : List Float} → FeedReady (come.Refused refusal) held kept flux
+    → Step (byte ∷ []) (come.Refused refusal) held kept flux (come.Refused refusal) held kept flux
 unfolding Parts byte_taken
-step_refused {number} {byte} r =
+step_refused {refusal} {byte} r =
     step_of refl (moved_of r (λ input was p.
     record { some = p.some; whatever = λ more. ap report_number (append_assoc input (byte ∷ []) more) ∙ p.whatever ((byte ∷ []) ++ more) }))
 
@@ -161,9 +157,9 @@ step_first {byte} {have} {feed'} {held} {held'} {kept} {flux} r t =
     whole : have + 1 ≡ 10 → (input : List ℕ) → input ≡ take have held → input ++ (byte ∷ []) ≡ first
     whole full input e = ap (λ (x : List ℕ). x ++ (byte ∷ [])) e ∙ sym more ∙ ap (λ (k : ℕ). take k held') full
 
-    empty : have + 1 ≡ 10 → (size : ℕ) → preamble_of first ≡ preamble.Length size → (b : Bool) → eqb size 0 ≡ b → To (pick b (come.Refused 5) (come.Text size 0))
+    empty : have + 1 ≡ 10 → (size : ℕ) → preamble_of first ≡ Some size → (b : Bool) → eqb size 0 ≡ b → To (pick b (come.Refused Malformed) (come.Text size 0))
     empty full size s true e =
-        let none : preamble_of first ≡ preamble.Length 0 = s ∙ ap preamble.Length (eqb-true size 0 e) in
+        let none : preamble_of first ≡ Some 0 = s ∙ ap Some (eqb-true size 0 e) in
         moved_of (ready_as r same tt) (λ input was p.
         record {
           some = λ z. absurd (omega arith);
@@ -174,14 +170,14 @@ step_first {byte} {have} {feed'} {held} {held'} {kept} {flux} r t =
         moved_of (ready_as r same (some, t.size_fits (omega arith) size s, r.within.1)) (λ input was p.
         record { first = first; first_is = ten; stated_is = s; input_is = whole full input p.input_is ∙ sym (append-nil first); flux_is = p.flux_is })
 
-    told : have + 1 ≡ 10 → (x : Preamble) → preamble_of first ≡ x → To (behind_first x)
-    told full preamble.Malformed s =
+    told : have + 1 ≡ 10 → (x : Option ℕ) → preamble_of first ≡ x → To (behind_first x)
+    told full None s =
         moved_of (ready_as r same tt) (λ input was p.
         record {
           some = λ z. absurd (omega arith);
           whatever = λ rest. ap (λ (x : List ℕ). report_number (x ++ rest)) (whole full input p.input_is) ∙ number-malformed first ten s rest;
         })
-    told full (preamble.Length size) s = empty full size s (eqb size 0) refl
+    told full (Some size) s = empty full size s (eqb size 0) refl
 
     by : (b : Bool) → ltb (have + 1) preamble_length ≡ b → To (pick b (come.First (have + 1)) (behind_first (preamble_of first)))
     by true e =
@@ -223,8 +219,8 @@ step_text {byte} {size} {have} {feed'} {held} {held'} {kept} {flux} r t =
     size_is : length text ≡ size
     size_is = length-take-le size held' (omega (arith, r.within.1, r.held_has_room, same))
 
-    stated : (first : List ℕ) → preamble_of first ≡ preamble.Length size → preamble_of first ≡ preamble.Length (length text)
-    stated first e = e ∙ ap preamble.Length (sym size_is)
+    stated : (first : List ℕ) → preamble_of first ≡ Some size → preamble_of first ≡ Some (length text)
+    stated first e = e ∙ ap Some (sym size_is)
 
     whole : have + 1 ≡ size → (first input : List ℕ) → input ≡ first ++ take have held → input ++ (byte ∷ []) ≡ first ++ text
     whole full first input e = behind first input e ∙ ap (λ (k : ℕ). first ++ take k held') full
@@ -233,8 +229,8 @@ step_text {byte} {size} {have} {feed'} {held} {held'} {kept} {flux} r t =
         → report_number ((input ++ (byte ∷ [])) ++ rest) ≡ report_number (first ++ (text ++ rest))
     on full first input rest e = ap (λ (x : List ℕ). report_number (x ++ rest)) (whole full first input e) ∙ ap report_number (append_assoc first text rest)
 
-    shaped : have + 1 ≡ size → (rows bins : ℕ) → header_of text ≡ header.Shape rows bins → (b : Bool) → shape_fine rows bins ≡ b
-        → To (pick b (come.Rows rows bins 0 0 true) (come.Refused 1))
+    shaped : have + 1 ≡ size → (rows bins : ℕ) → header_of text ≡ Some (shape_of rows bins) → (b : Bool) → shape_fine rows bins ≡ b
+        → To (pick b (come.Rows rows bins 0 0 true) (come.Refused OutOfBounds))
     shaped full rows bins s true e =
         let room : 2 * bins ≤ length kept = omega (arith, r.kept_room, bins_fit rows bins e) in
         let fine : every magnitude_fine (take (2 * bins) kept) ≡ true = every_take magnitude_fine kept (2 * bins) r.within.2 in
@@ -265,15 +261,15 @@ step_text {byte} {size} {have} {feed'} {held} {held'} {kept} {flux} r t =
               ∙ number-shape p.first p.first_is text (stated p.first p.stated_is) rows bins s e rest;
         })
 
-    told : have + 1 ≡ size → (x : Header) → header_of text ≡ x → To (behind_text x)
-    told full header.Malformed s =
+    told : have + 1 ≡ size → (x : Option Shape) → header_of text ≡ x → To (behind_text x)
+    told full None s =
         moved_of (ready_as r same tt) (λ input was p.
         record {
           some = λ z. absurd (omega arith);
           whatever = λ rest. on full p.first input rest p.input_is
               ∙ number_text_malformed p.first p.first_is text (stated p.first p.stated_is) s rest;
         })
-    told full (header.Shape rows bins) s = shaped full rows bins s (shape_fine rows bins) refl
+    told full (Some shape) s = shaped full shape.rows shape.bins s (shape_fine shape.rows shape.bins) refl
 
     by : (b : Bool) → ltb (have + 1) size ≡ b → To (pick b (come.Text size (have + 1)) (behind_text (header_of text)))
     by true e =
@@ -313,7 +309,7 @@ module _ {rows bins t have : ℕ} {fine : Bool} {held : List ℕ} {kept flux : L
   pair_fits = omega (arith, bins_fit rows bins rows-within.shape_is, r.kept_room)
 
   -- a byte behind the last row
-  pub step_behind : {byte : ℕ} → t ≡ rows → Step (byte ∷ []) (come.Rows rows bins t have fine) held kept flux (come.Refused 2) held kept flux
+  pub step_behind : {byte : ℕ} → t ≡ rows → Step (byte ∷ []) (come.Rows rows bins t have fine) held kept flux (come.Refused WrongLength) held kept flux
   unfolding PartWithin Parts byte_taken
   step_behind {byte} e =
       step_of (sym (pick_true _ _ _ (eq-eqb t rows e))) (moved_of (ready_as r refl tt) (λ input was p.
@@ -461,9 +457,9 @@ pub decides_rows : {rows bins t have : ℕ} {fine : Bool} → Decides (come.Rows
 unfolding is_decided
 decides_rows = record { answer_is = refl; whatever = λ e. true_not_false false e refl }
 
-pub decides_refused : {number : ℕ} → Decides (come.Refused number) true
+pub decides_refused : {refusal : Refusal} → Decides (come.Refused refusal) true
 unfolding is_decided Parts reading_of
-decides_refused {number} =
+decides_refused {refusal} =
     record {
       answer_is = refl;
       whatever = λ e input held kept was flux x more. record { number_is = sym (x.parts.whatever more); found = refused_found x.parts.some };
@@ -496,9 +492,9 @@ closes_text {size} {have} =
           };
     }
 
-pub closes_refused : {number : ℕ} → Closes (come.Refused number) (record { number = number; rows = 0 })
+pub closes_refused : {refusal : Refusal} → Closes (come.Refused refusal) (record { number = number refusal; rows = 0 })
 unfolding Parts reading_of
-closes_refused {number} =
+closes_refused {refusal} =
     record {
       answer_is = refl;
       tells = λ input held kept was flux x.

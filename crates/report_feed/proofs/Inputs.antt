@@ -14,12 +14,10 @@ use Rattle.numbers.proofs.Tabs.{length-tab, filled-whole}
 use Rattle.numbers.specs.Limits.{most_bins, magnitude_fine, value_fine, slab_of}
 use Rattle.numbers.specs.Lists.{every, curve}
 use Rattle.numbers.specs.Rounded.{pick}
-use Rattle.report_npy.specs.declared.Preamble.{Preamble}
-use Rattle.report_npy.specs.declared.Preamble.TheVariants as preamble
-use Rattle.report_npy.specs.declared.Header.{Header}
-use Rattle.report_npy.specs.declared.Header.TheVariants as header
+use Rattle.std.specs.Prelude.{Option, Some, None}
+use Rattle.report_npy.specs.declared.Shape.{Shape}
 use Rattle.texts.specs.Texts.{starts}
-use Rattle.report_npy.specs.Header.{magic, header_of, preamble_of}
+use Rattle.report_npy.specs.Header.{magic, header_of, preamble_of, shape_of}
 use Rattle.flux.specs.Flux.{flux_at}
 use Rattle.flux.proofs.Fluxes.{flux_curve_fine}
 use Rattle.report.specs.Input.{
@@ -52,11 +50,11 @@ module _ (rows bins : ℕ) (e : shape_fine rows bins ≡ true) where
 
 -- ---- the number of an input
 
-short_malformed : (bytes : List ℕ) → length bytes < 10 → preamble_of bytes ≡ preamble.Malformed
+short_malformed : (bytes : List ℕ) → length bytes < 10 → preamble_of bytes ≡ None
 unfolding preamble_of
 short_malformed bytes h = go (starts magic bytes)
   where
-    go : (b : Bool) → pick (b && leb 10 (length bytes)) (preamble.Length (get_or bytes 8 0 + get_or bytes 9 0 * 256)) preamble.Malformed ≡ preamble.Malformed
+    go : (b : Bool) → pick (b && leb 10 (length bytes)) (Some (get_or bytes 8 0 + get_or bytes 9 0 * 256)) None ≡ None
     go true = pick-false _ _ _ (lt-leb 10 (length bytes) h)
     go false = refl
 
@@ -65,7 +63,7 @@ pub number_short : (input : List ℕ) → length input < 10 → report_number in
 unfolding report_number preamble_number
 number_short input h =
     ap (λ (x : List ℕ). preamble_number (preamble_of x) (drop preamble_length input)) (take_all preamble_length input (omega arith))
-    ∙ ap (λ (p : Preamble). preamble_number p (drop preamble_length input)) (short_malformed input h)
+    ∙ ap (λ (p : Option ℕ). preamble_number p (drop preamble_length input)) (short_malformed input h)
 
 module _ (first : List ℕ) (l : length first ≡ preamble_length) where
   -- ten bytes, and the rest behind them
@@ -75,35 +73,35 @@ module _ (first : List ℕ) (l : length first ≡ preamble_length) where
       ap (λ (x : List ℕ). preamble_number (preamble_of x) (drop preamble_length (first ++ rest))) (take_at first rest preamble_length l)
       ∙ ap (preamble_number (preamble_of first)) (drop_at first rest preamble_length l)
 
-  pub number-malformed : preamble_of first ≡ preamble.Malformed → (rest : List ℕ) → report_number (first ++ rest) ≡ 5
+  pub number-malformed : preamble_of first ≡ None → (rest : List ℕ) → report_number (first ++ rest) ≡ 5
   unfolding preamble_number
-  number-malformed p rest = number-rest rest ∙ ap (λ (x : Preamble). preamble_number x rest) p
+  number-malformed p rest = number-rest rest ∙ ap (λ (x : Option ℕ). preamble_number x rest) p
 
   -- the input ends within the text
-  pub number_text_short : (size : ℕ) → preamble_of first ≡ preamble.Length size → (part : List ℕ) → length part < size → report_number (first ++ part) ≡ 5
+  pub number_text_short : (size : ℕ) → preamble_of first ≡ Some size → (part : List ℕ) → length part < size → report_number (first ++ part) ≡ 5
   unfolding preamble_number
-  number_text_short size p part h = number-rest part ∙ ap (λ (x : Preamble). preamble_number x part) p ∙ pick-false _ _ _ (lt-leb size (length part) h)
+  number_text_short size p part h = number-rest part ∙ ap (λ (x : Option ℕ). preamble_number x part) p ∙ pick-false _ _ _ (lt-leb size (length part) h)
 
   -- the text is there, and some data behind it
-  module _ (text : List ℕ) (p : preamble_of first ≡ preamble.Length (length text)) where
-    number_header : (head : Header) → header_of text ≡ head → (body : List ℕ) → report_number (first ++ (text ++ body)) ≡ header_number head body
+  module _ (text : List ℕ) (p : preamble_of first ≡ Some (length text)) where
+    number_header : (head : Option Shape) → header_of text ≡ head → (body : List ℕ) → report_number (first ++ (text ++ body)) ≡ header_number head body
     unfolding preamble_number
     number_header head h body =
         number-rest (text ++ body)
-        ∙ ap (λ (x : Preamble). preamble_number x (text ++ body)) p
+        ∙ ap (λ (x : Option ℕ). preamble_number x (text ++ body)) p
         ∙ pick_true _ _ _ (le-leb (length text) (length (text ++ body)) (omega (arith, length-append text body)))
         ∙ ap (λ (x : List ℕ). header_number (header_of x) (drop (length text) (text ++ body))) (take-append_seam text body)
         ∙ ap (header_number (header_of text)) (drop-append_seam text body)
-        ∙ ap (λ (x : Header). header_number x body) h
+        ∙ ap (λ (x : Option Shape). header_number x body) h
 
-    pub number_text_malformed : header_of text ≡ header.Malformed → (body : List ℕ) → report_number (first ++ (text ++ body)) ≡ 5
+    pub number_text_malformed : header_of text ≡ None → (body : List ℕ) → report_number (first ++ (text ++ body)) ≡ 5
     unfolding header_number
-    number_text_malformed h body = number_header header.Malformed h body
+    number_text_malformed h body = number_header None h body
 
-    module _ (rows bins : ℕ) (h : header_of text ≡ header.Shape rows bins) where
+    module _ (rows bins : ℕ) (h : header_of text ≡ Some (shape_of rows bins)) where
       pub number_data : (body : List ℕ) → report_number (first ++ (text ++ body)) ≡ data_number rows bins body
       unfolding header_number
-      number_data body = number_header (header.Shape rows bins) h body
+      number_data body = number_header (Some (shape_of rows bins)) h body
 
       pub number-shape : shape_fine rows bins ≡ false → (body : List ℕ) → report_number (first ++ (text ++ body)) ≡ 1
       unfolding data_number
@@ -123,18 +121,18 @@ pub record Accepted (input : List ℕ) (rows : ℕ) (flux : List Float) : Type 0
   pub flux_is : take rows flux ≡ report_flux input
   pub fine_is : every value_fine (take rows flux) ≡ true
 
-flux_of : (first text body : List ℕ) (rows bins : ℕ) → length first ≡ preamble_length → preamble_of first ≡ preamble.Length (length text)
-    → header_of text ≡ header.Shape rows bins
+flux_of : (first text body : List ℕ) (rows bins : ℕ) → length first ≡ preamble_length → preamble_of first ≡ Some (length text)
+    → header_of text ≡ Some (shape_of rows bins)
     → report_flux (first ++ (text ++ body)) ≡ curve (flux_at (values_of body) (slab_of rows bins)) rows
 unfolding report_flux
 flux_of first text body rows bins l p h =
     let rest = text ++ body in
     ap (λ (x : List ℕ). preamble_flux (preamble_of x) (drop preamble_length (first ++ rest))) (take_at first rest preamble_length l)
     ∙ ap (preamble_flux (preamble_of first)) (drop_at first rest preamble_length l)
-    ∙ ap (λ (x : Preamble). preamble_flux x rest) p
+    ∙ ap (λ (x : Option ℕ). preamble_flux x rest) p
     ∙ ap (λ (x : List ℕ). header_flux (header_of x) (drop (length text) rest)) (take-append_seam text body)
     ∙ ap (header_flux (header_of text)) (drop-append_seam text body)
-    ∙ ap (λ (x : Header). header_flux x body) h
+    ∙ ap (λ (x : Option Shape). header_flux x body) h
 
 pub accepted : {input : List ℕ} {was flux : List Float} {answer : Reading} → Told input answer was flux → answer.number ≡ 0
     → Accepted input answer.rows flux

@@ -1,15 +1,14 @@
 -- Document 01, "The reporting program": an input that comes byte by byte, "keeping two rows at a time". `Fed` says what has come of an input.
 -- The promises are made for every input and every way it is cut: whatever has come, it has come with the next bytes behind it, and where it ends,
 -- its number is that of the whole input, and the flux is demand 2's curve of its rows.
-use Rattle.std.specs.Prelude.{ℕ, ◌+◌, ◌*◌, ◌≤◌, ◌<◌, min, ◌≡◌, Bool, true, false, ◌&&◌, List, [], ◌∷◌, ◌++◌, ltb, eqb, Float, length, take, drop, set}
+use Rattle.std.specs.Prelude.{ℕ, ◌+◌, ◌*◌, ◌≤◌, ◌<◌, min, ◌≡◌, Bool, true, false, ◌&&◌, List, [], ◌∷◌, ◌++◌, Some, ltb, eqb, Float, length, take, drop, set}
 use Rattle.numbers.specs.Limits.{most_bins, magnitude_fine, slab_of}
 use Rattle.numbers.specs.Lists.{every, filled}
-use Rattle.numbers.specs.Refusals.{lowest, malformed}
+use Rattle.numbers.specs.Refusals.{lowest, malformed, number}
+use Rattle.numbers.specs.declared.Refusal.TheVariants.{WrongLength}
 use Rattle.numbers.specs.Rounded.{pick}
 use Rattle.flux.specs.Flux.{flux_at}
-use Rattle.report_npy.specs.declared.Header.TheVariants as header
-use Rattle.report_npy.specs.declared.Preamble.TheVariants as preamble
-use Rattle.report_npy.specs.Header.{header_of, preamble_of}
+use Rattle.report_npy.specs.Header.{shape_of, header_of, preamble_of}
 use Rattle.report.specs.Input.{most_reported, preamble_length, shape_fine, values_of, report_number}
 use Rattle.report.specs.Stream.{Streamed}
 use Rattle.report_head.specs.declared.Feed.{Feed}
@@ -49,9 +48,9 @@ byte_taken byte (state (come.Text size have) held kept flux) =
     state (pick (ltb (have + 1) size) (come.Text size (have + 1)) (behind_text (header_of (take size held')))) held' kept flux
 byte_taken byte (state (come.Rows rows bins t have fine) held kept flux) =
     let held' = set held have byte in
-    pick (eqb t rows) (state (come.Refused 2) held kept flux)
+    pick (eqb t rows) (state (come.Refused WrongLength) held kept flux)
     (pick (ltb (have + 1) (bins * 4)) (state (come.Rows rows bins t (have + 1) fine) held' kept flux) (row_taken rows bins t fine held' kept flux))
-byte_taken byte (state (come.Refused number) held kept flux) = state (come.Refused number) held kept flux
+byte_taken byte (state (come.Refused refusal) held kept flux) = state (come.Refused refusal) held kept flux
 
 -- bytes one after the other
 unfoldable pub bytes_taken : List ℕ → State → State
@@ -64,14 +63,14 @@ unfoldable pub reading_of : Feed → Reading
 reading_of (come.First have) = record { number = malformed; rows = 0 }
 reading_of (come.Text size have) = record { number = malformed; rows = 0 }
 reading_of (come.Rows rows bins t have fine) = record { number = lowest true (eqb t rows) true fine; rows = rows }
-reading_of (come.Refused number) = record { number = number; rows = 0 }
+reading_of (come.Refused refusal) = record { number = number refusal; rows = 0 }
 
 -- whether what is told is decided before the input ends: it is once the input is refused
 unfoldable pub is_decided : Feed → Bool
 is_decided (come.First have) = false
 is_decided (come.Text size have) = false
 is_decided (come.Rows rows bins t have fine) = false
-is_decided (come.Refused number) = true
+is_decided (come.Refused refusal) = true
 
 -- ---- what has to be there for a byte to be taken
 
@@ -88,7 +87,7 @@ unfoldable pub PartWithin : Feed → (kept : List Float) → Type 0
 PartWithin (come.First have) kept = (have < preamble_length) × (every magnitude_fine kept ≡ true)
 PartWithin (come.Text size have) kept = (have < size) × (size ≤ most_text) × (every magnitude_fine kept ≡ true)
 PartWithin (come.Rows rows bins t have fine) kept = RowsWithin rows bins t have fine kept
-PartWithin (come.Refused number) kept = Unit {0}
+PartWithin (come.Refused refusal) kept = Unit {0}
 
 -- there is room, and what is coming is not yet whole
 pub record FeedReady (feed : Feed) (held : List ℕ) (kept flux : List Float) : Type 0 where
@@ -108,7 +107,7 @@ pub record InFirst (input : List ℕ) (have : ℕ) (held : List ℕ) (was flux :
 pub record InText (input : List ℕ) (size have : ℕ) (held : List ℕ) (was flux : List Float) : Type 0 where
   pub first : List ℕ
   pub first_is : length first ≡ preamble_length
-  pub stated_is : preamble_of first ≡ preamble.Length size
+  pub stated_is : preamble_of first ≡ Some size
   pub input_is : input ≡ first ++ take have held
   pub flux_is : flux ≡ was
 
@@ -118,8 +117,8 @@ pub record InRows (input : List ℕ) (rows bins t have : ℕ) (fine : Bool) (hel
   pub text : List ℕ
   pub body : List ℕ
   pub first_is : length first ≡ preamble_length
-  pub stated_is : preamble_of first ≡ preamble.Length (length text)
-  pub header_is : header_of text ≡ header.Shape rows bins
+  pub stated_is : preamble_of first ≡ Some (length text)
+  pub header_is : header_of text ≡ Some (shape_of rows bins)
   pub streamed : Streamed body bins t fine (take (2 * bins) kept) was flux
   pub input_is : input ≡ first ++ (text ++ (body ++ take have held))
 
@@ -133,7 +132,7 @@ unfoldable pub Parts : (input : List ℕ) → Feed → (held : List ℕ) → (ke
 Parts input (come.First have) held kept was flux = InFirst input have held was flux
 Parts input (come.Text size have) held kept was flux = InText input size have held was flux
 Parts input (come.Rows rows bins t have fine) held kept was flux = InRows input rows bins t have fine held kept was flux
-Parts input (come.Refused number) held kept was flux = InRefused input number
+Parts input (come.Refused refusal) held kept was flux = InRefused input (number refusal)
 
 -- this input has come so far
 pub record Fed (input : List ℕ) (feed : Feed) (held : List ℕ) (kept was flux : List Float) : Type 0 where
@@ -164,8 +163,8 @@ pub record InputFound (input : List ℕ) (rows : ℕ) (was flux : List Float) : 
   pub bins : ℕ
   pub input_is : input ≡ first ++ (text ++ body)
   pub first_is : length first ≡ preamble_length
-  pub stated_is : preamble_of first ≡ preamble.Length (length text)
-  pub header_is : header_of text ≡ header.Shape rows bins
+  pub stated_is : preamble_of first ≡ Some (length text)
+  pub header_is : header_of text ≡ Some (shape_of rows bins)
   pub rows_fit : rows ≤ most_reported
   pub bins_fit : bins ≤ most_bins
   pub length_is : length body ≡ rows * bins * 4

@@ -5,13 +5,15 @@
 // report_read calls them.
 #![tactic(auto)]
 
-ghost use Rattle.std.specs.Prelude.{◌∷◌, []};
+ghost use Rattle.std.specs.Prelude.{◌≡◌, ◌∷◌, []};
+ghost use Rattle.numbers.specs.Refusals.{number};
 ghost use Rattle.report_feed.specs.Feeds.{FeedReady, Step, Begins, Decides, Closes};
 
-use numbers::{MALFORMED, WRONG_LENGTH};
+use numbers::Refusal;
 use report_head::{Feed, take_first, take_text};
 
-// The number of an input, and how many rows it has where that is 0.
+// The number of an input, and how many rows it has where that is 0. Kept as a struct, and no Result: the promise tells a header's rows beside a number
+// that refuses its data too (`reading_of`).
 #[derive(Clone, Copy)]
 pub struct Reading {
     pub number: u32,
@@ -42,9 +44,7 @@ fn take_data(
         result held.new kept.new flux.new }
 {
     if t == rows {
-        return Feed::Refused {
-            number: WRONG_LENGTH,
-        };
+        return Feed::Refused(Refusal::WrongLength);
     }
     held[have] = byte;
     let come = have + 1;
@@ -59,7 +59,7 @@ fn take_data(
         };
     }
     let two = 2 * bins;
-    let still = report::stream::take_row(&held[0..width], bins, t, fine, &mut kept[0..two], flux);
+    let still = report::stream::take_row(&held[..width], bins, t, fine, &mut kept[..two], flux);
     let next = t + 1;
     Feed::Rows {
         rows,
@@ -86,7 +86,7 @@ fn take_byte(byte: u8, feed: Feed, held: &mut [u8], kept: &mut [f32], flux: &mut
             have,
             fine,
         } => take_data(byte, rows, bins, t, have, fine, held, kept, flux),
-        Feed::Refused { number } => Feed::Refused { number },
+        Feed::Refused(refusal) => Feed::Refused(refusal),
     }
 }
 
@@ -103,10 +103,8 @@ pub fn take_bytes(
         result held.new kept.new flux.new }
 {
     let mut come = feed;
-    let mut i: usize = 0;
-    while i < bytes.len() {
-        come = take_byte(bytes[i], come, held, kept, flux);
-        i += 1;
+    for &byte in bytes {
+        come = take_byte(byte, come, held, kept, flux);
     }
     come
 }
@@ -116,16 +114,10 @@ pub fn decided(feed: Feed) -> bool
     ensures { Decides feed result }
 {
     match feed {
-        Feed::First { have: _ } => false,
-        Feed::Text { size: _, have: _ } => false,
-        Feed::Rows {
-            rows: _,
-            bins: _,
-            t: _,
-            have: _,
-            fine: _,
-        } => false,
-        Feed::Refused { number: _ } => true,
+        Feed::First { .. } => false,
+        Feed::Text { .. } => false,
+        Feed::Rows { .. } => false,
+        Feed::Refused(_) => true,
     }
 }
 
@@ -134,24 +126,23 @@ pub fn closed(feed: Feed) -> Reading
     ensures { Closes feed result }
 {
     match feed {
-        Feed::First { have: _ } => Reading {
-            number: MALFORMED,
-            rows: 0,
-        },
-        Feed::Text { size: _, have: _ } => Reading {
-            number: MALFORMED,
-            rows: 0,
-        },
-        Feed::Rows {
-            rows,
-            bins: _,
-            t,
-            have: _,
-            fine,
-        } => {
-            let number = report::number_of(true, t == rows, fine);
+        Feed::First { .. } => refused(Refusal::Malformed),
+        Feed::Text { .. } => refused(Refusal::Malformed),
+        Feed::Rows { rows, t, fine, .. } => {
+            let refusal = report::refusal_of(true, t == rows, fine);
+            let number = numbers::number_of(&refusal);
             Reading { number, rows }
         }
-        Feed::Refused { number } => Reading { number, rows: 0 },
+        Feed::Refused(refusal) => refused(refusal),
+    }
+}
+
+// Of an input that was refused as it came, or ended within its head, no rows are told.
+fn refused(refusal: Refusal) -> Reading
+    ensures { result ≡ record { number = number refusal; rows = 0 } }
+{
+    Reading {
+        number: refusal.number(),
+        rows: 0,
     }
 }

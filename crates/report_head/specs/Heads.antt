@@ -1,11 +1,8 @@
 -- Document 01, "The reporting program": the head of an input that comes byte by byte, its first ten bytes and the header's text.
-use Rattle.std.specs.Prelude.{ℕ, ◌+◌, ◌≤◌, ◌≡◌, true, List, ltb, eqb, take, set}
-use Rattle.numbers.specs.Refusals.{malformed}
+use Rattle.std.specs.Prelude.{ℕ, ◌+◌, ◌≤◌, ◌≡◌, true, List, Option, Some, None, ltb, eqb, take, set}
+use Rattle.numbers.specs.declared.Refusal.TheVariants.{Malformed, OutOfBounds}
 use Rattle.numbers.specs.Rounded.{pick}
-use Rattle.report_npy.specs.declared.Header.{Header}
-use Rattle.report_npy.specs.declared.Header.TheVariants as header
-use Rattle.report_npy.specs.declared.Preamble.{Preamble}
-use Rattle.report_npy.specs.declared.Preamble.TheVariants as preamble
+use Rattle.report_npy.specs.declared.Shape.{Shape}
 use Rattle.report_npy.specs.Header.{header_of, preamble_of}
 use Rattle.report.specs.Input.{preamble_length, shape_fine}
 use Rattle.report_head.specs.declared.Feed.{Feed}
@@ -18,14 +15,14 @@ most_text = 65535
 -- ---- what comes next
 
 -- behind the ten bytes: a header's text, as long as they say, and one of no bytes is malformed
-unfoldable pub behind_first : Preamble → Feed
-behind_first preamble.Malformed = come.Refused malformed
-behind_first (preamble.Length size) = pick (eqb size 0) (come.Refused malformed) (come.Text size 0)
+unfoldable pub behind_first : Option ℕ → Feed
+behind_first None = come.Refused Malformed
+behind_first (Some size) = pick (eqb size 0) (come.Refused Malformed) (come.Text size 0)
 
 -- behind a header's text: the rows of its shape, where that is within the bounds
-unfoldable pub behind_text : Header → Feed
-behind_text header.Malformed = come.Refused malformed
-behind_text (header.Shape rows bins) = pick (shape_fine rows bins) (come.Rows rows bins 0 0 true) (come.Refused 1)
+unfoldable pub behind_text : Option Shape → Feed
+behind_text None = come.Refused Malformed
+behind_text (Some shape) = pick (shape_fine shape.rows shape.bins) (come.Rows shape.rows shape.bins 0 0 true) (come.Refused OutOfBounds)
 
 -- ---- one byte more
 
@@ -33,7 +30,7 @@ behind_text (header.Shape rows bins) = pick (shape_fine rows bins) (come.Rows ro
 pub record FirstTaken (byte have : ℕ) (held : List ℕ) (feed' : Feed) (held' : List ℕ) : Type 0 where
   pub held_is : held' ≡ set held have byte
   pub feed_is : feed' ≡ pick (ltb (have + 1) preamble_length) (come.First (have + 1)) (behind_first (preamble_of (take preamble_length held')))
-  pub size_fits : preamble_length ≤ have + 1 → (size : ℕ) → preamble_of (take preamble_length held') ≡ preamble.Length size → size ≤ most_text
+  pub size_fits : preamble_length ≤ have + 1 → (size : ℕ) → preamble_of (take preamble_length held') ≡ Some size → size ≤ most_text
 
 -- one byte more of a header's text: it is held, and with the last the text says what comes next
 pub record TextTaken (byte size have : ℕ) (held : List ℕ) (feed' : Feed) (held' : List ℕ) : Type 0 where

@@ -3,13 +3,13 @@
 // Document 01, The reporting program. Inner calls all: report_feed calls them, which takes the rows too.
 #![tactic(auto)]
 
-ghost use Rattle.std.specs.Prelude.{◌≡◌, ℕ, ◌≤◌, ◌<◌, length};
+ghost use Rattle.std.specs.Prelude.{◌≡◌, ℕ, ◌≤◌, ◌<◌, Some, length};
 ghost use Rattle.report_npy.specs.Header.{preamble_of};
 ghost use Rattle.report.specs.Input.{preamble_length};
 ghost use Rattle.report_head.specs.Heads.{most_text, behind_first, behind_text, FirstTaken, TextTaken};
 
-use numbers::{MALFORMED, OUT_OF_BOUNDS};
-use report_npy::{Header, Preamble};
+use numbers::Refusal;
+use report_npy::Shape;
 
 // the bytes before a header's text
 const FIRST: usize = 10;
@@ -32,44 +32,40 @@ pub enum Feed {
         have: usize,
         fine: bool,
     },
-    Refused {
-        number: u32,
-    },
+    Refused(Refusal),
 }
 
 // What the ten bytes say: a length of two bytes is at most 65,535.
-fn stated(bytes: &[u8]) -> Preamble
-    ensures { (result ≡ preamble_of bytes.now) × ((size : ℕ) → result ≡ Preamble.Length size → size ≤ most_text) }
+fn stated(bytes: &[u8]) -> Option<usize>
+    ensures { (result ≡ preamble_of bytes.now) × ((size : ℕ) → result ≡ Some size → size ≤ most_text) }
 {
     report_npy::read_preamble(bytes)
 }
 
-// What comes behind the ten bytes, by what they say. A header's text of no bytes is malformed.
-fn behind_first(preamble: Preamble) -> Feed
-    ensures { result ≡ behind_first preamble }
+// What comes behind the ten bytes, by the length that they say. A header's text of no bytes is malformed.
+fn behind_first(stated: Option<usize>) -> Feed
+    ensures { result ≡ behind_first stated }
 {
-    match preamble {
-        Preamble::Malformed => Feed::Refused { number: MALFORMED },
-        Preamble::Length(size) => {
+    match stated {
+        None => Feed::Refused(Refusal::Malformed),
+        Some(size) => {
             if size == 0 {
-                return Feed::Refused { number: MALFORMED };
+                return Feed::Refused(Refusal::Malformed);
             }
             Feed::Text { size, have: 0 }
         }
     }
 }
 
-// What comes behind a header's text, by what it says.
-fn behind_text(header: Header) -> Feed
-    ensures { result ≡ behind_text header }
+// What comes behind a header's text, by the shape that it says.
+fn behind_text(shape: Option<Shape>) -> Feed
+    ensures { result ≡ behind_text shape }
 {
-    match header {
-        Header::Malformed => Feed::Refused { number: MALFORMED },
-        Header::Shape(rows, bins) => {
+    match shape {
+        None => Feed::Refused(Refusal::Malformed),
+        Some(Shape { rows, bins }) => {
             if !report::shape_fine(rows, bins) {
-                return Feed::Refused {
-                    number: OUT_OF_BOUNDS,
-                };
+                return Feed::Refused(Refusal::OutOfBounds);
             }
             Feed::Rows {
                 rows: rows as usize,
@@ -92,7 +88,7 @@ pub fn take_first(byte: u8, have: usize, held: &mut [u8]) -> Feed
     if come < FIRST {
         return Feed::First { have: come };
     }
-    behind_first(stated(&held[0..FIRST]))
+    behind_first(stated(&held[..FIRST]))
 }
 
 // Inner: takes one byte of a header's text.
@@ -105,5 +101,5 @@ pub fn take_text(byte: u8, size: usize, have: usize, held: &mut [u8]) -> Feed
     if come < size {
         return Feed::Text { size, have: come };
     }
-    behind_text(report_npy::read_header(&held[0..size]))
+    behind_text(report_npy::read_header(&held[..size]))
 }

@@ -2,8 +2,7 @@
 use mathlib.Core.Path.{◌≡◌, refl, sym, ap, ◌∙◌}
 use mathlib.Core.Bool.{true}
 use mathlib.Core.List.{List}
-use Prim.Native.Nat.{ℕ, zero, suc, ◌-◌, ◌≤◌}
-use native.Mathlib.Nat.{sub-zero}
+use Prim.Native.Nat.{ℕ, zero, suc, ◌≤◌}
 use native.Mathlib.Omega.{arith}
 use lib.ListN.{length, take, length-take}
 use lib.Ieee.{Float}
@@ -25,8 +24,8 @@ use Rattle.report_io.specs.Answers.{text_of, Putable, TextAnswered}
 
 -- the part of the flux that an analysis is lent
 pub lent_rows : (reading : Reading) (flux : List Float) → Putable reading flux
-    → (length (take (reading.rows - 0) flux) ≤ most_reported) × (every value_fine (take (reading.rows - 0) flux) ≡ true)
-lent_rows reading flux p = (omega (arith, length-take (reading.rows - 0) flux, p.rows_fit), rw (sub-zero reading.rows) p.fine)
+    → (length (take reading.rows flux) ≤ most_reported) × (every value_fine (take reading.rows flux) ≡ true)
+lent_rows reading flux p = (omega (arith, length-take reading.rows flux, p.rows_fit), p.fine)
 
 pub put_refused : (reading : Reading) (flux : List Float) {bytes bytes' : List ℕ} {end : ℕ} → (reading.number ≡ 0 → ⊥)
     → PutWithin bytes 0 (refusal_text reading.number) 19 end bytes' → PutWithin bytes 0 (text_of reading flux) text_room end bytes'
@@ -34,10 +33,10 @@ unfolding text_of
 put_refused reading flux some p = put_as (sym (refused_keeps reading.number _ _ some)) (omega arith) p
 
 pub put_reported : (reading : Reading) (flux : List Float) {bytes bytes' : List ℕ} {end : ℕ} → reading.number ≡ 0
-    → PutWithin bytes 0 (report_of (take (reading.rows - 0) flux)) text_room end bytes' → PutWithin bytes 0 (text_of reading flux) text_room end bytes'
+    → PutWithin bytes 0 (report_of (take reading.rows flux)) text_room end bytes' → PutWithin bytes 0 (text_of reading flux) text_room end bytes'
 unfolding text_of
 put_reported reading flux z p =
-    put_as (ap (λ (k : ℕ). report_of (take k flux)) (sub-zero reading.rows) ∙ sym (passed_does reading.number _ _ z)) (omega arith) p
+    put_as (sym (passed_does reading.number _ _ z)) (omega arith) p
 
 -- ---- what is read
 

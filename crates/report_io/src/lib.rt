@@ -37,8 +37,7 @@ fn put_answer(reading: Reading, flux: &[f64], bytes: &mut [u8]) -> usize
     if reading.number != 0 {
         return report_text::put_refusal(bytes, reading.number);
     }
-    let rows = reading.rows;
-    report_answer::put_analysis(&flux[0..rows], bytes)
+    report_answer::put_analysis(&flux[..reading.rows], bytes)
 }
 
 // Reads standard input, to its end or until it is refused, and puts what is to be written of it.
@@ -56,7 +55,7 @@ pub fn report(rt: &(impl Input + Print + Eprint)) {
     let mut flux = curve_room();
     let mut text = text_room();
     let end = answer(rt, &mut flux, &mut text);
-    if rt.write_all(&text[0..end]).is_err() {
+    if rt.write_all(&text[..end]).is_err() {
         let _ = eprintln!(rt; "report: the answer was not written whole");
     }
 }

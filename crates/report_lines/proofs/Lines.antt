@@ -1,13 +1,12 @@
 -- The lines of an answer: the lags of its three candidates, and what is put of its lists. Assumes nothing.
 use mathlib.Core.Path.{◌≡◌, refl}
 use mathlib.Core.List.{List, [], ◌∷◌}
-use Prim.Native.Nat.{ℕ, ◌-◌}
-use native.Mathlib.Nat.{sub-zero}
+use Prim.Native.Nat.{ℕ}
 use native.Mathlib.Omega.{arith}
 use lib.ListN.{length, get_or, take, length-take}
 use Rattle.stability.specs.Answers.{agreeing_in, windows_in}
 use Rattle.tempo.specs.declared.Candidate.{Candidate}
-use Rattle.track.specs.declared.Analysis.{Analysis}
+use Rattle.track.specs.Analyses.{AnalysisSaid}
 use Rattle.report_text.specs.Text.{report_text, report_room, PutWithin}
 use Rattle.report_text.proofs.Puts.{put_as}
 use Rattle.report_lines.specs.declared.Counts.{Counts}
@@ -20,21 +19,21 @@ three_lags (a ∷ b ∷ []) z e = absurd (omega arith)
 three_lags (a ∷ b ∷ c ∷ []) z e = refl
 three_lags (a ∷ b ∷ c ∷ d ∷ cs) z e = absurd (omega arith)
 
-pub lines_put : (a : Analysis) (onsets beats downbeats lags : List ℕ) (share : Counts) {bytes bytes' : List ℕ} {end : ℕ} → lags ≡ candidate_lags a.candidates
+pub lines_put : (a : AnalysisSaid) (onsets beats downbeats lags : List ℕ) (share : Counts) {bytes bytes' : List ℕ} {end : ℕ} → lags ≡ candidate_lags a.candidates
     → share ≡ record { agreeing = agreeing_in a.stability; windows = windows_in a.stability } → Listable a onsets beats downbeats
     → PutWithin bytes 0
-    (report_text (take (a.onsets - 0) onsets) (take (a.count - 0) lags) (take (a.beats - 0) beats) (take (a.downbeats - 0) downbeats)
+    (report_text (take a.onsets onsets) (take a.count lags) (take a.beats beats) (take a.downbeats downbeats)
     share.agreeing share.windows)
-    (report_room (length (take (a.onsets - 0) onsets)) (length (take (a.beats - 0) beats)) (length (take (a.downbeats - 0) downbeats)))
+    (report_room (length (take a.onsets onsets)) (length (take a.beats beats)) (length (take a.downbeats downbeats)))
     end bytes'
     → PutWithin bytes 0 (lines_of a onsets beats downbeats) text_room end bytes'
 lines_put a onsets beats downbeats lags share l s q p =
-    put_as (rw (sub-zero a.onsets, sub-zero a.count, sub-zero a.beats, sub-zero a.downbeats, l, s) refl)
+    put_as (rw (l, s) refl)
     (omega (
       arith,
-      length-take (a.onsets - 0) onsets,
-      length-take (a.beats - 0) beats,
-      length-take (a.downbeats - 0) downbeats,
+      length-take a.onsets onsets,
+      length-take a.beats beats,
+      length-take a.downbeats downbeats,
       q.onset_lists,
       q.beat_lists,
       q.downbeat_lists,

@@ -4,7 +4,7 @@ use Rattle.std.specs.Prelude.{ℕ, ◌≤◌, ◌<◌, ◌≡◌, List, map, len
 use Rattle.numbers.specs.Limits.{most_period}
 use Rattle.stability.specs.Answers.{agreeing_in, windows_in}
 use Rattle.tempo.specs.declared.Candidate.{Candidate}
-use Rattle.track.specs.declared.Analysis.{Analysis}
+use Rattle.track.specs.Analyses.{AnalysisSaid}
 use Rattle.report.specs.Input.{most_reported}
 use Rattle.report_text.specs.Text.{report_text, report_room, most_candidates}
 
@@ -17,7 +17,7 @@ abbrev pub text_room : ℕ
 text_room = report_room most_reported most_reported most_reported
 
 -- the lines of an answer whose lists the slices hold first
-abbrev pub lines_of : Analysis → (onsets beats downbeats : List ℕ) → List ℕ
+abbrev pub lines_of : AnalysisSaid → (onsets beats downbeats : List ℕ) → List ℕ
 lines_of a onsets beats downbeats =
     report_text (take a.onsets onsets) (take a.count (candidate_lags a.candidates)) (take a.beats beats) (take a.downbeats downbeats)
     (agreeing_in a.stability) (windows_in a.stability)
@@ -27,7 +27,7 @@ abbrev pub LagsFit : List Candidate → Type 0
 LagsFit candidates = (i : ℕ) (z : Candidate) → i < most_candidates → (get_or candidates i z).lag ≤ most_period
 
 -- the slices have as many entries as the answer says, and each number is one that the text has room for
-pub record Listable (a : Analysis) (onsets beats downbeats : List ℕ) : Type 0 where
+pub record Listable (a : AnalysisSaid) (onsets beats downbeats : List ℕ) : Type 0 where
   pub heard : a.onsets ≤ length onsets
   pub laid : a.beats ≤ length beats
   pub barred : a.downbeats ≤ length downbeats

@@ -3,8 +3,9 @@
 // Document 01, The reporting program: "Lines list frames or lags with one space between, or `none`, and stability as agreeing/windows." Inner calls all.
 #![tactic(auto)]
 
-ghost use Rattle.std.specs.Prelude.{◌≡◌, ◌≤◌, length};
+ghost use Rattle.std.specs.Prelude.{◌≡◌, ◌≤◌, Ok, length};
 ghost use Rattle.stability.specs.Answers.{agreeing_in, windows_in};
+ghost use Rattle.track.specs.Analyses.{analysis_said};
 ghost use Rattle.report_text.specs.Text.{PutWithin};
 ghost use Rattle.report_lines.specs.Lines.{text_room, candidate_lags, lines_of, LagsFit, Listable};
 
@@ -41,9 +42,9 @@ fn counts_of(stability: Stability) -> Counts
             windows: 0,
         },
         Stability::Share {
-            fraction: _,
             agreeing,
             windows,
+            ..
         } => Counts {
             agreeing: agreeing as u32,
             windows: windows as u32,
@@ -59,25 +60,19 @@ pub fn put_lines(
     downbeats: &[u32],
     bytes: &mut [u8],
 ) -> usize
-    requires { Listable answer onsets.now beats.now downbeats.now × (text_room ≤ length bytes.old) }
+    requires { Listable (analysis_said (Ok answer)) onsets.now beats.now downbeats.now × (text_room ≤ length bytes.old) }
     ensures { PutWithin
-        bytes.old 0 (lines_of answer onsets.now beats.now downbeats.now) text_room
+        bytes.old 0 (lines_of (analysis_said (Ok answer)) onsets.now beats.now downbeats.now) text_room
         result bytes.new }
 {
-    let candidates = answer.candidates;
-    let stability = answer.stability;
-    let heard = answer.onsets;
-    let found = answer.count;
-    let laid = answer.beats;
-    let barred = answer.downbeats;
-    let lags = lags_of(candidates);
-    let counts = counts_of(stability);
+    let lags = lags_of(answer.candidates);
+    let counts = counts_of(answer.stability);
     put_report(
         bytes,
-        &onsets[0..heard],
-        &lags[0..found],
-        &beats[0..laid],
-        &downbeats[0..barred],
+        &onsets[..answer.onsets],
+        &lags[..answer.count],
+        &beats[..answer.beats],
+        &downbeats[..answer.downbeats],
         counts.agreeing,
         counts.windows,
     )

@@ -6,28 +6,28 @@ use Prim.Native.Nat.{ℕ, zero, suc, ◌+◌}
 use native.Mathlib.Omega.{arith}
 use lib.Dec.{eqb}
 use lib.ListN.{length, drop, replicate}
-use lib.Seq.{drop-drop, drop-append_seam}
+use lib.Seq.{drop-drop}
 use borrow.Author.Tests.{eqb-true}
 use Rattle.numbers.specs.Rounded.{pick}
 use Rattle.numbers.proofs.Tests.{and_left, and_right, and_both, and-held, and_failed, true_not_false, pick_true, pick-false}
-use Rattle.report_npy.specs.declared.Header.{Header}
-use Rattle.report_npy.specs.declared.Header.TheVariants.{Malformed, Shape}
+use Rattle.std.specs.Prelude.{Option, Some, None}
+use Rattle.report_npy.specs.declared.Shape.{Shape}
 use Rattle.texts.specs.Texts.{starts}
 use Rattle.texts.specs.Decimals.{decimal, leading, behind, plain, number_from}
 use Rattle.texts.proofs.Texts.{starts_split, starts_own}
 use Rattle.texts.proofs.Decimals.{decimal-is, decimal-plain}
 use Rattle.texts.proofs.Readings.{leading_stop, leading-decimal, behind-decimal, number_split}
-use Rattle.report_npy.specs.Header.{front, comma, closing, header_text, held_number, ended, columns_of, rows_of, header_of}
+use Rattle.report_npy.specs.Header.{front, comma, closing, header_text, held_number, shape_of, ended, columns_of, rows_of, header_of}
 
 -- ---- the reader's answers, test by test
 
 module _ (n : ℕ) (text : List ℕ) where
   columns-shape : plain (leading text) ≡ true → starts closing (behind text) ≡ true → ended (drop 4 (behind text)) ≡ true
-      → columns_of n text ≡ Shape (held_number n) (held_number (number_from 0 (leading text)))
+      → columns_of n text ≡ Some (shape_of (held_number n) (held_number (number_from 0 (leading text))))
   unfolding columns_of
   columns-shape a b c = pick_true _ _ _ (and_both _ _ a (and_both _ _ b c))
 
-  columns-malformed : plain (leading text) && (starts closing (behind text) && ended (drop 4 (behind text))) ≡ false → columns_of n text ≡ Malformed
+  columns-malformed : plain (leading text) && (starts closing (behind text) && ended (drop 4 (behind text))) ≡ false → columns_of n text ≡ None
   unfolding columns_of
   columns-malformed e = pick-false _ _ _ e
 
@@ -37,7 +37,7 @@ module _ (text : List ℕ) where
   unfolding rows_of
   rows-columns a b = pick_true _ _ _ (and_both _ _ a b)
 
-  rows-malformed : plain (leading text) && starts comma (behind text) ≡ false → rows_of text ≡ Malformed
+  rows-malformed : plain (leading text) && starts comma (behind text) ≡ false → rows_of text ≡ None
   unfolding rows_of
   rows-malformed e = pick-false _ _ _ e
 
@@ -45,7 +45,7 @@ module _ (text : List ℕ) where
   unfolding header_of
   header_rows e = pick_true _ _ _ e
 
-  pub header_malformed : starts front text ≡ false → header_of text ≡ Malformed
+  pub header_malformed : starts front text ≡ false → header_of text ≡ None
   unfolding header_of
   header_malformed e = pick-false _ _ _ e
 
@@ -61,11 +61,11 @@ module _ (text : List ℕ) (at end : ℕ) (e : end ≡ at + length (leading (dro
   behind_more k = ap (drop k) behind-at ∙ drop-drop k end text
 
 module _ (text : List ℕ) (s : starts front text ≡ true) where
-  pub rows_at_plain : plain (leading (drop 51 text)) ≡ false → header_of text ≡ Malformed
+  pub rows_at_plain : plain (leading (drop 51 text)) ≡ false → header_of text ≡ None
   rows_at_plain p = header_rows text s ∙ rows-malformed (drop 51 text) (sym (and_failed _ _ p) ∙ p)
 
   module _ (end : ℕ) (e : end ≡ 51 + length (leading (drop 51 text))) (p : plain (leading (drop 51 text)) ≡ true) where
-    pub rows_at_comma : starts comma (drop end text) ≡ false → header_of text ≡ Malformed
+    pub rows_at_comma : starts comma (drop end text) ≡ false → header_of text ≡ None
     rows_at_comma h = header_rows text s ∙ rows-malformed (drop 51 text) (sym (and-held _ _ p) ∙ ap (starts comma) (behind-at text 51 end e) ∙ h)
 
     pub rows_at : starts comma (drop end text) ≡ true → header_of text ≡ columns_of (number_from 0 (leading (drop 51 text))) (drop (end + 2) text)
@@ -75,11 +75,11 @@ module _ (text : List ℕ) (s : starts front text ≡ true) where
         ∙ ap (columns_of (number_from 0 (leading (drop 51 text)))) (behind_more text 51 end e 2)
 
 module _ (n : ℕ) (text : List ℕ) (at : ℕ) where
-  pub columns_at_plain : plain (leading (drop at text)) ≡ false → columns_of n (drop at text) ≡ Malformed
+  pub columns_at_plain : plain (leading (drop at text)) ≡ false → columns_of n (drop at text) ≡ None
   columns_at_plain p = columns-malformed n (drop at text) (sym (and_failed _ _ p) ∙ p)
 
   module _ (end : ℕ) (e : end ≡ at + length (leading (drop at text))) (p : plain (leading (drop at text)) ≡ true) where
-    pub columns_at_closing : starts closing (drop end text) ≡ false → columns_of n (drop at text) ≡ Malformed
+    pub columns_at_closing : starts closing (drop end text) ≡ false → columns_of n (drop at text) ≡ None
     columns_at_closing h =
         let k : starts closing (behind (drop at text)) ≡ false = ap (starts closing) (behind-at text at end e) ∙ h in
         columns-malformed n (drop at text) (sym (and-held _ _ p) ∙ sym (and_failed _ _ k) ∙ k)
@@ -88,12 +88,12 @@ module _ (n : ℕ) (text : List ℕ) (at : ℕ) where
       closed : starts closing (behind (drop at text)) ≡ true
       closed = ap (starts closing) (behind-at text at end e) ∙ h
 
-      pub columns_at_end : ended (drop (end + 4) text) ≡ false → columns_of n (drop at text) ≡ Malformed
+      pub columns_at_end : ended (drop (end + 4) text) ≡ false → columns_of n (drop at text) ≡ None
       columns_at_end k =
           columns-malformed n (drop at text) (sym (and-held _ _ p) ∙ sym (and-held _ _ closed) ∙ ap ended (behind_more text at end e 4) ∙ k)
 
-      pub columns-at : ended (drop (end + 4) text) ≡ true → columns_of n (drop at text) ≡ Shape (held_number n)
-          (held_number (number_from 0 (leading (drop at text))))
+      pub columns-at : ended (drop (end + 4) text) ≡ true → columns_of n (drop at text) ≡ Some (shape_of (held_number n)
+          (held_number (number_from 0 (leading (drop at text)))))
       columns-at k = columns-shape n (drop at text) p closed (ap ended (behind_more text at end e 4) ∙ k)
 
 -- ---- what is written is read
@@ -103,7 +103,7 @@ unfolding ended
 ended_own zero = refl
 ended_own (suc k) = ended_own k
 
-columns_read : (n b k : ℕ) → columns_of n (decimal b ++ (closing ++ (replicate k 32 ++ (10 ∷ [])))) ≡ Shape (held_number n) (held_number b)
+columns_read : (n b k : ℕ) → columns_of n (decimal b ++ (closing ++ (replicate k 32 ++ (10 ∷ [])))) ≡ Some (shape_of (held_number n) (held_number b))
 columns_read n b k =
     let t : List ℕ = replicate k 32 ++ (10 ∷ []) in
     let first = leading-decimal b (closing ++ t) (leading_stop 41 (44 ∷ 32 ∷ 125 ∷ t) refl) in
@@ -112,10 +112,10 @@ columns_read n b k =
     (ap plain first ∙ decimal-plain b)
     (ap (starts closing) rest ∙ starts_own closing t)
     (ap (λ (r : List ℕ). ended (drop 4 r)) rest ∙ ended_own k)
-    ∙ ap (λ (ds : List ℕ). Shape (held_number n) (held_number (number_from 0 ds))) first
-    ∙ ap (λ (m : ℕ). Shape (held_number n) (held_number m)) (decimal-is b)
+    ∙ ap (λ (ds : List ℕ). Some (shape_of (held_number n) (held_number (number_from 0 ds)))) first
+    ∙ ap (λ (m : ℕ). Some (shape_of (held_number n) (held_number m))) (decimal-is b)
 
-rows_read : (n b k : ℕ) → rows_of (decimal n ++ (comma ++ (decimal b ++ (closing ++ (replicate k 32 ++ (10 ∷ [])))))) ≡ Shape (held_number n) (held_number b)
+rows_read : (n b k : ℕ) → rows_of (decimal n ++ (comma ++ (decimal b ++ (closing ++ (replicate k 32 ++ (10 ∷ [])))))) ≡ Some (shape_of (held_number n) (held_number b))
 rows_read n b k =
     let t : List ℕ = decimal b ++ (closing ++ (replicate k 32 ++ (10 ∷ []))) in
     let first = leading-decimal n (comma ++ t) (leading_stop 44 (32 ∷ t) refl) in
@@ -127,7 +127,7 @@ rows_read n b k =
     ∙ columns_read n b k
 
 -- The header of n rows and b bins is read as that shape, whatever n, b and the number of spaces.
-pub header_read : (n b k : ℕ) → header_of (header_text n b k) ≡ Shape (held_number n) (held_number b)
+pub header_read : (n b k : ℕ) → header_of (header_text n b k) ≡ Some (shape_of (held_number n) (held_number b))
 unfolding header_text
 header_read n b k =
     let t : List ℕ = decimal n ++ (comma ++ (decimal b ++ (closing ++ (replicate k 32 ++ (10 ∷ []))))) in
@@ -156,15 +156,18 @@ ended_split (x ∷ xs) e = go (eqb x 32) refl e (ended_split xs)
     )
 
 -- an answer that is a shape passed its test
-shape_passed : (t : Bool) (a : Header) (p q : ℕ) → pick t a Malformed ≡ Shape p q → (t ≡ true) × (a ≡ Shape p q)
+shape_passed : (t : Bool) (a : Option Shape) (p q : ℕ) → pick t a None ≡ Some (shape_of p q) → (t ≡ true) × (a ≡ Some (shape_of p q))
 shape_passed true a p q e = (refl, e)
 shape_passed false a p q e = let z : ◌≡◌ {A = ℕ} 0 1 = cc in absurd (omega arith)
 
-shape-rows : (m n p q : ℕ) → Shape m n ≡ Shape p q → m ≡ p
-shape-rows m n p q e = cc
+same_shape : (m n p q : ℕ) → Some (shape_of m n) ≡ Some (shape_of p q) → shape_of m n ≡ shape_of p q
+same_shape m n p q e = cc
 
-shape-bins : (m n p q : ℕ) → Shape m n ≡ Shape p q → n ≡ q
-shape-bins m n p q e = cc
+shape-rows : (m n p q : ℕ) → Some (shape_of m n) ≡ Some (shape_of p q) → m ≡ p
+shape-rows m n p q e = ap (λ (s : Shape). s.rows) (same_shape m n p q e)
+
+shape-bins : (m n p q : ℕ) → Some (shape_of m n) ≡ Some (shape_of p q) → n ≡ q
+shape-bins m n p q e = ap (λ (s : Shape). s.bins) (same_shape m n p q e)
 
 -- a text that is the header of a shape, which is read as p and q
 pub record HeaderWritten (text : List ℕ) (p q : ℕ) : Type 0 where
@@ -182,11 +185,11 @@ record Columns (n : ℕ) (text : List ℕ) (p q : ℕ) : Type 0 where
   rows-held : p ≡ held_number n
   bins-held : q ≡ held_number bins
 
-columns-written : (n : ℕ) (text : List ℕ) (p q : ℕ) → columns_of n text ≡ Shape p q → Columns n text p q
+columns-written : (n : ℕ) (text : List ℕ) (p q : ℕ) → columns_of n text ≡ Some (shape_of p q) → Columns n text p q
 unfolding columns_of
 columns-written n text p q e =
     let w = shape_passed (plain (leading text) && (starts closing (behind text) && ended (drop 4 (behind text))))
-    (Shape (held_number n) (held_number (number_from 0 (leading text)))) p q e in
+    (Some (shape_of (held_number n) (held_number (number_from 0 (leading text))))) p q e in
     let good = and_left (plain (leading text)) _ w.0 in
     let rest = and_right (plain (leading text)) _ w.0 in
     let shut = starts_split closing (behind text) (and_left (starts closing (behind text)) _ rest) in
@@ -206,7 +209,7 @@ record Rows (text : List ℕ) (p q : ℕ) : Type 0 where
   text_is : text ≡ decimal rows ++ (comma ++ rest)
   columns : Columns rows rest p q
 
-rows_written : (text : List ℕ) (p q : ℕ) → rows_of text ≡ Shape p q → Rows text p q
+rows_written : (text : List ℕ) (p q : ℕ) → rows_of text ≡ Some (shape_of p q) → Rows text p q
 unfolding rows_of
 rows_written text p q e =
     let w = shape_passed (plain (leading text) && starts comma (behind text)) (columns_of (number_from 0 (leading text)) (drop 2 (behind text))) p q e in
@@ -220,7 +223,7 @@ rows_written text p q e =
     }
 
 -- Whatever text is read as a shape is the header of that shape, its numbers held to the most.
-pub header_written : (text : List ℕ) (p q : ℕ) → header_of text ≡ Shape p q → HeaderWritten text p q
+pub header_written : (text : List ℕ) (p q : ℕ) → header_of text ≡ Some (shape_of p q) → HeaderWritten text p q
 unfolding header_of header_text
 header_written text p q e =
     let w = shape_passed (starts front text) (rows_of (drop 51 text)) p q e in

@@ -3,7 +3,7 @@ use mathlib.Core.Path.{◌≡◌, refl, sym, subst, ◌∙◌}
 use mathlib.Core.Bool.{true, false}
 use Prim.Native.Nat.{ℕ, ◌%◌, ◌≤◌, ◌<◌}
 use lib.Dec.{T}
-use lib.Ieee.{Float, nan, inf, fin, binary32, div, is_nan, of_bits, nan_bits}
+use lib.Ieee.{Float, nan, inf, fin, binary32, is_nan, of_bits, nan_bits}
 use lib.Ieee.Bits.{nan_bits_is, nan_bits_above}
 use borrow.Author.Tests.{le-ltb, lt-ltb}
 
@@ -20,6 +20,7 @@ above_is_nan n h = nan_of_is_nan (of_bits binary32 n) (sym (nan_bits_is binary32
 pub no_nan_pattern : (n : ℕ) → n % 0x8000_0000 ≤ 0x7f80_0000 → nan_bits binary32 n ≡ false
 no_nan_pattern n h = nan_bits_above binary32 n ∙ le-ltb _ _ h
 
-pub zero_by_zero : div binary32 (of_bits binary32 0) (of_bits binary32 0) ≡ nan
-unfolding div of_bits
-zero_by_zero = refl
+-- the one that code writes for a NaN
+pub nan_pattern : of_bits binary32 0x7fc0_0000 ≡ nan
+unfolding of_bits
+nan_pattern = refl

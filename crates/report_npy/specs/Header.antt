@@ -1,14 +1,11 @@
 -- Document 01, "The reporting program": the header of a NumPy .npy 1.0 array, "its header text exactly
 -- `{'descr': '<f4', 'fortran_order': False, 'shape': (N, B), }`, then any number of spaces and a line feed that ends the stated header
 -- length, N and B without needless zeros". A text is the list of its bytes.
-use Rattle.std.specs.Prelude.{ℕ, ◌+◌, ◌*◌, min, Bool, false, ◌&&◌, List, [], ◌∷◌, ◌++◌, leb, eqb, length, get_or, drop, replicate}
+use Rattle.std.specs.Prelude.{ℕ, ◌+◌, ◌*◌, min, Bool, false, ◌&&◌, List, [], ◌∷◌, ◌++◌, Option, Some, None, leb, eqb, length, get_or, drop, replicate}
 use Rattle.numbers.specs.Rounded.{pick}
 use Rattle.texts.specs.Texts.{space, line_feed, starts}
 use Rattle.texts.specs.Decimals.{decimal, leading, behind, plain, number_from}
-use Rattle.report_npy.specs.declared.Preamble.{Preamble}
-use Rattle.report_npy.specs.declared.Preamble.TheVariants as preamble
-use Rattle.report_npy.specs.declared.Header.{Header}
-use Rattle.report_npy.specs.declared.Header.TheVariants as header
+use Rattle.report_npy.specs.declared.Shape.{Shape}
 
 -- ---- the text as it is written
 
@@ -41,28 +38,32 @@ most_number = 4294967295
 abbrev pub held_number : ℕ → ℕ
 held_number n = min n most_number
 
+-- the shape of so many rows and bins
+abbrev pub shape_of : (rows bins : ℕ) → Shape
+shape_of rows bins = record { rows = rows; bins = bins }
+
 -- any number of spaces, and a line feed that ends the text
 unfoldable pub ended : List ℕ → Bool
 ended [] = false
 ended (x ∷ xs) = pick (eqb x space) (ended xs) (eqb x line_feed && eqb (length xs) 0)
 
 -- the text from B on, where N is read
-unfoldable pub columns_of : ℕ → List ℕ → Header
+unfoldable pub columns_of : ℕ → List ℕ → Option Shape
 unfolding leading behind plain starts number_from ended
 columns_of n text =
     pick (plain (leading text) && (starts closing (behind text) && ended (drop 4 (behind text))))
-    (header.Shape (held_number n) (held_number (number_from 0 (leading text)))) header.Malformed
+    (Some (shape_of (held_number n) (held_number (number_from 0 (leading text))))) None
 
 -- the text from N on
-unfoldable pub rows_of : List ℕ → Header
+unfoldable pub rows_of : List ℕ → Option Shape
 unfolding leading behind plain starts number_from columns_of
 rows_of text =
-    pick (plain (leading text) && starts comma (behind text)) (columns_of (number_from 0 (leading text)) (drop 2 (behind text))) header.Malformed
+    pick (plain (leading text) && starts comma (behind text)) (columns_of (number_from 0 (leading text)) (drop 2 (behind text))) None
 
--- what a header's text says: its shape, or that it is malformed
-unfoldable pub header_of : List ℕ → Header
+-- what a header's text says: its shape, and none where it is malformed
+unfoldable pub header_of : List ℕ → Option Shape
 unfolding starts rows_of
-header_of text = pick (starts front text) (rows_of (drop 51 text)) header.Malformed
+header_of text = pick (starts front text) (rows_of (drop 51 text)) None
 
 -- ---- what stands before the text
 
@@ -70,8 +71,8 @@ header_of text = pick (starts front text) (rows_of (drop 51 text)) header.Malfor
 abbrev pub magic : List ℕ
 magic = 147 ∷ 78 ∷ 85 ∷ 77 ∷ 80 ∷ 89 ∷ 1 ∷ 0 ∷ []
 
--- the length of the header's text, which ten bytes state: magic and version, then sixteen bits, the low byte first
-unfoldable pub preamble_of : List ℕ → Preamble
+-- the length of the header's text, which ten bytes state: magic and version, then sixteen bits, the low byte first; none where they are malformed
+unfoldable pub preamble_of : List ℕ → Option ℕ
 unfolding starts
 preamble_of bytes =
-    pick (starts magic bytes && leb 10 (length bytes)) (preamble.Length (get_or bytes 8 0 + get_or bytes 9 0 * 256)) preamble.Malformed
+    pick (starts magic bytes && leb 10 (length bytes)) (Some (get_or bytes 8 0 + get_or bytes 9 0 * 256)) None

@@ -1,7 +1,7 @@
 // The NumPy array that the reporting program reads: what its first bytes and its header say, and its rows of values.
 //
 // Document 01, The reporting program. Inner calls all: the reporting program is their only caller.
-// No call refuses anything or prints: a malformed header is an answer.
+// No call refuses anything or prints: that a header is malformed is an answer, None.
 #![tactic(auto)]
 
 ghost use Rattle.std.specs.Prelude.{◌≡◌, drop};
@@ -23,38 +23,29 @@ const CLOSING: usize = 4;
 // the bytes before a header's text
 const FIRST: usize = 10;
 
-// What the first ten bytes say.
+// What a header's text says: N and B, each held to 4,294,967,295, which is above every bound.
 #[derive(Clone, Copy)]
-pub enum Preamble {
-    Malformed,
-    Length(usize),
-}
-
-// What the header's text says: N and B, each held to 4,294,967,295, which is above every bound.
-#[derive(Clone, Copy)]
-pub enum Header {
-    Malformed,
-    Shape(u64, u64),
+pub struct Shape {
+    pub rows: u64,
+    pub bins: u64,
 }
 
 // Whether spaces and then a line feed stand from `at` on, and nothing behind them.
 fn ends(text: &[u8], at: usize) -> bool
     ensures { result ≡ ended (drop at text.now) }
 {
-    let mut place = at;
-    while place < text.len() {
+    for place in at..text.len() {
         let x = text[place];
         if x != b' ' {
             return x == b'\n' && text.len() - place == 1;
         }
-        place += 1;
     }
     false
 }
 
-// Inner: reads the text of a header: its shape where it is exactly the text that document 01 gives, else malformed.
+// Inner: reads the text of a header: its shape where it is exactly the text that document 01 gives; else it is malformed, and there is none.
 // Digits may be of any number: a number above 4,294,967,295 is told as that.
-pub fn read_header(text: &[u8]) -> Header
+pub fn read_header(text: &[u8]) -> Option<Shape>
     ensures { result ≡ header_of text.now }
 {
     if !stands(
@@ -62,44 +53,44 @@ pub fn read_header(text: &[u8]) -> Header
         0,
         b"{'descr': '<f4', 'fortran_order': False, 'shape': (",
     ) {
-        return Header::Malformed;
+        return None;
     }
     if !plain_number(text, FRONT) {
-        return Header::Malformed;
+        return None;
     }
     let rows_end = digits_end(text, FRONT);
     if !stands(text, rows_end, b", ") {
-        return Header::Malformed;
+        return None;
     }
     let columns = rows_end + COMMA;
     if !plain_number(text, columns) {
-        return Header::Malformed;
+        return None;
     }
     let columns_end = digits_end(text, columns);
     if !stands(text, columns_end, b"), }") {
-        return Header::Malformed;
+        return None;
     }
     if !ends(text, columns_end + CLOSING) {
-        return Header::Malformed;
+        return None;
     }
-    Header::Shape(
-        number_at(text, FRONT, MOST_NUMBER),
-        number_at(text, columns, MOST_NUMBER),
-    )
+    Some(Shape {
+        rows: number_at(text, FRONT, MOST_NUMBER),
+        bins: number_at(text, columns, MOST_NUMBER),
+    })
 }
 
-// Inner: reads the ten bytes before a header: the length of its text, or that they are not those of a NumPy 1.0 file.
+// Inner: reads the ten bytes before a header: the length of its text, none where they are not those of a NumPy 1.0 file.
 // Fewer than ten bytes are malformed; bytes behind the tenth are not read.
-pub fn read_preamble(bytes: &[u8]) -> Preamble
+pub fn read_preamble(bytes: &[u8]) -> Option<usize>
     ensures { result ≡ preamble_of bytes.now }
 {
     if !stands(bytes, 0, b"\x93NUMPY\x01\x00") {
-        return Preamble::Malformed;
+        return None;
     }
     if bytes.len() < FIRST {
-        return Preamble::Malformed;
+        return None;
     }
-    Preamble::Length((bytes[8] as usize) + (bytes[9] as usize) * 256)
+    Some(usize::from(bytes[8]) + usize::from(bytes[9]) * 256)
 }
 
 // Inner: the float that four bytes stand for, the low byte first. Every pattern has one: a NaN's gives a NaN.
@@ -108,7 +99,7 @@ pub fn value_of(a: u8, b: u8, c: u8, d: u8) -> f32
 {
     let word = words::word_of(a, b, c, d);
     if word % 2147483648 > 2139095040 {
-        0.0 / 0.0
+        f32::NAN
     } else {
         f32::from_bits(word)
     }
@@ -119,11 +110,9 @@ pub fn value_of(a: u8, b: u8, c: u8, d: u8) -> f32
 pub fn read_values(bytes: &[u8], row: &mut [f32])
     ensures { row.new ≡ row_read bytes.now row.old }
 {
-    let count = numbers::least(bytes.len() / 4, row.len());
-    let mut i: usize = 0;
-    while i < count {
+    let count = (bytes.len() / 4).min(row.len());
+    for i in 0..count {
         let at = i * 4;
         row[i] = value_of(bytes[at], bytes[at + 1], bytes[at + 2], bytes[at + 3]);
-        i += 1;
     }
 }

@@ -41,10 +41,7 @@ fn two_rows() -> [f32; TWO_ROWS]
 fn come(input: &mut impl Read, bytes: &mut [u8]) -> usize
     ensures { result ≤ length bytes.new }
 {
-    match input.read(bytes) {
-        Ok(got) => got,
-        Err(_) => 0,
-    }
+    input.read(bytes).unwrap_or(0)
 }
 
 // Passes on the first bytes, as many as came.
@@ -60,11 +57,11 @@ fn pass_on(
     ensures { Step (take got bytes.now) feed held.old kept.old flux.old
         result held.new kept.new flux.new }
 {
-    report_feed::take_bytes(&bytes[0..got], feed, held, kept, flux)
+    report_feed::take_bytes(&bytes[..got], feed, held, kept, flux)
 }
 
 // Reads to the end of the input, or until nothing that comes can change what it is told. A proved loop has to end, and nothing says that the input does:
-// the loop counts down from a number that no run uses up.
+// it has more turns than any run uses up.
 fn read_all(
     input: &mut impl Read,
     bytes: &mut [u8],
@@ -77,8 +74,7 @@ fn read_all(
     ensures { InputRead flux.old result flux.new }
 {
     let mut feed = report_feed::begun();
-    let mut turns = u64::MAX;
-    while turns > 0 {
+    for _ in 0..u64::MAX {
         let got = come(input, bytes);
         if got == 0 {
             return report_feed::closed(feed);
@@ -87,7 +83,6 @@ fn read_all(
         if report_feed::decided(feed) {
             return report_feed::closed(feed);
         }
-        turns -= 1;
     }
     report_feed::closed(feed)
 }

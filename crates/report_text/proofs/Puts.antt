@@ -1,7 +1,7 @@
 -- Pieces of a text that are written one behind the other, each within its bound. Assumes nothing.
 use mathlib.Core.Path.{◌≡◌, refl, sym, ap, ◌∙◌}
 use mathlib.Core.List.{List, [], ◌∷◌, ◌++◌, append_assoc, append-nil}
-use Prim.Native.Nat.{ℕ, zero, suc, ◌+◌, ◌-◌, ◌*◌, ◌≤◌, ◌<◌, min}
+use Prim.Native.Nat.{ℕ, zero, suc, ◌+◌, ◌*◌, ◌≤◌, ◌<◌, min}
 use native.Mathlib.Numerals.{add-one}
 use native.Mathlib.Omega.{arith}
 use lib.ListN.{length, get_or, take}
@@ -75,8 +75,8 @@ share-some agreeing zero h = absurd (h refl)
 share-some agreeing (suc k) h = refl
 
 -- a list's first entry, if it has one
-pub first_entry : (ns : List ℕ) (k : ℕ) → k ≡ min 1 (length ns) → take (k - 0) ns ≡ take 1 ns
-first_entry [] k e = take-nil (k - 0) ∙ sym (take-nil 1)
+pub first_entry : (ns : List ℕ) (k : ℕ) → k ≡ min (length ns) 1 → take k ns ≡ take 1 ns
+first_entry [] k e = take-nil k ∙ sym (take-nil 1)
 first_entry (n ∷ ns) k e =
-    let f : k - 0 ≡ 1 = omega arith in
+    let f : k ≡ 1 = omega arith in
     ap (λ (j : ℕ). take j (n ∷ ns)) f

@@ -34,10 +34,8 @@ fn put_numbers(out: &mut [u8], at: usize, entries: &[u32]) -> usize
         result out.new }
 {
     let mut end = at;
-    let mut i: usize = 0;
-    while i < entries.len() {
-        end = put_spaced(out, end, entries[i]);
-        i += 1;
+    for &n in entries {
+        end = put_spaced(out, end, n);
     }
     end
 }
@@ -106,9 +104,9 @@ pub fn put_report(
         (report_room (length onsets.now) (length beats.now) (length downbeats.now))
         result out.new }
 {
-    let lag = numbers::least(1, candidates.len());
+    let lag = &candidates[..candidates.len().min(1)];
     let a = put_line(out, 0, b"onsets", onsets);
-    let b = put_line(out, a, b"lag", &candidates[0..lag]);
+    let b = put_line(out, a, b"lag", lag);
     let c = put_line(out, b, b"candidates", candidates);
     let d = put_line(out, c, b"beats", beats);
     let e = put_line(out, d, b"downbeats", downbeats);

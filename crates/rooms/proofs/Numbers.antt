@@ -33,14 +33,13 @@ use Rattle.flux.proofs.Fluxes.{FluxFine}
 use Rattle.threshold.specs.Threshold.{window_room}
 use Rattle.options.specs.declared.TempoOpts.{TempoOpts}
 use Rattle.lags.specs.Lags.{bounds_fine}
-use Rattle.rooms.specs.declared.Room.{Room}
-use Rattle.rooms.specs.Rooms.{lags_of, sorting_of, analysis_numbers_fine, room_of, suffices, envelope_refusal, magnitudes_refusal}
+use Rattle.rooms.specs.Rooms.{RoomSaid, lags_of, sorting_of, analysis_numbers_fine, room_of, suffices, envelope_refusal, magnitudes_refusal}
 
 -- the room that is named where the numbers are in bounds, and where they are not
-abbrev pub in_bounds : (rows rate : ℕ) → TempoOpts → Room
+abbrev pub in_bounds : (rows rate : ℕ) → TempoOpts → RoomSaid
 in_bounds rows rate o = record { number = 0; rows = rows; lags = lags_of rate o; sorting = sorting_of rows (lags_of rate o) }
 
-abbrev pub outside : Room
+abbrev pub outside : RoomSaid
 outside = record { number = 1; rows = 0; lags = 0; sorting = 0 }
 
 module _ (rows rate : ℕ) (o : TempoOpts) where
@@ -71,7 +70,7 @@ module _ (rows rate : ℕ) (o : TempoOpts) where
   -- the room that is computed
   pub named_room : (lags sorting least : ℕ) → rows ≤ most_rows → bounds_fine rate o ≡ true → lags ≡ lags_of rate o → least ≡ window_room rows
       → sorting ≡ max lags least
-      → ◌≡◌ {A = Room} (record { number = 0; rows = rows; lags = lags; sorting = sorting }) (room_of rows rate o)
+      → ◌≡◌ {A = RoomSaid} (record { number = 0; rows = rows; lags = lags; sorting = sorting }) (room_of rows rate o)
   named_room lags sorting least h fine l m s =
       ap (λ (k : ℕ). record { number = 0; rows = rows; lags = lags; sorting = k }) (s ∙ ap (max lags) m)
       ∙ ap (λ (k : ℕ). record { number = 0; rows = rows; lags = k; sorting = sorting_of rows k }) l
@@ -79,7 +78,7 @@ module _ (rows rate : ℕ) (o : TempoOpts) where
 
 -- ---- number 3
 
-module _ (room : Room) (frames lags : List ℕ) (work : ℕ) where
+module _ (room : RoomSaid) (frames lags : List ℕ) (work : ℕ) where
   pub frames_short : every (leb room.rows) frames ≡ false → every (leb room.rows) frames ≡ suffices room frames lags work
   unfolding suffices
   frames_short e = and_failed (every (leb room.rows) frames) (every (leb room.lags) lags && leb room.sorting work) e
@@ -100,15 +99,18 @@ module _ (room : Room) (frames lags : List ℕ) (work : ℕ) where
 -- ---- each row of the table
 
 -- the numbers are in bounds where the room was named
-module _ (rows rate : ℕ) (o : TempoOpts) (room : Room) (is : room ≡ room_of rows rate o) where
+module _ (rows rate : ℕ) (o : TempoOpts) (room : RoomSaid) (is : room ≡ room_of rows rate o) where
   pub named : room.number ≡ 0 → analysis_numbers_fine rows rate o ≡ true
-  named z = ⊎_elim (λ e. e) (λ e. let n : room.number ≡ 1 = ap (λ (r : Room). r.number) (is ∙ room_outside rows rate o e) in absurd (omega arith))
+  named z = ⊎_elim (λ e. e) (λ e. let n : room.number ≡ 1 = ap (λ (r : RoomSaid). r.number) (is ∙ room_outside rows rate o e) in absurd (omega arith))
       (which (analysis_numbers_fine rows rate o))
 
   pub unnamed : (room.number ≡ 0 → ⊥) → analysis_numbers_fine rows rate o ≡ false
-  unnamed h = ⊎_elim (λ e. absurd (h (ap (λ (r : Room). r.number) (is ∙ room-inside rows rate o e)))) (λ e. e) (which (analysis_numbers_fine rows rate o))
+  unnamed h = ⊎_elim (λ e. absurd (h (ap (λ (r : RoomSaid). r.number) (is ∙ room-inside rows rate o e)))) (λ e. e) (which (analysis_numbers_fine rows rate o))
 
-module _ (env : List Float) (rate : ℕ) (o : TempoOpts) (frames lags : List ℕ) (work : ℕ) (room : Room) (is : room ≡ room_of (length env) rate o) where
+  pub unnamed_is : (room.number ≡ 0 → ⊥) → room.number ≡ 1
+  unnamed_is h = ap (λ (r : RoomSaid). r.number) (is ∙ room_outside rows rate o (unnamed h))
+
+module _ (env : List Float) (rate : ℕ) (o : TempoOpts) (frames lags : List ℕ) (work : ℕ) (room : RoomSaid) (is : room ≡ room_of (length env) rate o) where
   abbrev fine : Bool
   fine = analysis_numbers_fine (length env) rate o
 
@@ -118,13 +120,13 @@ module _ (env : List Float) (rate : ℕ) (o : TempoOpts) (frames lags : List ℕ
   abbrev valued : Bool
   valued = every value_fine env
 
-  pub envelope_1 : (room.number ≡ 0 → ⊥) → 1 ≡ envelope_refusal env rate o frames lags work
+  pub envelope_1 : (room.number ≡ 0 → ⊥) → room.number ≡ envelope_refusal env rate o frames lags work
   unfolding envelope_refusal
-  envelope_1 h = sym (lowest_1 fine true roomy valued (unnamed (length env) rate o room is h))
+  envelope_1 h = unnamed_is (length env) rate o room is h ∙ sym (lowest_1 fine true roomy valued (unnamed (length env) rate o room is h))
 
   module _ (z : room.number ≡ 0) (b : Bool) (asked : b ≡ suffices room frames lags work) where
     room_is : roomy ≡ b
-    room_is = sym (asked ∙ ap (λ (r : Room). suffices r frames lags work) is)
+    room_is = sym (asked ∙ ap (λ (r : RoomSaid). suffices r frames lags work) is)
 
     pub envelope_3 : b ≡ false → 3 ≡ envelope_refusal env rate o frames lags work
     unfolding envelope_refusal
@@ -159,10 +161,10 @@ module _ (magnitudes : List Float) (slab : Slab) (rate : ℕ) (o : TempoOpts) (f
   pub shapeless : slab_fine slab ≡ false → 1 ≡ magnitudes_refusal magnitudes slab rate o flux frames lags work
   shapeless e = refused_1 (sym (and_failed (slab_fine slab) (bounds_fine rate o) e) ∙ e)
 
-  module _ (shape : slab_fine slab ≡ true) (room : Room) (is : room ≡ room_of slab.rows rate o) where
-    pub magnitudes_1 : (room.number ≡ 0 → ⊥) → 1 ≡ magnitudes_refusal magnitudes slab rate o flux frames lags work
+  module _ (shape : slab_fine slab ≡ true) (room : RoomSaid) (is : room ≡ room_of slab.rows rate o) where
+    pub magnitudes_1 : (room.number ≡ 0 → ⊥) → room.number ≡ magnitudes_refusal magnitudes slab rate o flux frames lags work
     magnitudes_1 h =
-        refused_1 (
+        unnamed_is slab.rows rate o room is h ∙ refused_1 (
         sym (and-held (slab_fine slab) (bounds_fine rate o) shape)
         ∙ sym (by_bounds slab.rows rate o (slab_fits slab shape).rows_fit)
         ∙ unnamed slab.rows rate o room is h
@@ -190,7 +192,7 @@ module _ (magnitudes : List Float) (slab : Slab) (rate : ℕ) (o : TempoOpts) (f
           wide_is : wide ≡ b
           wide_is =
               sym (
-              asked ∙ ap (λ (r : Room). suffices r frames lags work) is
+              asked ∙ ap (λ (r : RoomSaid). suffices r frames lags work) is
               ∙ and-held (leb slab.rows flux) (suffices (room_of slab.rows rate o) frames lags work) (le-leb slab.rows flux f)
               )
 

@@ -21,8 +21,8 @@ use Rattle.flux.specs.Flux.{flux_at}
 use Rattle.flux.proofs.Fluxes.{FluxFine, flux_curve_fine}
 use Rattle.options.specs.declared.TempoOpts.{TempoOpts}
 use Rattle.lags.specs.Lags.{bounds_fine}
-use Rattle.rooms.specs.declared.Room.{Room}
 use Rattle.rooms.specs.Rooms.{
+  RoomSaid,
   Results,
   Spare,
   frame_slots,
@@ -55,7 +55,7 @@ use Rattle.rooms.proofs.Numbers.{in_bounds, outside, by_bounds, rows_fine, bound
 
 -- ---- enough, and too little
 
-module _ (room : Room) (r : Results) (s : Spare) where
+module _ (room : RoomSaid) (r : Results) (s : Spare) where
   abbrev enough? : Bool
   enough? = suffices room (frame_slots r) (lag_slots r s) (length s.work)
 
@@ -140,7 +140,7 @@ none_enough r s =
 -- a room with a slice too short for it has its numbers in bounds
 short_bounds : (rows rate : ℕ) (o : TempoOpts) (r : Results) (s : Spare) → Short (room_of rows rate o) r s → analysis_numbers_fine rows rate o ≡ true
 short_bounds rows rate o r s w =
-    ⊎_elim (λ e. e) (λ e. absurd (enough_not_short outside r s (none_enough r s) (subst (λ (x : Room). Short x r s) (room_outside rows rate o e) w)))
+    ⊎_elim (λ e. e) (λ e. absurd (enough_not_short outside r s (none_enough r s) (subst (λ (x : RoomSaid). Short x r s) (room_outside rows rate o e) w)))
     (which (analysis_numbers_fine rows rate o))
 
 -- ---- an envelope
@@ -196,7 +196,7 @@ module _ (env : List Float) (rate : ℕ) (o : TempoOpts) (r : Results) (s : Spar
   ready_of e =
       let p = lowest-zero (analysis_numbers_fine (length env) rate o) true (enough? (room_of (length env) rate o) r s) (every value_fine env) e in
       room-ready env rate o r s p.bounds (suffices_enough (in_bounds (length env) rate o) r s
-      (sym (ap (λ (x : Room). enough? x r s) (room-inside (length env) rate o p.bounds)) ∙ p.room)) p.values
+      (sym (ap (λ (x : RoomSaid). enough? x r s) (room-inside (length env) rate o p.bounds)) ∙ p.room)) p.values
 
 -- ---- magnitudes
 
@@ -224,7 +224,7 @@ module _ (m : List Float) (slab : Slab) (rate : ℕ) (o : TempoOpts) (flux : Lis
       record {
         flux_takes = f;
         numbers = n;
-        room = suffices_enough (in_bounds slab.rows rate o) r s (sym (ap (λ (x : Room). enough? x r s) (room-inside slab.rows rate o n)) ∙ w);
+        room = suffices_enough (in_bounds slab.rows rate o) r s (sym (ap (λ (x : RoomSaid). enough? x r s) (room-inside slab.rows rate o n)) ∙ w);
       }
 
   -- with each slice at least what `room_of` names, number 3 is never given
@@ -269,7 +269,7 @@ module _ (m : List Float) (slab : Slab) (rate : ℕ) (o : TempoOpts) (flux : Lis
       let t = told e in
       let n : analysis_numbers_fine (length envelope) rate o ≡ true = rw flux_long t.numbers in
       let q : enough? (room_of (length envelope) rate o) r s ≡ true =
-      ap (λ (j : ℕ). enough? (room_of j rate o) r s) flux_long ∙ ap (λ (x : Room). enough? x r s) (room-inside slab.rows rate o t.numbers)
+      ap (λ (j : ℕ). enough? (room_of j rate o) r s) flux_long ∙ ap (λ (x : RoomSaid). enough? x r s) (room-inside slab.rows rate o t.numbers)
       ∙ enough_suffices (in_bounds slab.rows rate o) r s t.room in
       lowest_0 (analysis_numbers_fine (length envelope) rate o) true (enough? (room_of (length envelope) rate o) r s) (every value_fine envelope) n refl q
       (flux_loud t)

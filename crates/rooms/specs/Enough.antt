@@ -1,10 +1,9 @@
 -- Enough room, and too little, in the words in which the laws on room are stated (proofs/Rooms, and the first theorem of promises' Repaired).
 use Rattle.std.specs.Prelude.{◌≤◌, ◌<◌, length}
-use Rattle.rooms.specs.declared.Room.{Room}
-use Rattle.rooms.specs.Rooms.{Results, Spare}
+use Rattle.rooms.specs.Rooms.{RoomSaid, Results, Spare}
 
 -- each slice has at least the slots that a room names
-pub record Enough (room : Room) (r : Results) (s : Spare) : Type 0 where
+pub record Enough (room : RoomSaid) (r : Results) (s : Spare) : Type 0 where
   pub threshold : room.rows ≤ length r.threshold
   pub onsets : room.rows ≤ length r.onsets
   pub score : room.rows ≤ length r.score
@@ -18,7 +17,7 @@ pub record Enough (room : Room) (r : Results) (s : Spare) : Type 0 where
   pub work : room.sorting ≤ length s.work
 
 -- some slice has fewer
-pub data Short (room : Room) (r : Results) (s : Spare) : Type 0 where
+pub data Short (room : RoomSaid) (r : Results) (s : Spare) : Type 0 where
   short_threshold : length r.threshold < room.rows → Short room r s
   short_onsets : length r.onsets < room.rows → Short room r s
   short_score : length r.score < room.rows → Short room r s

@@ -1,10 +1,11 @@
 -- Document 01, "Room: N slots for flux, threshold, score, back links, onset and beat lists; one per listed frame for .. downbeats;
 -- L = max_lag - min_lag + 1 slots for each of the two lag curves .. and two more for stability; .. for sorting min(21, N) for
 -- thresholds, L for tempo and stability": the room of one whole analysis, and the number that it is refused with.
-use Rattle.std.specs.Prelude.{ℕ, max, Bool, true, ◌&&◌, List, [], ◌∷◌, leb, length, Float}
+use Rattle.std.specs.Prelude.{ℕ, max, Bool, true, ◌&&◌, List, [], ◌∷◌, leb, length, Float, Result, Ok, Err}
 use Rattle.numbers.specs.Rounded.{pick}
 use Rattle.numbers.specs.Limits.{most_rows, magnitude_fine, value_fine, slab_fine, slab_whole}
-use Rattle.numbers.specs.Refusals.{out_of_bounds, lowest}
+use Rattle.numbers.specs.Refusals.{number, out_of_bounds, lowest}
+use Rattle.numbers.specs.declared.Refusal.{Refusal}
 use Rattle.numbers.specs.Lists.{every}
 use Rattle.numbers.specs.declared.Slab.{Slab}
 use Rattle.threshold.specs.Threshold.{window_room}
@@ -70,8 +71,20 @@ unfoldable pub analysis_numbers_fine : (rows rate : ℕ) → TempoOpts → Bool
 unfolding bounds_fine
 analysis_numbers_fine rows rate o = leb rows most_rows && bounds_fine rate o
 
--- the answer of `room_of`: the formula, or number 1 and zeros
-unfoldable pub room_of : (rows rate : ℕ) → TempoOpts → Room
+-- what `room_of` says: its number, and the slots
+pub record RoomSaid : Type 0 where
+  pub number : ℕ
+  pub rows : ℕ
+  pub lags : ℕ
+  pub sorting : ℕ
+
+-- by its answer: `Ok` is number 0 and the room, `Err e` the number of e in the table, and zeros
+abbrev pub room_said : Result Room Refusal → RoomSaid
+room_said (Ok room) = record { number = 0; rows = room.rows; lags = room.lags; sorting = room.sorting }
+room_said (Err e) = record { number = number e; rows = 0; lags = 0; sorting = 0 }
+
+-- what it says: the formula, or number 1 and zeros
+unfoldable pub room_of : (rows rate : ℕ) → TempoOpts → RoomSaid
 unfolding analysis_numbers_fine min_lag max_lag
 room_of rows rate o =
     pick (analysis_numbers_fine rows rate o)
@@ -81,7 +94,7 @@ room_of rows rate o =
 -- ---- refusal
 
 -- number 3: each length of both kinds, and that of the sorting room, is at least what the room names
-unfoldable pub suffices : Room → (frames lags : List ℕ) → (work : ℕ) → Bool
+unfoldable pub suffices : RoomSaid → (frames lags : List ℕ) → (work : ℕ) → Bool
 unfolding every
 suffices room frames lags work = every (leb room.rows) frames && (every (leb room.lags) lags && leb room.sorting work)
 

@@ -28,8 +28,7 @@ fn root_by_digits(a: u64) -> u64
     let mut rest = 0u64;
     let mut root = 0u64;
     let mut left = a;
-    let mut i = 0u64;
-    while i < 54 {
+    for i in 0u64..54 {
         let t = rest * 4 + left / HIDDEN;
         left = left % HIDDEN * 4;
         if root * 4 < t {
@@ -39,7 +38,6 @@ fn root_by_digits(a: u64) -> u64
             rest = t;
             root = root * 2;
         }
-        i += 1;
     }
     root
 }
@@ -110,6 +108,7 @@ fn lifted_root_bits(n: u64) -> u64
 {
     let mut a = n;
     let mut power = 511u64;
+    // Kept as a while: it ends by the value, power by power.
     while a < HIDDEN {
         a = a * 4;
         power = power - 1;

@@ -15,7 +15,7 @@ use lib.Ieee.Fits.{add-fits}
 use Rattle.numbers.specs.Rounded.{◌⊕◌, ◌⊗◌, ◌⊘◌, nought, pick, sum_from, held}
 use Rattle.numbers.specs.Limits.{feature_width, value_fine, similarity_top, similarity_fine}
 use Rattle.numbers.specs.Lists.{every, curve}
-use Rattle.numbers.proofs.Tests.{which, lt_or_le, true_not_false, and_both, pick_true, pick-false}
+use Rattle.numbers.proofs.Tests.{which, lt_or_le, true_not_false, and_both}
 use Rattle.numbers.proofs.Overs.{length-row, every-row}
 use Rattle.numbers.proofs.Everys.{every-tab}
 use Rattle.sizes.specs.Sizes.{Within, AtLeast, Plus, Each, none, more}
@@ -27,7 +27,6 @@ use Rattle.sizes.proofs.Least.{mul-above}
 use Rattle.sizes.proofs.Order.{le_self, le_left, le_right, le_both, not_lt}
 use Rattle.sizes.proofs.Monotone.{div_mono_left}
 use Rattle.sizes.proofs.Ranges.{held_low, held_high}
-use Rattle.roots.specs.Roots.{sqrt_of}
 use Rattle.roots.proofs.Roots.{sqrt_plus, sqrt_within, sqrt_least_any}
 use Rattle.roots.proofs.Floats.{sqrt_nought}
 use Rattle.row_pairs.specs.Pairs.{feature_row, products, dot_of, norm_of, is_zero, settled, slot_at, similarity_at}

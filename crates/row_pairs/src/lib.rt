@@ -28,10 +28,8 @@ pub fn dot(a: &[f64], b: &[f64]) -> f64
     ensures { result ≡ dot_of a.now b.now }
 {
     let mut sum = 0.0;
-    let mut k = 0;
-    while k < FEATURE_WIDTH {
+    for k in 0..FEATURE_WIDTH {
         sum = sum + a[k] * b[k];
-        k += 1;
     }
     sum
 }

@@ -12,16 +12,20 @@
 
 ghost use Rattle.std.specs.Prelude.{◌≤◌, length};
 
+use numbers::Refusal;
 use options::TempoOpts;
+use rooms::Room;
 use stability::Stability;
 use tempo::{Candidate, Tempo};
 use track::Analysis;
 
-const MAGNITUDES: usize = 1;
-
-const ROOM: usize = 2;
-
-const LENGTHS: usize = 3;
+// What a table runs.
+#[derive(Clone, Copy)]
+enum Call {
+    Magnitudes,
+    Room,
+    Lengths,
+}
 
 fn main(rt: HostRuntime) {
     magnitudes(&rt);
@@ -30,29 +34,24 @@ fn main(rt: HostRuntime) {
     bounds(&rt);
 }
 
-fn table(rt: &impl Print, call: usize, lines: &[u8]) {
-    let n = run_cases::marks(lines, b'\n');
-    let mut k = 0;
-    while k < n {
-        run(rt, call, run_cases::part(lines, b'\n', k));
-        k += 1;
+fn table(rt: &impl Print, call: Call, cases: &str) {
+    for line in cases.lines() {
+        run(rt, call, line.as_bytes());
     }
 }
 
-fn run(rt: &impl Print, call: usize, line: &[u8]) {
+fn run(rt: &impl Print, call: Call, line: &[u8]) {
     run_show::words(rt, run_cases::part(line, b'|', 0));
-    if call == LENGTHS {
-        return of_lengths(rt, line);
+    match call {
+        Call::Magnitudes => of_slab(rt, line),
+        Call::Room => named(
+            rt,
+            run_cases::column(line, 1),
+            run_cases::column_u32(line, 2),
+            opts_of(run_cases::column(line, 3)),
+        ),
+        Call::Lengths => of_lengths(rt, line),
     }
-    if call == MAGNITUDES {
-        return of_slab(rt, line);
-    }
-    named(
-        rt,
-        run_cases::column(line, 1),
-        run_cases::column_u32(line, 2),
-        opts_of(run_cases::column(line, 3)),
-    );
 }
 
 // The default options, or those of the meter that is one less than what a column holds.
@@ -60,7 +59,7 @@ fn opts_of(held: usize) -> TempoOpts {
     if held == 0 {
         return TempoOpts::new();
     }
-    TempoOpts::new().with_meter(numbers::less(held, 1))
+    TempoOpts::new().with_meter(held - 1)
 }
 
 fn tempo_is(rt: &impl Print, t: Tempo) {
@@ -95,35 +94,47 @@ fn candidate_is(rt: &impl Print, c: Candidate) {
     run_show::float(rt, c.salience);
 }
 
-fn candidates_are(rt: &impl Print, c: [Candidate; 3], count: usize) {
+fn candidates_are(rt: &impl Print, candidates: [Candidate; 3], count: usize) {
     run_show::words(rt, b", candidates");
     run_show::count(rt, count);
-    candidate_is(rt, c[0]);
-    candidate_is(rt, c[1]);
-    candidate_is(rt, c[2]);
+    for &c in &candidates {
+        candidate_is(rt, c);
+    }
 }
 
-fn answer(rt: &impl Print, a: Analysis) {
-    let tempo = a.tempo;
-    let candidates = a.candidates;
-    let stability = a.stability;
-    run_show::small(rt, a.number);
+// What is printed where nothing is analysed.
+const NO_ANALYSIS: Analysis = Analysis {
+    onsets: 0,
+    tempo: Tempo::None,
+    candidates: [Candidate {
+        lag: 0,
+        salience: 0.0,
+    }; 3],
+    count: 0,
+    stability: Stability::None,
+    beats: 0,
+    downbeats: 0,
+};
+
+fn answer(rt: &impl Print, a: Result<Analysis, Refusal>) {
+    run_show::outcome(rt, &a);
+    let heard = a.unwrap_or(NO_ANALYSIS);
     run_show::words(rt, b", onsets");
-    run_show::count(rt, a.onsets);
-    tempo_is(rt, tempo);
-    candidates_are(rt, candidates, a.count);
-    stability_is(rt, stability);
+    run_show::count(rt, heard.onsets);
+    tempo_is(rt, heard.tempo);
+    candidates_are(rt, heard.candidates, heard.count);
+    stability_is(rt, heard.stability);
     run_show::words(rt, b", beats");
-    run_show::count(rt, a.beats);
+    run_show::count(rt, heard.beats);
     run_show::words(rt, b", downbeats");
-    run_show::count(rt, a.downbeats);
+    run_show::count(rt, heard.downbeats);
     run_show::end(rt);
 }
 
 // So many slots of a slice are lent: its room, or one fewer where `at` is the slice that is short.
 fn slots(room: usize, at: usize, short: usize) -> usize {
     if at == short {
-        return numbers::less(room, 1);
+        return room.saturating_sub(1);
     }
     room
 }
@@ -203,10 +214,15 @@ fn refused(rt: &impl Print, envelope: &[f64], rate: u32, short: usize, opts: Tem
         slots(15, 5, short),
         slots(15, 6, short),
     ];
-    run_show::small(
-        rt,
-        rooms::envelope_refusal(envelope, rate, opts, &frames, &lags, slots(21, 11, short)),
+    let answer = rooms::envelope_refusal(
+        envelope,
+        rate,
+        opts,
+        &frames,
+        &lags,
+        slots(21, 11, short),
     );
+    run_show::outcome(rt, &answer);
     run_show::end(rt);
 }
 
@@ -235,8 +251,8 @@ fn envelope_of(odd: usize) -> [f64; 48] {
 fn lengths(rt: &impl Print) {
     table(
         rt,
-        LENGTHS,
-        b"short 0:|2048|0
+        Call::Lengths,
+        "short 0:|2048|0
 short 1:|2048|1
 short 2:|2048|2
 short 3:|2048|3
@@ -272,8 +288,8 @@ const CLICKS: [f32; 48] = [
 fn magnitudes(rt: &impl Print) {
     table(
         rt,
-        MAGNITUDES,
-        b"clicks:|48|48|1|48|2048
+        Call::Magnitudes,
+        "clicks:|48|48|1|48|2048
 seventeen of their rows:|17|17|1|48|2048
 one of them:|4|4|1|48|2048
 two bins:|48|24|2|48|2048
@@ -312,13 +328,11 @@ fn of_slab(rt: &impl Print, line: &[u8]) {
 }
 
 fn slab_of(odd: usize) -> [f32; 48] {
-    if odd == 1 {
-        return [1.0f32 / 0.0; 48];
+    match odd {
+        1 => [1.0f32 / 0.0; 48],
+        2 => waltz(),
+        _ => CLICKS,
     }
-    if odd == 2 {
-        return waltz();
-    }
-    CLICKS
 }
 
 // The clicks with an accent on every third, from the second on.
@@ -361,7 +375,7 @@ fn lent(
             bins,
             rate,
             opts,
-            &mut flux[0..numbers::least(room, 48)],
+            &mut flux[0..room.min(48)],
             &mut threshold,
             &mut onsets,
             &mut clarity,
@@ -385,10 +399,18 @@ fn flux_is(rt: &impl Print, flux: &[f64; 48]) {
     curve(rt, b"flux", flux, 46);
 }
 
+// What is printed where no room is named.
+const NO_ROOM: Room = Room {
+    rows: 0,
+    lags: 0,
+    sorting: 0,
+};
+
 // The room of an analysis: number, N, L and the sorting room.
 fn named(rt: &impl Print, rows: usize, rate: u32, opts: TempoOpts) {
-    let r = rooms::room_of(rows, rate, opts);
-    run_show::small(rt, r.number);
+    let answer = rooms::room_of(rows, rate, opts);
+    run_show::outcome(rt, &answer);
+    let r = answer.unwrap_or(NO_ROOM);
     run_show::count(rt, r.rows);
     run_show::count(rt, r.lags);
     run_show::count(rt, r.sorting);
@@ -399,8 +421,8 @@ fn named(rt: &impl Print, rows: usize, rate: u32, opts: TempoOpts) {
 fn rooms(rt: &impl Print) {
     table(
         rt,
-        ROOM,
-        b"frames, rate 31004 44100:|31004|44100
+        Call::Room,
+        "frames, rate 31004 44100:|31004|44100
 frames, rate 103356 44100:|103356|44100
 frames, rate 620153 44100:|620153|44100
 frames, rate 33747 48000:|33747|48000

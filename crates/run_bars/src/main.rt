@@ -4,6 +4,7 @@
 ghost use Rattle.std.specs.Prelude.{◌≤◌};
 
 use bars::BarBeat;
+use numbers::Refusal;
 use options::TempoOpts;
 
 // The cases of `downbeats`, one to a line: the envelope, by its letter, and the values of it from one number up to the next; the beats
@@ -12,7 +13,7 @@ use options::TempoOpts;
 fn grids(rt: &impl Print) {
     each_case(
         rt,
-        b"\
+        "\
           a06 a03 3 M11:\n\
           b09 b09 9 nine beats:\n\
           b09 b08 8 the fourth phase:\n\
@@ -58,7 +59,7 @@ fn grids(rt: &impl Print) {
 fn places(rt: &impl Print) {
     each_case(
         rt,
-        b"\
+        "\
           t l0 g02 f08 before the first bar:\n\
           t l1 g02 f08 on the first downbeat:\n\
           t l2 g02 f08 between beats:\n\
@@ -154,12 +155,9 @@ fn frames_of(byte: u8) -> [u32; 9] {
 }
 
 // Runs each case of a text.
-fn each_case(rt: &impl Print, text: &[u8]) {
-    let n = run_cases::marks(text, b'\n');
-    let mut k = 0;
-    while k < n {
-        case(rt, run_cases::part(text, b'\n', k));
-        k += 1;
+fn each_case(rt: &impl Print, cases: &str) {
+    for line in cases.lines() {
+        case(rt, line.as_bytes());
     }
 }
 
@@ -167,15 +165,11 @@ fn case(rt: &impl Print, c: &[u8]) {
     if c.len() < 13 {
         return;
     }
-    if c[0] == 109 {
-        in_meter(rt, c);
-        return;
+    match c[0] {
+        b'm' => in_meter(rt, c),
+        b't' => at(rt, c),
+        _ => in_room(rt, c),
     }
-    if c[0] == 116 {
-        at(rt, c);
-        return;
-    }
-    in_room(rt, c);
 }
 
 fn in_room(rt: &impl Print, c: &[u8]) {
@@ -206,12 +200,11 @@ fn lent(rt: &impl Print, envelope: &[f64], beats: &[u32], room: usize)
 {
     let mut frames = [77u32; 12];
     let r = bars::downbeats(envelope, beats, TempoOpts::new(), &mut frames[0..room]);
-    told(rt, r.number, r.count, &frames);
+    told(rt, r, &frames);
 }
 
-fn told(rt: &impl Print, number: u32, count: usize, frames: &[u32; 12]) {
-    run_show::small(rt, number);
-    run_show::count(rt, count);
+fn told(rt: &impl Print, listed: Result<usize, Refusal>, frames: &[u32; 12]) {
+    run_show::listing(rt, listed);
     run_show::words(rt, b", frames");
     run_show::smalls(rt, frames);
     run_show::end(rt);
@@ -224,10 +217,10 @@ fn in_meter(rt: &impl Print, c: &[u8]) {
     run_show::words(rt, &c[10..]);
     let opts = TempoOpts::new().with_meter(run_cases::digit(c[8], 17));
     let envelope = values_of(c[4]);
-    let beats = frames_of(98);
+    let beats = frames_of(b'b');
     let mut frames = [77u32; 12];
     let r = bars::downbeats(&envelope, &beats, opts, &mut frames);
-    told(rt, r.number, r.count, &frames);
+    told(rt, r, &frames);
 }
 
 fn at(rt: &impl Print, c: &[u8]) {

@@ -8,7 +8,7 @@ ghost use Rattle.std.specs.Prelude.{◌≤◌};
 fn grids(rt: &impl Print) {
     each_grid(
         rt,
-        b"\
+        "\
           a06 888 2 M11:\n\
           b04 888 2 M12:\n\
           b00 888 2 no frames:\n\
@@ -137,7 +137,7 @@ const LONG_PERIODS: [usize; 13] = [
 ];
 
 fn period_of(byte: u8) -> usize {
-    if byte < 97 {
+    if byte < b'a' {
         return run_cases::digit(byte, 9);
     }
     let k = run_cases::letter(byte);
@@ -148,12 +148,9 @@ fn period_of(byte: u8) -> usize {
 }
 
 // Runs each case of a text.
-fn each_grid(rt: &impl Print, text: &[u8]) {
-    let n = run_cases::marks(text, b'\n');
-    let mut k = 0;
-    while k < n {
-        grid(rt, run_cases::part(text, b'\n', k));
-        k += 1;
+fn each_grid(rt: &impl Print, cases: &str) {
+    for line in cases.lines() {
+        grid(rt, line.as_bytes());
     }
 }
 
@@ -161,7 +158,7 @@ fn grid(rt: &impl Print, c: &[u8]) {
     if c.len() < 10 {
         return;
     }
-    if 115 <= c[0] {
+    if b's' <= c[0] {
         long_grid(rt, c);
         return;
     }
@@ -197,13 +194,12 @@ fn run(
     let r = beats::beat_grid(
         envelope,
         period,
-        &mut score[0..numbers::least(scores, 50)],
-        &mut back[0..numbers::least(links, 50)],
-        &mut beats[0..numbers::least(frames, 50)],
+        &mut score[0..scores.min(50)],
+        &mut back[0..links.min(50)],
+        &mut beats[0..frames.min(50)],
     );
-    run_show::small(rt, r.number);
-    run_show::count(rt, r.count);
-    left(rt, &score, &back, &beats, numbers::least(shown, 50));
+    run_show::listing(rt, r);
+    left(rt, &score, &back, &beats, shown.min(50));
 }
 
 // The first n slots of each list.
@@ -233,10 +229,7 @@ fn long_grid(rt: &impl Print, c: &[u8]) {
 }
 
 fn long_envelope(byte: u8) -> [f64; 48] {
-    if byte == 115 {
-        return PULSES;
-    }
-    TIES
+    if byte == b's' { PULSES } else { TIES }
 }
 
 const PULSES: [f64; 48] = [
@@ -269,8 +262,7 @@ fn equal_extensions(rt: &impl Print) {
     let mut beats = [88u32; 256];
     let r = beats::beat_grid(&e, 42, &mut score, &mut back, &mut beats);
     run_show::words(rt, b"equal extensions:");
-    run_show::small(rt, r.number);
-    run_show::count(rt, r.count);
+    run_show::listing(rt, r);
     run_show::words(rt, b", frame 49");
     run_show::small(rt, back[49]);
     run_show::float(rt, score[49]);

@@ -11,12 +11,10 @@ pub fn marks(text: &[u8], mark: u8) -> usize
     ensures { result ≡ marks_of mark text.now }
 {
     let mut n = 0;
-    let mut i = 0;
-    while i < text.len() {
-        if text[i] == mark {
+    for &byte in text {
+        if byte == mark {
             n += 1;
         }
-        i += 1;
     }
     n
 }
@@ -26,17 +24,15 @@ fn start(text: &[u8], mark: u8, k: usize) -> usize
     ensures { (result ≤ length text.now) × (drop result text.now ≡ parts_from mark text.now k) }
 {
     let mut left = k;
-    let mut i = 0;
-    while i < text.len() {
+    for (i, &byte) in text.iter().enumerate() {
         if left == 0 {
             return i;
         }
-        if text[i] == mark {
+        if byte == mark {
             left -= 1;
         }
-        i += 1;
     }
-    i
+    text.len()
 }
 
 // The first place from a place on where a byte is the mark, or the text's end.
@@ -44,14 +40,12 @@ fn find(text: &[u8], from: usize, mark: u8) -> usize
     requires { from ≤ length text.now }
     ensures { (result ≤ length text.now) × (result ≡ from + index_of mark (drop from text.now)) }
 {
-    let mut i = from;
-    while i < text.len() {
+    for i in from..text.len() {
         if text[i] == mark {
             return i;
         }
-        i += 1;
     }
-    i
+    text.len()
 }
 
 // Part k of a text: what stands behind its mark k, up to the next one. Empty where it has fewer.
@@ -84,7 +78,7 @@ pub fn column(line: &[u8], k: usize) -> usize
 pub fn column_within(line: &[u8], k: usize, most: usize) -> usize
     ensures { result ≡ min (case_column line.now k) most }
 {
-    numbers::least(column(line, k), most)
+    column(line, k).min(most)
 }
 
 // The number in column k of a line, or the largest u32.
@@ -108,7 +102,7 @@ fn digit_of(byte: u8) -> usize
 pub fn digit(byte: u8, most: usize) -> usize
     ensures { result ≡ min (case_digit byte) most }
 {
-    numbers::least(digit_of(byte), most)
+    digit_of(byte).min(most)
 }
 
 // The place of a letter from a on.
@@ -147,11 +141,9 @@ pub fn value(byte: u8) -> f64
 pub fn spell(text: &[u8], curve: &mut [f64])
     ensures { curve.new ≡ spelled_in text.now curve.old }
 {
-    let most = numbers::least(text.len(), curve.len());
-    let mut i = 0;
-    while i < most {
+    let most = text.len().min(curve.len());
+    for i in 0..most {
         curve[i] = value(text[i]);
-        i += 1;
     }
 }
 
@@ -175,12 +167,10 @@ pub fn differ(i: usize, first: usize, past: usize, x: f64, y: f64) -> usize
 pub fn changed(old: &[f64], new: &[f64], first: usize, past: usize) -> usize
     ensures { result ≡ differing first past 0 old.now new.now }
 {
-    let most = numbers::least(old.len(), new.len());
+    let most = old.len().min(new.len());
     let mut n = 0;
-    let mut i = 0;
-    while i < most {
+    for i in 0..most {
         n += differ(i, first, past, old[i], new[i]);
-        i += 1;
     }
     n
 }

@@ -7,25 +7,24 @@
 ghost use Rattle.std.specs.Prelude.{◌<◌, ◌≤◌};
 
 use beat_links::penalties::penalty_of;
-use numbers::less;
 
-// Envelopes of at most nine frames, and how many each has.
-const ENVELOPES: [[f64; 9]; 14] = [
-    [0.0, 4.0, 0.0, 4.0, 0.0, 4.0, 0.0, 0.0, 0.0], // 0: M11
-    [1.0, 0.0, 3.0, 1.0, 0.0, 2.0, 5.0, 0.0, 4.0], // 1: unlike frames
-    [5.0, 1.0, 1.0, 5.0, 1.0, 1.0, 5.0, 1.0, 1.0], // 2: ends that tie
-    [0.0, 4.0, 4.0, 4.0, 0.0, 0.0, 0.0, 0.0, 0.0], // 3: a plateau
-    [9.0, -1.0, -2.0, -1.0, -2.0, -1.0, -3.0, 0.0, 0.0], // 4: the first frame, then below zero
-    [-0.0, 4.0, -0.0, -4.0, -0.0, 4.0, 0.0, -4.0, 4.0], // 5: -0 and values below zero
-    [-1.0, -2.0, -3.0, -1.0, -2.0, -3.0, -1.0, -2.0, -3.0], // 6: none above zero
-    [
+// Envelopes of at most nine frames.
+const ENVELOPES: [&[f64]; 14] = [
+    &[0.0, 4.0, 0.0, 4.0, 0.0, 4.0], // 0: M11
+    &[1.0, 0.0, 3.0, 1.0, 0.0, 2.0, 5.0, 0.0, 4.0], // 1: unlike frames
+    &[5.0, 1.0, 1.0, 5.0, 1.0, 1.0, 5.0, 1.0, 1.0], // 2: ends that tie
+    &[0.0, 4.0, 4.0, 4.0, 0.0, 0.0], // 3: a plateau
+    &[9.0, -1.0, -2.0, -1.0, -2.0, -1.0, -3.0], // 4: the first frame, then below zero
+    &[-0.0, 4.0, -0.0, -4.0, -0.0, 4.0, 0.0, -4.0, 4.0], // 5: -0 and values below zero
+    &[-1.0, -2.0, -3.0, -1.0, -2.0, -3.0, -1.0, -2.0, -3.0], // 6: none above zero
+    &[
         1000.0, 1001.0, 1000.0, 1001.0, 1000.0, 1001.0, 1000.0, 1001.0, 1000.0,
     ], // 7: far from 0, so that every extension counts
-    [1000.0, 1001.0, 0.0, 0.0, 0.0, 0.0, 0.0, 0.0, 0.0], // 8: a shorter first gap from frame 0
-    [
+    &[1000.0, 1001.0], // 8: a shorter first gap from frame 0
+    &[
         -1000.0, -1001.0, -1000.0, -999.0, -1000.0, -1001.0, -1000.0, -999.0, -1000.0,
     ], // 9: far below 0
-    [
+    &[
         1152921504606846976.0,
         1152921504606846976.0,
         1152921504606847232.0,
@@ -36,18 +35,10 @@ const ENVELOPES: [[f64; 9]; 14] = [
         1152921504606846976.0,
         1152921504606847488.0,
     ], // 10: 2^60 and the next two floats, where penalties are rounded
-    [0.1, 0.7, 0.2, 0.9, 0.3, 0.6, 0.05, 1.1, 0.4], // 11: sums that round
-    [2.0, 7.0, 1.0, 8.0, 2.0, 8.0, 1.0, 8.0, 0.0], // 12: steps of two
-    [3.0, 3.0, 3.0, 3.0, 0.0, 0.0, 0.0, 0.0, 0.0], // 13: no beats
+    &[0.1, 0.7, 0.2, 0.9, 0.3, 0.6, 0.05, 1.1, 0.4], // 11: sums that round
+    &[2.0, 7.0, 1.0, 8.0, 2.0, 8.0, 1.0, 8.0], // 12: steps of two
+    &[3.0, 3.0, 3.0, 3.0], // 13: no beats
 ];
-
-fn envelope_of(k: usize) -> [f64; 9]
-    requires { k < 14 }
-{
-    ENVELOPES[k]
-}
-
-const FRAMES: [usize; 14] = [6, 9, 9, 6, 7, 9, 9, 9, 2, 9, 9, 9, 8, 4];
 
 const PERIODS: [u32; 6] = [1, 2, 3, 4, 7, 100];
 
@@ -55,9 +46,6 @@ const PERIODS: [u32; 6] = [1, 2, 3, 4, 7, 100];
 const LONG: [f64; 13] = [
     12.0, 8.0, 10.0, 10.0, 10.0, 10.0, 10.0, 10.0, 10.0, 10.0, 10.0, 8.0, 12.0,
 ];
-
-// The sets of one frame.
-const POWERS: [u32; 13] = [1, 2, 4, 8, 16, 32, 64, 128, 256, 512, 1024, 2048, 4096];
 
 // A chain, frame by frame: whether it has begun and each step was allowed, what it scores, its last frame.
 #[derive(Clone, Copy)]
@@ -78,7 +66,7 @@ const NONE: Chained = Chained {
 // Whether a beat at frame t may follow one at frame s: "from max(0, t-2P) to max(0, t-half)", "half = (P+1) div 2".
 fn may_follow(period: u32, s: usize, t: usize) -> bool {
     let p = period as usize;
-    less(t, 2 * p) <= s && s <= less(t, (p + 1) / 2)
+    t.saturating_sub(2 * p) <= s && s <= t.saturating_sub((p + 1) / 2)
 }
 
 // One frame more.
@@ -95,7 +83,7 @@ fn stepped(w: Chained, flux: f64, period: u32, t: usize) -> Chained {
     Chained {
         begun: true,
         allowed: w.allowed && may,
-        score: flux + (w.score + penalty_of(period as usize, less(t, w.last))),
+        score: flux + (w.score + penalty_of(period as usize, t.saturating_sub(w.last))),
         last: t,
     }
 }
@@ -104,18 +92,13 @@ fn stepped(w: Chained, flux: f64, period: u32, t: usize) -> Chained {
 fn walk(envelope: &[f64], scale: f64, period: u32, set: usize) -> Chained {
     let mut w = NONE;
     let mut rest = set;
-    let mut t = 0;
-    while t < envelope.len() {
+    for (t, &flux) in envelope.iter().enumerate() {
         if rest % 2 == 1 {
-            w = stepped(w, envelope[t] * scale, period, t);
+            w = stepped(w, flux * scale, period, t);
         }
-        rest = rest / 2;
-        t += 1;
+        rest /= 2;
     }
-    if rest == 0 {
-        return w;
-    }
-    NONE
+    if rest == 0 { w } else { NONE }
 }
 
 // How many chains there are, how many score more than the grid and how many as much, and the first frame at which one of these ends.
@@ -140,13 +123,13 @@ fn counted(c: Tally, w: Chained, best: f64) -> Tally {
     let mut first = c.first;
     if w.score == best {
         equal = equal.wrapping_add(1);
-        first = numbers::least(first, w.last);
+        first = first.min(w.last);
     }
     Tally {
         chains: c.chains.wrapping_add(1),
-        better: better,
-        equal: equal,
-        first: first,
+        better,
+        equal,
+        first,
     }
 }
 
@@ -158,10 +141,8 @@ fn each_chain(envelope: &[f64], scale: f64, period: u32, best: f64) -> Tally {
         equal: 0,
         first: 13,
     };
-    let mut set = 1;
-    while set < 8192 {
+    for set in 1..8192 {
         c = counted(c, walk(envelope, scale, period, set), best);
-        set += 1;
     }
     c
 }
@@ -170,11 +151,9 @@ fn each_chain(envelope: &[f64], scale: f64, period: u32, best: f64) -> Tally {
 fn scale_of(envelope: &[f64]) -> f64 {
     let mean = lists::mean_of(envelope);
     let mut sum = 0.0;
-    let mut i = 0;
-    while i < envelope.len() {
-        let apart = envelope[i] - mean;
-        sum = sum + apart * apart;
-        i += 1;
+    for &flux in envelope {
+        let apart = flux - mean;
+        sum += apart * apart;
     }
     1.0 / roots::sqrt(sum / lists::float_of(envelope.len()))
 }
@@ -183,16 +162,14 @@ fn scale_of(envelope: &[f64]) -> f64 {
 fn place(frame: u32) -> usize
     ensures { result ≤ 12 }
 {
-    numbers::least(frame as usize, 12)
+    (frame as usize).min(12)
 }
 
 // The set of the frames that are listed.
-fn set_of(beats: &[u32]) -> u32 {
-    let mut set = 0u32;
-    let mut i = 0;
-    while i < beats.len() {
-        set = set.wrapping_add(POWERS[place(beats[i])]);
-        i += 1;
+fn set_of(beats: &[u32]) -> usize {
+    let mut set = 0;
+    for &frame in beats {
+        set |= 1 << place(frame);
     }
     set
 }
@@ -214,18 +191,18 @@ fn run(rt: &impl Print, envelope: &[f64], period: u32) {
     let mut score = [0.0f64; 13];
     let mut back = [0u32; 13];
     let mut beats = [0u32; 13];
-    let r = beats::beat_grid(envelope, period as usize, &mut score, &mut back, &mut beats);
+    let answer = beats::beat_grid(envelope, period as usize, &mut score, &mut back, &mut beats);
+    let count = answer.unwrap_or(0).min(13);
+    let listed = &beats[..count];
     run_show::words(rt, b", beats");
-    let frames = &beats[..];
-    let listed = &frames[0..numbers::least(r.count, 13)];
     run_show::smalls(rt, listed);
-    if r.count == 0 {
+    if count == 0 {
         run_show::words(rt, b" none\n");
         return;
     }
     let scale = scale_of(envelope);
-    let grid = walk(envelope, scale, period, set_of(listed) as usize);
-    let last = place(beats[numbers::least(less(r.count, 1), 12)]);
+    let grid = walk(envelope, scale, period, set_of(listed));
+    let last = place(beats[count - 1]);
     show_grid(rt, grid, last, score[last]);
     let c = each_chain(envelope, scale, period, grid.score);
     run_show::words(rt, b": chains");
@@ -247,24 +224,19 @@ fn name(rt: &impl Print, envelope: usize, period: u32) {
     run_show::small(rt, period);
 }
 
-// Line j: one envelope at one period.
-fn line(rt: &impl Print, j: usize)
-    requires { j < 84 }
-{
-    let e = envelope_of(j / 6);
-    let period = PERIODS[j % 6];
-    name(rt, j / 6, period);
-    run(rt, &e[0..numbers::least(FRAMES[j / 6], 9)], period);
+// The lines of an envelope, one for each period.
+fn lines(rt: &impl Print, k: usize, envelope: &[f64]) {
+    for &period in &PERIODS {
+        name(rt, k, period);
+        run(rt, envelope, period);
+    }
 }
 
 // Each envelope at each period, then the long one.
 fn main(rt: HostRuntime) {
-    let mut j = 0;
-    while j < 84 {
-        line(&rt, j);
-        j += 1;
+    for (k, &envelope) in ENVELOPES.iter().enumerate() {
+        lines(&rt, k, envelope);
     }
     name(&rt, 14, 11);
-    let long = LONG;
-    run(&rt, &long, 11);
+    run(&rt, &LONG, 11);
 }

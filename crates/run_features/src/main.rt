@@ -8,8 +8,6 @@
 
 ghost use Rattle.std.specs.Prelude.{◌<◌};
 
-use numbers::least;
-
 fn main(rt: HostRuntime) {
     bounds(&rt);
     edges(&rt);
@@ -21,7 +19,7 @@ fn main(rt: HostRuntime) {
 fn bounds(rt: &impl Print) {
     table(
         rt,
-        b"three rows, five feature rows|48000|1024|5|3|6147|5120|80|1|0|0
+        "three rows, five feature rows|48000|1024|5|3|6147|5120|80|1|0|0
 rate 0|0|1024|5|3|6147|5120|80|1|0|0
 rate 1|1|1024|5|3|6147|5120|80|1|0|0
 rate 192000|192000|1024|5|3|6147|5120|80|1|0|0
@@ -56,7 +54,7 @@ a magnitude too few and 79 slots and NaN|48000|1024|5|3|6146|5120|79|1|7|4
 fn edges(rt: &impl Print) {
     table(
         rt,
-        b"silence|20480|4096|1|1|2049|4096|16|0|0|0
+        "silence|20480|4096|1|1|2049|4096|16|0|0|0
 0 Hz|20480|4096|1|1|2049|4096|16|0|0|1
 50 Hz|20480|4096|1|1|2049|4096|16|0|10|1
 55 Hz|20480|4096|1|1|2049|4096|16|0|11|1
@@ -79,7 +77,7 @@ fn edges(rt: &impl Print) {
 fn places(rt: &impl Print) {
     table(
         rt,
-        b"length 1023|44100|1023|6|3|6147|5120|96|1|0|0
+        "length 1023|44100|1023|6|3|6147|5120|96|1|0|0
 length 1024|44100|1024|5|3|6147|5120|80|1|0|0
 length 1025|44100|1025|5|3|6147|5120|80|1|0|0
 length 2048|44100|2048|3|3|6147|5120|48|1|0|0
@@ -96,7 +94,7 @@ one sample in the last row|8000|2560|3|3|6147|5121|48|1|0|0\n",
 fn values(rt: &impl Print) {
     table(
         rt,
-        b"-0|48000|1024|5|3|6147|5120|80|1|5000|2
+        "-0|48000|1024|5|3|6147|5120|80|1|5000|2
 2^126|48000|1024|5|3|6147|5120|80|1|5000|3
 the next above 2^126|48000|1024|5|3|6147|5120|80|1|5000|4
 a NaN|48000|1024|5|3|6147|5120|80|1|5000|5
@@ -110,12 +108,9 @@ no samples and -0|48000|1024|0|3|6147|0|80|1|5000|2\n",
     );
 }
 
-fn table(rt: &impl Print, text: &[u8]) {
-    let n = run_cases::marks(text, b'\n');
-    let mut k = 0;
-    while k < n {
-        case(rt, run_cases::part(text, b'\n', k));
-        k += 1;
+fn table(rt: &impl Print, cases: &str) {
+    for line in cases.lines() {
+        case(rt, line.as_bytes());
     }
 }
 
@@ -127,10 +122,10 @@ fn case(rt: &impl Print, line: &[u8]) {
     let room = run_cases::column_within(line, 7, 98);
     let at = run_cases::column(line, 9);
     let what = run_cases::column(line, 10);
-    let magnitudes = magnitudes_of(run_cases::column(line, 8), least(at, 6147), what);
-    let samples = samples_of(least(at, 5120), what);
+    let magnitudes = magnitudes_of(run_cases::column(line, 8), at.min(6147), what);
+    let samples = samples_of(at.min(5120), what);
     let mut features = [9.0f64; 98];
-    let number = features::feature_rows(
+    let answer = features::feature_rows(
         &magnitudes[0..slots],
         run_cases::column(line, 4),
         &samples[0..n],
@@ -139,12 +134,8 @@ fn case(rt: &impl Print, line: &[u8]) {
         run_cases::column(line, 3),
         &mut features[0..room],
     );
-    told(rt, number, &features);
-}
-
-fn told(rt: &impl Print, number: u32, features: &[f64; 98]) {
-    run_show::small(rt, number);
-    run_show::floats(rt, features);
+    run_show::outcome(rt, &answer);
+    run_show::floats(rt, &features);
     run_show::end(rt);
 }
 
@@ -153,15 +144,11 @@ fn magnitudes_of(kind: usize, at: usize, what: usize) -> [f32; 6148]
     requires { at < 6148 }
 {
     let mut m = [0.0f32; 6148];
-    let mut k = 0;
-    while k < 6148 {
-        m[k] = thirteenth(kind, k);
-        k += 1;
+    for (k, value) in m.iter_mut().enumerate() {
+        *value = thirteenth(kind, k);
     }
-    if what > 0 {
-        if what < 7 {
-            m[at] = magnitude(what);
-        }
+    if 0 < what && what < 7 {
+        m[at] = magnitude(what);
     }
     m
 }
@@ -189,10 +176,8 @@ fn samples_of(at: usize, what: usize) -> [f32; 5121]
     requires { at < 5121 }
 {
     let mut s = [0.0f32; 5121];
-    let mut k = 0;
-    while k < 5121 {
-        s[k] = eleventh(k);
-        k += 1;
+    for (k, value) in s.iter_mut().enumerate() {
+        *value = eleventh(k);
     }
     if what > 6 {
         s[at] = sample(what);

@@ -33,10 +33,8 @@ fn main(rt: HostRuntime) {
 
 fn table(rt: &impl Print, text: &[u8]) {
     let n = run_cases::marks(text, b'$');
-    let mut k = 0;
-    while k < n {
+    for k in 0..n {
         run(rt, run_cases::part(text, b'$', k));
-        k += 1;
     }
 }
 
@@ -73,11 +71,8 @@ fn fed(input: &[u8], size: usize, held: &mut [u8], kept: &mut [f32], flux: &mut 
     ensures { Told input.now result flux.old flux.new }
 {
     let mut feed = report_feed::begun();
-    let mut at: usize = 0;
-    while at < input.len() {
-        let end = at + numbers::least(size, input.len() - at);
-        feed = report_feed::take_bytes(&input[at..end], feed, held, kept, flux);
-        at = end;
+    for part in input.chunks(size) {
+        feed = report_feed::take_bytes(part, feed, held, kept, flux);
     }
     report_feed::closed(feed)
 }

@@ -10,7 +10,7 @@ fn main(rt: HostRuntime) {
 }
 
 fn value(rt: &impl Print, x: f32) {
-    if x != x {
+    if x.is_nan() {
         run_show::words(rt, b" nan");
         return;
     }
@@ -20,10 +20,8 @@ fn value(rt: &impl Print, x: f32) {
 fn values(rt: &impl Print, part: &[f32]) {
     run_show::count(rt, part.len());
     run_show::words(rt, b":");
-    let mut i = 0;
-    while i < part.len() {
-        value(rt, part[i]);
-        i += 1;
+    for &x in part {
+        value(rt, x);
     }
 }
 
@@ -43,31 +41,25 @@ fn rows(rt: &impl Print) {
     row(rt, b"the last whole row:", &slab, 2, 2);
     row(rt, b"the part row:", &slab, 2, 3);
     row(rt, b"one past it:", &slab, 2, 4);
-    row(rt, b"row 2^64 - 1:", &slab, 2, 18446744073709551615);
+    row(rt, b"row 2^64 - 1:", &slab, 2, usize::MAX);
 }
 
 fn bins(rt: &impl Print) {
     let slab = [1.0f32, 2.0, 3.0, 4.0, 5.0, 6.0, 7.0];
     row(rt, b"no bins:", &slab, 0, 0);
-    row(
-        rt,
-        b"no bins, row 2^64 - 1:",
-        &slab,
-        0,
-        18446744073709551615,
-    );
+    row(rt, b"no bins, row 2^64 - 1:", &slab, 0, usize::MAX);
     row(rt, b"1 bin, the last row:", &slab, 1, 6);
     row(rt, b"1 bin, one past it:", &slab, 1, 7);
     row(rt, b"as many bins as slots:", &slab, 7, 0);
     row(rt, b"as many bins as slots, one past it:", &slab, 7, 1);
     row(rt, b"one bin more:", &slab, 8, 0);
-    row(rt, b"2^64 - 1 bins:", &slab, 18446744073709551615, 0);
+    row(rt, b"2^64 - 1 bins:", &slab, usize::MAX, 0);
     row(
         rt,
         b"2^64 - 1 bins, row 2^64 - 1:",
         &slab,
-        18446744073709551615,
-        18446744073709551615,
+        usize::MAX,
+        usize::MAX,
     );
 }
 

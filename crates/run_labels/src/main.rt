@@ -1,17 +1,21 @@
 // Runs the calls on label tracks and cue chunks on both sides of each boundary and prints what they answer. The file stdout holds what must come out: the
 // first track and the first chunk were made by hand from document 02, No. 6, and the rest by a reading of it that shares no line with the library.
 //
-// The cases stand in tables, each up to its dollar sign, with bars between the columns: the label, then what the function of that name takes, where (1)
+// The cases stand in tables, with dollar signs between them and bars between the columns: the label, then what the function of that name takes, where (1)
 // is column 1.
 #![tactic(auto)]
 
 ghost use Rattle.std.specs.Prelude.{◌≤◌};
 
-const GRID: usize = 1;
+use numbers::number_of;
 
-const TRACK: usize = 2;
-
-const CHUNK: usize = 3;
+// What a table runs.
+#[derive(Clone, Copy)]
+enum Call {
+    Grid,
+    Track,
+    Chunk,
+}
 
 // bytes that are lent for a track and for a chunk, and slots that are lent for frames
 const TEXT_ROOM: usize = 210;
@@ -36,37 +40,32 @@ fn main(rt: HostRuntime) {
     each_chunk_length(&rt);
 }
 
-fn table(rt: &impl Print, call: usize, text: &[u8]) {
-    let n = run_cases::marks(text, b'$');
-    let mut k = 0;
-    while k < n {
-        run(rt, call, run_cases::part(text, b'$', k));
-        k += 1;
+fn table(rt: &impl Print, call: Call, cases: &[u8]) {
+    for case in cases.split(|byte| *byte == b'$') {
+        run(rt, call, case);
     }
 }
 
-fn run(rt: &impl Print, call: usize, line: &[u8]) {
+fn run(rt: &impl Print, call: Call, line: &[u8]) {
     run_show::words(rt, run_cases::part(line, b'|', 0));
     run_show::end(rt);
-    if call == GRID {
-        return grid(rt, line);
-    }
-    if call == TRACK {
-        return track(
+    match call {
+        Call::Grid => grid(rt, line),
+        Call::Track => track(
             rt,
             run_cases::part(line, b'|', 4),
             run_cases::column_u32(line, 1),
             run_cases::column_within(line, 2, SLOTS),
             run_cases::column_within(line, 3, CHUNK_ROOM),
-        );
+        ),
+        Call::Chunk => chunk(
+            rt,
+            run_cases::part(line, b'|', 4),
+            run_cases::column_u32(line, 1),
+            run_cases::column_within(line, 2, SLOTS),
+            run_cases::column_within(line, 3, TEXT_ROOM),
+        ),
     }
-    chunk(
-        rt,
-        run_cases::part(line, b'|', 4),
-        run_cases::column_u32(line, 1),
-        run_cases::column_within(line, 2, SLOTS),
-        run_cases::column_within(line, 3, TEXT_ROOM),
-    );
 }
 
 // ---- frames are written in both forms, read again and converted
@@ -103,16 +102,14 @@ fn grid_track(rt: &impl Print, frames: [u32; 5], many: usize, rate: u32, room: u
 {
     let needed = labels::labels_room(&frames[0..many], rate);
     run_show::words(rt, b"  room:");
-    run_show::small(rt, needed.number);
-    run_show::count(rt, needed.count);
+    run_show::listing(rt, needed);
     run_show::end(rt);
     let mut text: [u8; 210] = [b'#'; 210];
     let answer = labels::write_labels(&frames[0..many], rate, &mut text[0..room]);
     run_show::words(rt, b"  track:");
-    run_show::small(rt, answer.number);
-    run_show::count(rt, answer.count);
+    run_show::listing(rt, answer);
     run_show::end(rt);
-    let bytes = numbers::least(answer.count, TEXT_ROOM);
+    let bytes = answer.unwrap_or(0).min(TEXT_ROOM);
     written(rt, text, bytes);
     track_of(rt, text, bytes, rate);
 }
@@ -135,13 +132,9 @@ fn track_of(rt: &impl Print, text: [u8; 210], many: usize, rate: u32)
 // The byte behind what was written, where there is one.
 fn behind_text(rt: &impl Print, text: &[u8; 210], at: usize) {
     if at < TEXT_ROOM {
-        run_show::number(rt, wide(text[at]));
+        run_show::number(rt, text[at] as u64);
     }
     run_show::end(rt);
-}
-
-fn wide(x: u8) -> u64 {
-    x as u64
 }
 
 fn grid_chunk(rt: &impl Print, frames: [u32; 5], many: usize, rate: u32, room: usize)
@@ -150,12 +143,11 @@ fn grid_chunk(rt: &impl Print, frames: [u32; 5], many: usize, rate: u32, room: u
     let mut bytes: [u8; 140] = [b'#'; 140];
     let answer = cues::write_cues(&frames[0..many], &mut bytes[0..room]);
     run_show::words(rt, b"  chunk:");
-    run_show::small(rt, answer.number);
-    run_show::count(rt, answer.count);
+    run_show::listing(rt, answer);
     run_show::words(rt, b":");
     bytes_of(rt, &bytes);
     run_show::end(rt);
-    chunk_of(rt, bytes, numbers::least(answer.count, CHUNK_ROOM), rate);
+    chunk_of(rt, bytes, answer.unwrap_or(0).min(CHUNK_ROOM), rate);
 }
 
 fn chunk_of(rt: &impl Print, bytes: [u8; 140], many: usize, rate: u32)
@@ -165,21 +157,15 @@ fn chunk_of(rt: &impl Print, bytes: [u8; 140], many: usize, rate: u32)
 }
 
 fn bytes_of(rt: &impl Print, bytes: &[u8; 140]) {
-    let mut i = 0;
-    while i < CHUNK_ROOM {
-        run_show::number(rt, wide(bytes[i]));
-        i += 1;
+    for &byte in bytes {
+        run_show::number(rt, byte as u64);
     }
-}
-
-fn five(rt: &impl Print, frames: &[u32; 5]) {
-    run_show::smalls(rt, frames);
 }
 
 fn grids(rt: &impl Print) {
     table(
         rt,
-        GRID,
+        Call::Grid,
         b"\
           two frames at 48,000|48000|210|140|2|0|1$\
           no frames|48000|210|140|0$\
@@ -190,14 +176,14 @@ fn grids(rt: &impl Print) {
           times halfway between two microseconds|65536|210|140|4|0|1|2|3$\
           below and above ten seconds|48000|210|140|2|1872|1873$\
           room exactly|48000|46|60|2|0|1$\
-          no frames and no room for a track|48000|0|12|0$",
+          no frames and no room for a track|48000|0|12|0",
     );
 }
 
 fn refused_grids(rt: &impl Print) {
     table(
         rt,
-        GRID,
+        Call::Grid,
         b"\
           rate 0|0|210|140|2|0|1$\
           rate 192,001|192001|210|140|2|0|1$\
@@ -208,7 +194,7 @@ fn refused_grids(rt: &impl Print) {
           a byte short of no frames|48000|0|11|0$\
           1 before 11, the rate|0|0|0|2|5|5$\
           1 before 11, a frame|48000|0|0|3|5|5|1048576$\
-          11 before 3|48000|0|0|2|5|5$",
+          11 before 3|48000|0|0|2|5|5",
     );
 }
 
@@ -221,16 +207,14 @@ fn track(rt: &impl Print, text: &[u8], rate: u32, slots: usize, room: usize)
     let mut frames: [u32; 5] = [7; 5];
     let answer = labels::read_labels(text, rate, &mut frames[0..slots]);
     run_show::words(rt, b"  read:");
-    run_show::small(rt, answer.number);
-    run_show::count(rt, answer.count);
+    run_show::listing(rt, answer);
     run_show::words(rt, b":");
-    five(rt, &frames);
+    run_show::smalls(rt, &frames);
     run_show::end(rt);
     let mut bytes: [u8; 140] = [b'#'; 140];
     let made = label_cues::labels_to_cues(text, rate, &mut bytes[0..room]);
     run_show::words(rt, b"  to cues:");
-    run_show::small(rt, made.number);
-    run_show::count(rt, made.count);
+    run_show::listing(rt, made);
     run_show::words(rt, b":");
     bytes_of(rt, &bytes);
     run_show::end(rt);
@@ -239,7 +223,7 @@ fn track(rt: &impl Print, text: &[u8], rate: u32, slots: usize, room: usize)
 fn tracks(rt: &impl Print) {
     table(
         rt,
-        TRACK,
+        Call::Track,
         b"\
           two labels|48000|5|140|0.010667\t0.010667\tbeat\n0.016000\t0.016000\tbeat\n$\
           exactly the slots and the bytes|48000|2|60|0.010667\t0.010667\tbeat\n0.016000\t0.016000\tbeat\n$\
@@ -278,7 +262,7 @@ fn tracks(rt: &impl Print) {
           a mark of byte order|48000|5|140|\xEF\xBB\xBF0.010667\t0.010667\tbeat\n$\
           a line of frequencies|48000|5|140|0.010667\t0.010667\tbeat\n\\\t0.000000\t0.000000\n$\
           twice the same|48000|5|140|0.010667\t0.010667\tbeat\n0.010667\t0.010667\tbeat\n$\
-          the later first|48000|5|140|0.016000\t0.016000\tbeat\n0.010667\t0.010667\tbeat\n$",
+          the later first|48000|5|140|0.016000\t0.016000\tbeat\n0.010667\t0.010667\tbeat\n",
     );
 }
 
@@ -286,7 +270,7 @@ fn tracks(rt: &impl Print) {
 fn track_orders(rt: &impl Print) {
     table(
         rt,
-        TRACK,
+        Call::Track,
         b"\
           1 before 9|0|0|0|x$\
           1 before 10|192001|0|0|0.010666\t0.010666\tbeat\n$\
@@ -294,7 +278,7 @@ fn track_orders(rt: &impl Print) {
           10 before 11, the last line|48000|0|0|0.016000\t0.016000\tbeat\n0.010667\t0.010667\tbeat\n0.010666\t0.010666\tbeat\n$\
           9 before 11, the last line|48000|0|0|0.016000\t0.016000\tbeat\n0.010667\t0.010667\tbeat\nx$\
           11 before 3|48000|0|0|0.016000\t0.016000\tbeat\n0.010667\t0.010667\tbeat\n$\
-          3|48000|0|0|0.010667\t0.010667\tbeat\n$",
+          3|48000|0|0|0.010667\t0.010667\tbeat\n",
     );
 }
 
@@ -307,24 +291,22 @@ fn chunk(rt: &impl Print, bytes: &[u8], rate: u32, slots: usize, room: usize)
     let mut frames: [u32; 5] = [7; 5];
     let answer = cues::read_cues(bytes, &mut frames[0..slots]);
     run_show::words(rt, b"  read:");
-    run_show::small(rt, answer.number);
-    run_show::count(rt, answer.count);
+    run_show::listing(rt, answer);
     run_show::words(rt, b":");
-    five(rt, &frames);
+    run_show::smalls(rt, &frames);
     run_show::end(rt);
     let mut text: [u8; 210] = [b'#'; 210];
     let made = label_cues::cues_to_labels(bytes, rate, &mut text[0..room]);
     run_show::words(rt, b"  to labels:");
-    run_show::small(rt, made.number);
-    run_show::count(rt, made.count);
+    run_show::listing(rt, made);
     run_show::end(rt);
-    written(rt, text, numbers::least(made.count, TEXT_ROOM));
+    written(rt, text, made.unwrap_or(0).min(TEXT_ROOM));
 }
 
 fn chunks(rt: &impl Print) {
     table(
         rt,
-        CHUNK,
+        Call::Chunk,
         b"\
           one point|48000|5|210|cue \x1C\0\0\0\x01\0\0\0\x01\0\0\0\0\x02\0\0data\0\0\0\0\0\0\0\0\0\x02\0\0$\
           exactly the slots and the bytes|48000|1|23|cue \x1C\0\0\0\x01\0\0\0\x01\0\0\0\0\x02\0\0data\0\0\0\0\0\0\0\0\0\x02\0\0$\
@@ -354,7 +336,7 @@ fn chunks(rt: &impl Print) {
           a byte short|48000|5|210|cue \x1C\0\0\0\x01\0\0\0\x01\0\0\0\0\x02\0\0data\0\0\0\0\0\0\0\0\0\x02\0$\
           a count that would wrap|48000|5|210|cue \x04\0\0\0\0\0\0\x20$\
           eleven bytes|48000|5|210|cue \x04\0\0\0\0\0\0$\
-          nothing|48000|5|210|$",
+          nothing|48000|5|210|",
     );
 }
 
@@ -362,7 +344,7 @@ fn chunks(rt: &impl Print) {
 fn chunk_orders(rt: &impl Print) {
     table(
         rt,
-        CHUNK,
+        Call::Chunk,
         b"\
           1 before 9|0|0|0|x$\
           1 before 10|192001|0|0|cue \x1C\0\0\0\x01\0\0\0\x01\0\0\0\0\0\0\0data\0\0\0\0\0\0\0\0\0\0\0\0$\
@@ -372,7 +354,7 @@ fn chunk_orders(rt: &impl Print) {
           \x02\0\0\0\0\x02\0\0data\0\0\0\0\0\0\0\0\0\x02\0\0\x03\0\0\0\0\0\0\0data\0\0\0\0\0\0\0\0\0\0\0\0$\
           11 before 3|48000|0|0|cue \x34\0\0\0\x02\0\0\0\x01\0\0\0\0\x03\0\0data\0\0\0\0\0\0\0\0\0\x03\0\0\
           \x02\0\0\0\0\x03\0\0data\0\0\0\0\0\0\0\0\0\x03\0\0$\
-          3|48000|0|0|cue \x1C\0\0\0\x01\0\0\0\x01\0\0\0\0\x02\0\0data\0\0\0\0\0\0\0\0\0\x02\0\0$",
+          3|48000|0|0|cue \x1C\0\0\0\x01\0\0\0\x01\0\0\0\0\x02\0\0data\0\0\0\0\0\0\0\0\0\x02\0\0",
     );
 }
 
@@ -401,8 +383,7 @@ fn long_number(first: u8, digit: u8) -> u32 {
     text[2019] = b't';
     text[2020] = b'\n';
     let mut frames: [u32; 1] = [7];
-    let answer = labels::read_labels(&text, 48000, &mut frames);
-    answer.number
+    number_of(&labels::read_labels(&text, 48000, &mut frames))
 }
 
 // ---- each change of one byte, and each length
@@ -411,55 +392,47 @@ fn long_number(first: u8, digit: u8) -> u32 {
 // offsets, of the last label or point change alike.
 fn each_track_change(rt: &impl Print) {
     let text = two_labels();
-    let mut place = 0;
-    while place < 46 {
+    for place in 0..46 {
         run_show::words(rt, b"track byte");
         text_changes(rt, text, place, place);
-        place += 1;
     }
 }
 
 fn both_times(rt: &impl Print) {
     let text = two_labels();
-    let mut place = 23;
-    while place < 31 {
+    for place in 23..31 {
         run_show::words(rt, b"both times byte");
         text_changes(rt, text, place, place + 9);
-        place += 1;
     }
 }
 
 fn each_chunk_change(rt: &impl Print) {
     let bytes = two_points();
-    let mut place = 0;
-    while place < 60 {
+    for place in 0..60 {
         run_show::words(rt, b"chunk byte");
         chunk_changes(rt, bytes, place, place);
-        place += 1;
     }
 }
 
 fn both_offsets(rt: &impl Print) {
     let bytes = two_points();
-    let mut place = 40;
-    while place < 44 {
+    for place in 40..44 {
         run_show::words(rt, b"both offsets byte");
         chunk_changes(rt, bytes, place, place + 16);
-        place += 1;
     }
 }
 
 fn two_labels() -> [u8; 46] {
     let frames: [u32; 2] = [0, 1];
     let mut text: [u8; 46] = [0; 46];
-    labels::write_labels(&frames, 48000, &mut text);
+    let _ = labels::write_labels(&frames, 48000, &mut text);
     text
 }
 
 fn two_points() -> [u8; 60] {
     let frames: [u32; 2] = [0, 1];
     let mut bytes: [u8; 60] = [0; 60];
-    cues::write_cues(&frames, &mut bytes);
+    let _ = cues::write_cues(&frames, &mut bytes);
     bytes
 }
 
@@ -468,13 +441,11 @@ fn text_changes(rt: &impl Print, text: [u8; 46], place: usize, again: usize)
 {
     let mut other = text;
     let mut tally: [u32; 12] = [0; 12];
-    let mut step: u32 = 1;
-    while step < 256 {
+    for _ in 1..256 {
         let next = other[place].wrapping_add(1);
         other[place] = next;
         other[again] = next;
         count_number(&mut tally, text_number(other));
-        step += 1;
     }
     told(rt, place, tally);
 }
@@ -484,13 +455,11 @@ fn chunk_changes(rt: &impl Print, bytes: [u8; 60], place: usize, again: usize)
 {
     let mut other = bytes;
     let mut tally: [u32; 12] = [0; 12];
-    let mut step: u32 = 1;
-    while step < 256 {
+    for _ in 1..256 {
         let next = other[place].wrapping_add(1);
         other[place] = next;
         other[again] = next;
         count_number(&mut tally, chunk_number(other));
-        step += 1;
     }
     told(rt, place, tally);
 }
@@ -514,24 +483,20 @@ fn told(rt: &impl Print, place: usize, tally: [u32; 12]) {
 
 fn text_number(text: [u8; 46]) -> u32 {
     let mut frames: [u32; 5] = [7; 5];
-    let answer = labels::read_labels(&text, 48000, &mut frames);
-    answer.number
+    number_of(&labels::read_labels(&text, 48000, &mut frames))
 }
 
 fn chunk_number(bytes: [u8; 60]) -> u32 {
     let mut frames: [u32; 5] = [7; 5];
-    let answer = cues::read_cues(&bytes, &mut frames);
-    answer.number
+    number_of(&cues::read_cues(&bytes, &mut frames))
 }
 
 // The number of the first bytes of both, for each length.
 fn each_track_length(rt: &impl Print) {
     let text = two_labels();
     run_show::words(rt, b"track lengths 0 to 46:");
-    let mut many = 0;
-    while many <= 46 {
+    for many in 0..=46 {
         run_show::small(rt, first_text(text, many));
-        many += 1;
     }
     run_show::end(rt);
 }
@@ -539,10 +504,8 @@ fn each_track_length(rt: &impl Print) {
 fn each_chunk_length(rt: &impl Print) {
     let bytes = two_points();
     run_show::words(rt, b"chunk lengths 0 to 60:");
-    let mut many = 0;
-    while many <= 60 {
+    for many in 0..=60 {
         run_show::small(rt, first_chunk(bytes, many));
-        many += 1;
     }
     run_show::end(rt);
 }
@@ -551,14 +514,12 @@ fn first_text(text: [u8; 46], many: usize) -> u32
     requires { many ≤ 46 }
 {
     let mut frames: [u32; 5] = [7; 5];
-    let answer = labels::read_labels(&text[0..many], 48000, &mut frames);
-    answer.number
+    number_of(&labels::read_labels(&text[0..many], 48000, &mut frames))
 }
 
 fn first_chunk(bytes: [u8; 60], many: usize) -> u32
     requires { many ≤ 60 }
 {
     let mut frames: [u32; 5] = [7; 5];
-    let answer = cues::read_cues(&bytes[0..many], &mut frames);
-    answer.number
+    number_of(&cues::read_cues(&bytes[0..many], &mut frames))
 }

@@ -5,15 +5,17 @@
 // (1) is column 1.
 #![tactic(auto)]
 
+use lags::LagRange;
 use options::TempoOpts;
 
-const DEFAULTS: usize = 1;
-
-const RANGE: usize = 2;
-
-const APART: usize = 3;
-
-const FOLDS: usize = 4;
+// What a table runs.
+#[derive(Clone, Copy)]
+enum Call {
+    Defaults,
+    Range,
+    Apart,
+    Folds,
+}
 
 fn main(rt: HostRuntime) {
     rates(&rt);
@@ -25,27 +27,20 @@ fn main(rt: HostRuntime) {
     long_beat(&rt);
 }
 
-fn table(rt: &impl Print, call: usize, lines: &[u8]) {
-    let n = run_cases::marks(lines, b'\n');
-    let mut k = 0;
-    while k < n {
-        run(rt, call, run_cases::part(lines, b'\n', k));
-        k += 1;
+fn table(rt: &impl Print, call: Call, cases: &str) {
+    for line in cases.lines() {
+        run(rt, call, line.as_bytes());
     }
 }
 
-fn run(rt: &impl Print, call: usize, line: &[u8]) {
+fn run(rt: &impl Print, call: Call, line: &[u8]) {
     run_show::words(rt, run_cases::part(line, b'|', 0));
-    if call == DEFAULTS {
-        return range_of(rt, run_cases::column_u32(line, 1), TempoOpts::new());
+    match call {
+        Call::Defaults => range_of(rt, run_cases::column_u32(line, 1), TempoOpts::new()),
+        Call::Range => range(rt, line),
+        Call::Apart => apart(rt, run_cases::column(line, 1), run_cases::column(line, 2)),
+        Call::Folds => folds(rt, run_cases::column(line, 1), run_cases::column(line, 2)),
     }
-    if call == RANGE {
-        return range(rt, line);
-    }
-    if call == APART {
-        return apart(rt, run_cases::column(line, 1), run_cases::column(line, 2));
-    }
-    folds(rt, run_cases::column(line, 1), run_cases::column(line, 2));
 }
 
 // ---- ranges
@@ -53,8 +48,8 @@ fn run(rt: &impl Print, call: usize, line: &[u8]) {
 fn rates(rt: &impl Print) {
     table(
         rt,
-        DEFAULTS,
-        b"rate 0:|0
+        Call::Defaults,
+        "rate 0:|0
 rate 1:|1
 rate 192000:|192000
 rate 192001:|192001
@@ -73,8 +68,8 @@ fn bounds(rt: &impl Print) {
     );
     table(
         rt,
-        RANGE,
-        b"0 to 0:|48000|0|0
+        Call::Range,
+        "0 to 0:|48000|0|0
 -0 to 0:|48000|z|0
 -5 to -1:|48000|-5|-1
 300 to -300:|48000|300|-300
@@ -103,8 +98,8 @@ fn far_bounds(rt: &impl Print) {
 fn no_bounds(rt: &impl Print) {
     table(
         rt,
-        RANGE,
-        b"NaN to 300:|48000|n|300
+        Call::Range,
+        "NaN to 300:|48000|n|300
 30 to NaN:|48000|30|n
 30 to infinity:|48000|30|i
 -infinity to 300:|48000|j|300
@@ -137,7 +132,7 @@ fn bound(text: &[u8]) -> f64 {
     if text.len() == 1 {
         return run_cases::value(text[0]);
     }
-    let n = (numbers::least(run_cases::number(text), 4294967295) as u32) as f64;
+    let n = (run_cases::number(text).min(4294967295) as u32) as f64;
     if text[0] == b'-' {
         return -n;
     }
@@ -149,9 +144,16 @@ fn between(rt: &impl Print, label: &[u8], rate: u32, min_bpm: f64, max_bpm: f64)
     range_of(rt, rate, TempoOpts::between(min_bpm, max_bpm));
 }
 
+// What is printed where no lags are named.
+const NO_LAGS: LagRange = LagRange {
+    min_lag: 0,
+    max_lag: 0,
+};
+
 fn range_of(rt: &impl Print, rate: u32, opts: TempoOpts) {
-    let r = lags::lag_range(rate, opts);
-    run_show::small(rt, r.number);
+    let answer = lags::lag_range(rate, opts);
+    run_show::outcome(rt, &answer);
+    let r = answer.unwrap_or(NO_LAGS);
     run_show::count(rt, r.min_lag);
     run_show::count(rt, r.max_lag);
     run_show::end(rt);
@@ -162,8 +164,8 @@ fn range_of(rt: &impl Print, rate: u32, opts: TempoOpts) {
 fn pairs(rt: &impl Print) {
     table(
         rt,
-        APART,
-        b"apart 22 20|22|20
+        Call::Apart,
+        "apart 22 20|22|20
 apart 23 20|23|20
 apart 20 18|20|18
 apart 18 20|18|20
@@ -177,8 +179,8 @@ apart 40499 45000|40499|45000\n",
     );
     table(
         rt,
-        FOLDS,
-        b"folds 40 38|40|38
+        Call::Folds,
+        "folds 40 38|40|38
 folds 40 42|40|42
 folds 40 19|40|19
 folds 40 37|40|37

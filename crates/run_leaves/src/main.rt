@@ -13,27 +13,17 @@ use std::io::Read;
 fn digit(b: u8) -> u64
     ensures { result < 16 }
 {
-    if b < 48 {
-        return 0;
+    match b {
+        b'0'..=b'9' => (b - b'0') as u64,
+        b'a'..=b'f' => (b - b'a') as u64 + 10,
+        _ => 0,
     }
-    if b < 58 {
-        return (b - 48) as u64;
-    }
-    if b < 97 {
-        return 0;
-    }
-    if b < 103 {
-        return (b - 87) as u64;
-    }
-    0
 }
 
 fn number(line: &[u8; 17]) -> u64 {
     let mut n = 0u64;
-    let mut i = 0;
-    while i < 16 {
-        n = n % 0x1000_0000_0000_0000 * 16 + digit(line[i]);
-        i += 1;
+    for &byte in &line[..16] {
+        n = n % 0x1000_0000_0000_0000 * 16 + digit(byte);
     }
     n
 }
@@ -68,9 +58,10 @@ fn next(input: &mut impl Read, line: &mut [u8; 17]) -> bool {
 fn main(rt: HostRuntime) {
     let mut input = rt.reader();
     let mut line = [0u8; 17];
-    let mut most = 1_000_000u64;
-    while most > 0 && next(&mut input, &mut line) {
+    for _ in 0..1_000_000 {
+        if !next(&mut input, &mut line) {
+            break;
+        }
         answer(&rt, number(&line));
-        most -= 1;
     }
 }

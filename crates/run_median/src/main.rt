@@ -4,14 +4,14 @@
 
 ghost use Rattle.std.specs.Prelude.{◌≤◌};
 
-use median::Answer;
+use numbers::Refusal;
 
 // The cases, one to a line: a dot for median_of, or for mad_of the median by its letter; the values by their letter, from one number up to the
 // next; how many of five slots are lent; and what the line begins with.
 fn main(rt: HostRuntime) {
     each_case(
         &rt,
-        b"\
+        "\
           . a04 4 median of 4, 1, 3, 2 in 4 slots:\n\
           . a04 5 in 5 slots:\n\
           . a04 3 in 3 slots:\n\
@@ -105,12 +105,9 @@ fn median_from(byte: u8) -> f64 {
 }
 
 // Runs each case of a text.
-fn each_case(rt: &impl Print, text: &[u8]) {
-    let n = run_cases::marks(text, b'\n');
-    let mut k = 0;
-    while k < n {
-        case(rt, run_cases::part(text, b'\n', k));
-        k += 1;
+fn each_case(rt: &impl Print, cases: &str) {
+    for line in cases.lines() {
+        case(rt, line.as_bytes());
     }
 }
 
@@ -128,7 +125,7 @@ fn case(rt: &impl Print, c: &[u8]) {
 }
 
 fn line(rt: &impl Print, kind: u8, values: &[f64], room: usize) {
-    if kind == 46 {
+    if kind == b'.' {
         median_line(rt, values, room);
         return;
     }
@@ -138,44 +135,32 @@ fn line(rt: &impl Print, kind: u8, values: &[f64], room: usize) {
 // The median with the first `room` of five slots lent.
 fn median_line(rt: &impl Print, values: &[f64], room: usize) {
     let mut work = [9.0f64; 5];
-    let a = median::median_of(values, &mut work[0..numbers::least(room, 5)]);
-    told(rt, a, numbers::least(values.len(), 5), &work);
+    let a = median::median_of(values, &mut work[0..room.min(5)]);
+    told(rt, a, values.len().min(5), &work);
 }
 
 fn mad_line(rt: &impl Print, values: &[f64], median: f64, room: usize) {
     let mut work = [9.0f64; 5];
-    let a = median::mad_of(values, median, &mut work[0..numbers::least(room, 5)]);
-    told(rt, a, numbers::least(values.len(), 5), &work);
+    let a = median::mad_of(values, median, &mut work[0..room.min(5)]);
+    told(rt, a, values.len().min(5), &work);
 }
 
 // The end of a line: the answer, and the slots that must not have changed.
-fn told(rt: &impl Print, a: Answer, n: usize, work: &[f64; 5])
+fn told(rt: &impl Print, a: Result<f64, Refusal>, n: usize, work: &[f64; 5])
     requires { n ≤ 5 }
 {
-    answer(rt, a);
+    match a {
+        Ok(x) => run_show::float(rt, x),
+        Err(refusal) => run_show::refused(rt, refusal),
+    }
     run_show::words(rt, b", kept");
-    let open = open_slots(a, n);
-    let all = &work[..];
-    run_show::floats(rt, &all[open..]);
+    run_show::floats(rt, &work[open_slots(a, n)..]);
     run_show::end(rt);
 }
 
-fn answer(rt: &impl Print, a: Answer) {
-    match a {
-        Answer::Value(x) => run_show::float(rt, x),
-        Answer::Refused(number) => {
-            run_show::words(rt, b" refused");
-            run_show::small(rt, number);
-        }
-    }
-}
-
 // How many slots of the work slice are left open.
-fn open_slots(a: Answer, n: usize) -> usize
+fn open_slots(a: Result<f64, Refusal>, n: usize) -> usize
     ensures { result ≤ n }
 {
-    match a {
-        Answer::Value(_) => n,
-        Answer::Refused(_) => 0,
-    }
+    if a.is_ok() { n } else { 0 }
 }

@@ -2,15 +2,18 @@
 // the first three files were made by hand from the Standard MIDI Files specification, the rest by a reading of document 02, No. 3, that shares no
 // line with the library.
 //
-// The cases stand in tables, each up to its dollar sign, with bars between the columns: the label, then what the function of that name takes, where (1)
+// The cases stand in tables, with dollar signs between them and bars between the columns: the label, then what the function of that name takes, where (1)
 // is column 1.
 #![tactic(auto)]
 
 ghost use Rattle.std.specs.Prelude.{◌≤◌};
 
-const GRID: usize = 1;
-
-const FILE: usize = 2;
+// What a table runs.
+#[derive(Clone, Copy)]
+enum Call {
+    Grid,
+    File,
+}
 
 // bytes that are lent to the writer, and slots that are lent to the reader
 const ROOM: usize = 60;
@@ -27,22 +30,18 @@ fn main(rt: HostRuntime) {
     each_length(&rt);
 }
 
-fn table(rt: &impl Print, call: usize, text: &[u8]) {
-    let n = run_cases::marks(text, b'$');
-    let mut k = 0;
-    while k < n {
-        run(rt, call, run_cases::part(text, b'$', k));
-        k += 1;
+fn table(rt: &impl Print, call: Call, cases: &[u8]) {
+    for case in cases.split(|byte| *byte == b'$') {
+        run(rt, call, case);
     }
 }
 
-fn run(rt: &impl Print, call: usize, line: &[u8]) {
+fn run(rt: &impl Print, call: Call, line: &[u8]) {
     run_show::words(rt, run_cases::part(line, b'|', 0));
-    if call == GRID {
-        return grid(rt, line);
+    match call {
+        Call::Grid => grid(rt, line),
+        Call::File => read(rt, run_cases::part(line, b'|', 1), SLOTS),
     }
-    let mut slots: [u32; 5] = [7; 5];
-    read(rt, run_cases::part(line, b'|', 1), &mut slots);
     run_show::end(rt);
 }
 
@@ -66,48 +65,35 @@ fn grid(rt: &impl Print, line: &[u8]) {
         run_cases::column_u32(line, 1),
         &mut file[0..room],
     );
-    run_show::small(rt, answer.number);
-    run_show::count(rt, answer.count);
+    run_show::listing(rt, answer);
     run_show::words(rt, b":");
     bytes(rt, &file);
     run_show::end(rt);
     run_show::words(rt, b"  read:");
-    read_back(rt, file, numbers::least(answer.count, ROOM), slots);
-    run_show::end(rt);
+    read(rt, &file[0..answer.unwrap_or(0).min(ROOM)], slots);
 }
 
 fn bytes(rt: &impl Print, file: &[u8; 60]) {
-    let mut i = 0;
-    while i < ROOM {
-        byte(rt, file[i]);
-        i += 1;
+    for &byte in file {
+        run_show::number(rt, byte as u64);
     }
 }
 
-fn byte(rt: &impl Print, x: u8) {
-    run_show::number(rt, x as u64);
-}
-
-// The first bytes of a file, so many, into so many slots.
-fn read_back(rt: &impl Print, file: [u8; 60], many: usize, slots: usize)
-    requires { (many ≤ 60) × (slots ≤ 5) }
+// Reads a file into so many slots, and tells the gaps that it has.
+fn read(rt: &impl Print, file: &[u8], slots: usize)
+    requires { slots ≤ 5 }
 {
     let mut gaps: [u32; 5] = [7; 5];
-    let answer = midi::read_tempo_track(&file[0..many], &mut gaps[0..slots]);
-    run_show::small(rt, answer.number);
-    run_show::count(rt, answer.count);
+    let answer = midi::read_tempo_track(file, &mut gaps[0..slots]);
+    run_show::listing(rt, answer);
     run_show::words(rt, b":");
-    five(rt, &gaps);
-}
-
-fn five(rt: &impl Print, gaps: &[u32; 5]) {
-    run_show::smalls(rt, gaps);
+    run_show::smalls(rt, &gaps);
 }
 
 fn tracks(rt: &impl Print) {
     table(
         rt,
-        GRID,
+        Call::Grid,
         b"\
           two beats|44100|60|5|2|0|10$\
           three beats|44100|60|5|3|0|10|25$\
@@ -115,14 +101,14 @@ fn tracks(rt: &impl Print) {
           errors do not add up|48000|60|5|5|3|97|190|284|378$\
           room and slots exactly|44100|40|2|3|0|10|25$\
           times halfway between two microseconds|65536|60|5|4|0|1|2|3$\
-          the last two frames|44100|60|5|2|1048574|1048575$",
+          the last two frames|44100|60|5|2|1048574|1048575",
     );
 }
 
 fn gaps(rt: &impl Print) {
     table(
         rt,
-        GRID,
+        Call::Grid,
         b"\
           a gap of 16,777,215|10849|60|5|2|0|711$\
           a gap of 16,777,216|15625|60|5|2|0|1024$\
@@ -130,14 +116,14 @@ fn gaps(rt: &impl Print) {
           one frame at rate 16|16|60|5|2|0|1$\
           one frame at rate 15|15|60|5|2|0|1$\
           one frame at rate 1|1|60|5|2|0|1$\
-          from the first frame to the last|192000|60|5|2|0|1048575$",
+          from the first frame to the last|192000|60|5|2|0|1048575",
     );
 }
 
 fn refused(rt: &impl Print) {
     table(
         rt,
-        GRID,
+        Call::Grid,
         b"\
           rate 0|0|60|5|2|0|10$\
           rate 192,001|192001|60|5|2|0|10$\
@@ -149,7 +135,7 @@ fn refused(rt: &impl Print) {
           equal beats at the end|44100|60|5|3|5|6|6$\
           a byte short|44100|32|5|2|0|10$\
           a slot short|44100|60|1|3|0|10|25$\
-          no slots|44100|60|0|2|0|10$",
+          no slots|44100|60|0|2|0|10",
     );
 }
 
@@ -157,32 +143,23 @@ fn refused(rt: &impl Print) {
 fn orders(rt: &impl Print) {
     table(
         rt,
-        GRID,
+        Call::Grid,
         b"\
           1 before 6, the rate|0|0|5|0$\
           1 before 6, a frame|44100|0|5|2|1048576|5$\
           1 before 7|44100|0|5|2|0|1048576$\
           6 before 7|15625|0|5|3|0|1024|1024$\
           7 before 3|15625|0|5|2|0|1024$\
-          6 before 3|44100|0|5|1|5$",
+          6 before 3|44100|0|5|1|5",
     );
 }
 
 // ---- files that another wrote
 
-// Reads a file, and tells the gaps that it has.
-fn read(rt: &impl Print, file: &[u8], slots: &mut [u32; 5]) {
-    let answer = midi::read_tempo_track(file, slots);
-    run_show::small(rt, answer.number);
-    run_show::count(rt, answer.count);
-    run_show::words(rt, b":");
-    five(rt, slots);
-}
-
 fn files(rt: &impl Print) {
     table(
         rt,
-        FILE,
+        Call::File,
         b"\
           two gaps|MThd\x00\x00\x00\x06\x00\x00\x00\x01\x00\x60MTrk\x00\x00\x00\x12\
           \x00\xFF\x51\x03\x00\xE2\xC2\x60\xFF\x51\x03\x01\x54\x23\x60\xFF\x2F\x00$\
@@ -228,7 +205,7 @@ fn files(rt: &impl Print) {
           \x00\xFF\x51\x03\x00\xE2\xC2\x60\xFF\x2F\x00XFIH\x00\x00\x00\x00$\
           a name before the tempo|MThd\x00\x00\x00\x06\x00\x00\x00\x01\x00\x60MTrk\x00\x00\x00\x12\
           \x00\xFF\x03\x03abc\x00\xFF\x51\x03\x00\xE2\xC2\x60\xFF\x2F\x00$\
-          no bytes|$",
+          no bytes|",
     );
 }
 
@@ -238,17 +215,15 @@ fn files(rt: &impl Print) {
 fn two_beats() -> [u8; 33] {
     let beats: [u32; 2] = [0, 10];
     let mut file: [u8; 33] = [0; 33];
-    midi::write_tempo_track(&beats, 44100, &mut file);
+    let _ = midi::write_tempo_track(&beats, 44100, &mut file);
     file
 }
 
 // How many of the 255 changes of each byte are read, and the sum of the gaps that they tell.
 fn each_change(rt: &impl Print) {
     let file = two_beats();
-    let mut place = 0;
-    while place < 33 {
+    for place in 0..33 {
         changes(rt, file, place);
-        place += 1;
     }
 }
 
@@ -258,15 +233,13 @@ fn changes(rt: &impl Print, file: [u8; 33], place: usize)
     let mut other = file;
     let mut many: u64 = 0;
     let mut sum: u64 = 0;
-    let mut step: u32 = 1;
-    while step < 256 {
+    for _ in 1..256 {
         other[place] = other[place].wrapping_add(1);
         let told = told_by(other);
         if told != 0 {
             many = many.wrapping_add(1);
             sum = sum.wrapping_add(told as u64);
         }
-        step += 1;
     }
     run_show::words(rt, b"byte");
     run_show::count(rt, place);
@@ -279,7 +252,7 @@ fn changes(rt: &impl Print, file: [u8; 33], place: usize)
 // The gap of such a file, or 0 where it is refused.
 fn told_by(file: [u8; 33]) -> u32 {
     let mut gaps: [u32; 1] = [0];
-    midi::read_tempo_track(&file, &mut gaps);
+    let _ = midi::read_tempo_track(&file, &mut gaps);
     gaps[0]
 }
 
@@ -287,20 +260,17 @@ fn told_by(file: [u8; 33]) -> u32 {
 fn each_length(rt: &impl Print) {
     let beats: [u32; 3] = [0, 10, 25];
     let mut file: [u8; 60] = [0; 60];
-    midi::write_tempo_track(&beats, 44100, &mut file);
+    let _ = midi::write_tempo_track(&beats, 44100, &mut file);
     run_show::words(rt, b"lengths 0 to 60:");
-    let mut many = 0;
-    while many <= ROOM {
-        run_show::small(rt, number_of(file, many));
-        many += 1;
+    for many in 0..=ROOM {
+        first_bytes(rt, file, many);
     }
     run_show::end(rt);
 }
 
-fn number_of(file: [u8; 60], many: usize) -> u32
+fn first_bytes(rt: &impl Print, file: [u8; 60], many: usize)
     requires { many ≤ 60 }
 {
     let mut gaps: [u32; 5] = [7; 5];
-    let answer = midi::read_tempo_track(&file[0..many], &mut gaps);
-    answer.number
+    run_show::outcome(rt, &midi::read_tempo_track(&file[0..many], &mut gaps));
 }

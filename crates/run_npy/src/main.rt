@@ -7,7 +7,7 @@
 
 ghost use Rattle.std.specs.Prelude.{◌≤◌};
 
-use report_npy::{Header, Preamble};
+use report_npy::Shape;
 
 const PREAMBLE: usize = 1;
 
@@ -30,10 +30,8 @@ fn main(rt: HostRuntime) {
 
 fn table(rt: &impl Print, call: usize, text: &[u8]) {
     let n = run_cases::marks(text, b'$');
-    let mut k = 0;
-    while k < n {
+    for k in 0..n {
         run(rt, call, run_cases::part(text, b'$', k));
-        k += 1;
     }
 }
 
@@ -59,8 +57,8 @@ fn run(rt: &impl Print, call: usize, line: &[u8]) {
 
 fn preamble(rt: &impl Print, bytes: &[u8]) {
     match report_npy::read_preamble(bytes) {
-        Preamble::Malformed => run_show::words(rt, b" malformed"),
-        Preamble::Length(size) => run_show::count(rt, size),
+        None => run_show::words(rt, b" malformed"),
+        Some(size) => run_show::count(rt, size),
     }
     run_show::end(rt);
 }
@@ -86,8 +84,8 @@ fn preambles(rt: &impl Print) {
 
 fn header(rt: &impl Print, text: &[u8]) {
     match report_npy::read_header(text) {
-        Header::Malformed => run_show::words(rt, b" malformed"),
-        Header::Shape(rows, bins) => {
+        None => run_show::words(rt, b" malformed"),
+        Some(Shape { rows, bins }) => {
             run_show::number(rt, rows);
             run_show::number(rt, bins);
         }

@@ -8,19 +8,18 @@
 
 ghost use Rattle.std.specs.Prelude.{◌≤◌};
 
-use numbers::Listing;
+use numbers::Refusal;
 
-const FLUX: usize = 1;
-
-const THRESHOLD: usize = 2;
-
-const ONSETS: usize = 3;
-
-const SUPPRESSION: usize = 4;
-
-const TIMES: usize = 5;
-
-const GAPS: usize = 6;
+// What a table runs.
+#[derive(Clone, Copy)]
+enum Call {
+    Flux,
+    Threshold,
+    Onsets,
+    Suppression,
+    Times,
+    Gaps,
+}
 
 fn main(rt: HostRuntime) {
     fluxes(&rt);
@@ -38,8 +37,8 @@ fn main(rt: HostRuntime) {
 fn fluxes(rt: &impl Print) {
     table(
         rt,
-        FLUX,
-        b"flux of 9 rows in 11 slots|0|18|9|2|11|11
+        Call::Flux,
+        "flux of 9 rows in 11 slots|0|18|9|2|11|11
 flux of 9 rows in 9 slots|0|18|9|2|9|11
 flux of 9 rows in 8 slots|0|18|9|2|8|11
 flux of 7 rows in 7 slots|0|14|7|2|7|11
@@ -122,10 +121,8 @@ fn flux_of(
         0.0,
     ];
     let mut out = [9.0f64; 26];
-    run_show::small(
-        rt,
-        flux::spectral_flux(&slab[from..end], rows, bins, &mut out[0..room]),
-    );
+    let answer = flux::spectral_flux(&slab[from..end], rows, bins, &mut out[0..room]);
+    run_show::outcome(rt, &answer);
     run_show::words(rt, b",");
     slots(rt, &out, 0, shown);
     run_show::end(rt);
@@ -137,8 +134,8 @@ fn slots(rt: &impl Print, xs: &[f64; 26], from: usize, to: usize) {
 }
 
 fn part(rt: &impl Print, xs: &[f64], from: usize, to: usize) {
-    let end = numbers::least(to, xs.len());
-    run_show::floats(rt, &xs[numbers::least(from, end)..end]);
+    let end = to.min(xs.len());
+    run_show::floats(rt, &xs[from.min(end)..end]);
 }
 
 // ---- threshold
@@ -147,8 +144,8 @@ fn part(rt: &impl Print, xs: &[f64], from: usize, to: usize) {
 fn thresholds(rt: &impl Print) {
     table(
         rt,
-        THRESHOLD,
-        b"threshold of 25 slots in 26 with 22|0|25|26|22|26|21|22
+        Call::Threshold,
+        "threshold of 25 slots in 26 with 22|0|25|26|22|26|21|22
 threshold of 25 slots in 25 with 21|0|25|25|21|26|21|22
 threshold of 25 slots in 24 with 21|0|25|24|21|26|0|22
 threshold of 25 slots in 25 with 20|0|25|25|20|26|0|22
@@ -233,10 +230,12 @@ fn threshold_of(
     ];
     let mut out = [9.0f64; 26];
     let mut work = [9.0f64; 26];
-    run_show::small(
-        rt,
-        threshold::adaptive_threshold(&flux[from..end], &mut out[0..room], &mut work[0..sorting]),
+    let answer = threshold::adaptive_threshold(
+        &flux[from..end],
+        &mut out[0..room],
+        &mut work[0..sorting],
     );
+    run_show::outcome(rt, &answer);
     run_show::words(rt, b",");
     slots(rt, &out, 0, shown);
     run_show::words(rt, b", work");
@@ -249,8 +248,8 @@ fn threshold_of(
 fn onset_lists(rt: &impl Print) {
     table(
         rt,
-        ONSETS,
-        b"onsets at 48000|0|24|0|24|48000|26|26
+        Call::Onsets,
+        "onsets at 48000|0|24|0|24|48000|26|26
 onsets at 8000|0|24|0|24|8000|26|26
 onsets at 192000|0|24|0|24|192000|26|26
 onsets at 192001|0|24|0|24|192001|26|26
@@ -336,17 +335,17 @@ fn onsets_of(
     listing(rt, r, &frames, shown);
 }
 
-fn listing(rt: &impl Print, r: Listing, frames: &[u32; 26], shown: usize) {
-    run_show::small(rt, r.number);
+fn listing(rt: &impl Print, r: Result<usize, Refusal>, frames: &[u32; 26], shown: usize) {
+    run_show::outcome(rt, &r);
     run_show::words(rt, b" count");
-    run_show::count(rt, r.count);
+    run_show::count(rt, r.unwrap_or(0));
     run_show::words(rt, b",");
     first(rt, frames, shown);
     run_show::end(rt);
 }
 
 fn first(rt: &impl Print, frames: &[u32], shown: usize) {
-    run_show::smalls(rt, &frames[0..numbers::least(shown, frames.len())]);
+    run_show::smalls(rt, &frames[0..shown.min(frames.len())]);
 }
 
 // ---- suppression
@@ -354,8 +353,8 @@ fn first(rt: &impl Print, frames: &[u32], shown: usize) {
 fn suppressions(rt: &impl Print) {
     table(
         rt,
-        SUPPRESSION,
-        b"M4: 10, 16, 22, gap 6|10|16|22|3|0|24|6|3|4
+        Call::Suppression,
+        "M4: 10, 16, 22, gap 6|10|16|22|3|0|24|6|3|4
 10, 16, 22, gap 5|10|16|22|3|0|24|5|3|4
 10, 16, 22, gap 0|10|16|22|3|0|24|0|3|4
 10, 16, 22, largest gap|10|16|22|3|0|24|18446744073709551615|3|4
@@ -488,8 +487,8 @@ fn suppression_of(
 fn time_lists(rt: &impl Print) {
     table(
         rt,
-        TIMES,
-        b"times at 48000|1048575|4|48000|5
+        Call::Times,
+        "times at 48000|1048575|4|48000|5
 times at 44100|1048575|4|44100|5
 times at 192000|1048575|4|192000|5
 times at 192001|1048575|4|192001|5
@@ -518,10 +517,8 @@ fn times_of(rt: &impl Print, last: u32, many: usize, rate: u32, room: usize)
 {
     let frames = [2u32, 0, 100, last];
     let mut ms = [9.0f64; 26];
-    run_show::small(
-        rt,
-        onsets::frame_times(&frames[0..many], rate, &mut ms[0..room]),
-    );
+    let answer = onsets::frame_times(&frames[0..many], rate, &mut ms[0..room]);
+    run_show::outcome(rt, &answer);
     run_show::words(rt, b",");
     slots(rt, &ms, 0, 5);
     run_show::end(rt);
@@ -530,8 +527,8 @@ fn times_of(rt: &impl Print, last: u32, many: usize, rate: u32, room: usize)
 fn gaps(rt: &impl Print) {
     table(
         rt,
-        GAPS,
-        b"gap at 1 is|1
+        Call::Gaps,
+        "gap at 1 is|1
 gap at 8533 is|8533
 gap at 8534 is|8534
 gap at 44100 is|44100
@@ -548,31 +545,20 @@ fn gap(rt: &impl Print, line: &[u8]) {
 
 // ---- the tables
 
-fn table(rt: &impl Print, call: usize, lines: &[u8]) {
-    let n = run_cases::marks(lines, b'\n');
-    let mut k = 0;
-    while k < n {
-        run(rt, call, run_cases::part(lines, b'\n', k));
-        k += 1;
+fn table(rt: &impl Print, call: Call, cases: &str) {
+    for line in cases.lines() {
+        run(rt, call, line.as_bytes());
     }
 }
 
-fn run(rt: &impl Print, call: usize, line: &[u8]) {
+fn run(rt: &impl Print, call: Call, line: &[u8]) {
     run_show::words(rt, run_cases::part(line, b'|', 0));
-    if call == FLUX {
-        return flux(rt, line);
+    match call {
+        Call::Flux => flux(rt, line),
+        Call::Threshold => threshold(rt, line),
+        Call::Onsets => onsets(rt, line),
+        Call::Suppression => suppression(rt, line),
+        Call::Times => times(rt, line),
+        Call::Gaps => gap(rt, line),
     }
-    if call == THRESHOLD {
-        return threshold(rt, line);
-    }
-    if call == ONSETS {
-        return onsets(rt, line);
-    }
-    if call == SUPPRESSION {
-        return suppression(rt, line);
-    }
-    if call == TIMES {
-        return times(rt, line);
-    }
-    gap(rt, line);
 }

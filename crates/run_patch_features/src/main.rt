@@ -8,6 +8,7 @@
 
 ghost use Rattle.std.specs.Prelude.{◌≤◌, ◌<◌, length};
 
+use numbers::Refusal;
 use patch_features::PatchedFeatures;
 
 #[derive(Clone, Copy)]
@@ -27,12 +28,8 @@ fn feature(seed: u32, k: u32) -> f64
 fn fill(values: &mut [f64], seed: u32)
     requires { (seed < 1000) × (length values.old < 1000) }
 {
-    let mut i = 0;
-    let mut k: u32 = 0;
-    while i < values.len() {
-        values[i] = feature(seed, k);
-        i += 1;
-        k += 1;
+    for (k, value) in values.iter_mut().enumerate() {
+        *value = feature(seed, k as u32);
     }
 }
 
@@ -52,14 +49,14 @@ fn lent_novelty() -> [f64; 38] {
 // An analysis from nothing: the similarity of the rows, and the novelty of it.
 fn similarity_of(features: &[f64; 576]) -> [f64; 614] {
     let mut similarity = lent_similarity();
-    similarities::similarity(features, 36, &mut similarity);
+    let _ = similarities::similarity(features, 36, &mut similarity);
     similarity
 }
 
 fn novelty_of(similarity: &[f64; 614]) -> [f64; 38] {
     let pairs = &similarity[..];
     let mut novelty = lent_novelty();
-    novelties::novelty(&pairs[0..612], 36, &mut novelty);
+    let _ = novelties::novelty(&pairs[0..612], 36, &mut novelty);
     novelty
 }
 
@@ -80,16 +77,14 @@ fn untouched(i: usize, a: usize, b: usize, x: f64, y: f64) -> usize
 {
     let own = run_cases::differ(i / 17, a, b, x, y);
     let other = run_cases::differ(i / 17 + i % 17, a, b, x, y);
-    numbers::least(own, other)
+    own.min(other)
 }
 
 // How many slots of pairs that touch none of rows a up to b differ.
 fn untouched_changed(old: &[f64; 614], new: &[f64; 614], a: usize, b: usize) -> usize {
     let mut count = 0;
-    let mut i = 0;
-    while i < 612 {
+    for i in 0..612 {
         count += untouched(i, a, b, old[i], new[i]);
-        i += 1;
     }
     count
 }
@@ -100,40 +95,46 @@ fn named(rt: &impl Print, first: usize, past: usize) {
     run_show::count(rt, past);
 }
 
-// The slots that the answer names, of the similarity and of the novelty; where it refuses, none.
-fn named_in(answer: PatchedFeatures) -> [usize; 4] {
-    match answer {
-        PatchedFeatures::Refused(number) => [0, 0, 0, 0],
-        PatchedFeatures::Wrote {
-            similarity_first,
-            similarity_past,
-            novelty_first,
-            novelty_past,
-        } => [
-            similarity_first,
-            similarity_past,
-            novelty_first,
-            novelty_past,
-        ],
-    }
-}
+// A patch that wrote no slots, as where it refuses.
+const NONE: PatchedFeatures = PatchedFeatures {
+    similarity_first: 0,
+    similarity_past: 0,
+    novelty_first: 0,
+    novelty_past: 0,
+};
 
 // The answer, and how many slots of the similarity and of the novelty changed outside what it names.
 fn told(
     rt: &impl Print,
-    answer: PatchedFeatures,
+    answer: Result<PatchedFeatures, Refusal>,
     old: &[f64; 614],
     similarity: &[f64; 614],
     old_novelty: &[f64; 38],
     novelty: &[f64; 38],
 ) {
-    let n = named_in(answer);
+    let wrote = answer.unwrap_or(NONE);
     told_alone(rt, answer);
     run_show::words(rt, b", similarity changed");
     run_show::count(rt, run_cases::changed(old, similarity, 0, 0));
     run_show::words(rt, b", changed outside");
-    run_show::count(rt, run_cases::changed(old, similarity, n[0], n[1]));
-    run_show::count(rt, run_cases::changed(old_novelty, novelty, n[2], n[3]));
+    run_show::count(
+        rt,
+        run_cases::changed(
+            old,
+            similarity,
+            wrote.similarity_first,
+            wrote.similarity_past,
+        ),
+    );
+    run_show::count(
+        rt,
+        run_cases::changed(
+            old_novelty,
+            novelty,
+            wrote.novelty_first,
+            wrote.novelty_past,
+        ),
+    );
 }
 
 // How many slots of each curve differ from an analysis from nothing.
@@ -209,7 +210,7 @@ fn steps(rt: &impl Print, was: State) -> State {
     each_step(
         rt,
         was,
-        b"step 0:|0|16|0|1|1|row 0
+        "step 0:|0|16|0|1|1|row 0
 step 1:|35|16|35|36|2|row 35
 step 2:|18|16|18|19|3|row 18
 step 3:|10|48|10|13|4|rows 10 to 12
@@ -236,13 +237,10 @@ step 23:|33|16|33|34|16|row 33\n",
     )
 }
 
-fn each_step(rt: &impl Print, was: State, lines: &[u8]) -> State {
-    let n = run_cases::marks(lines, b'\n');
+fn each_step(rt: &impl Print, was: State, cases: &str) -> State {
     let mut state = was;
-    let mut k = 0;
-    while k < n {
-        state = step_of(rt, state, run_cases::part(lines, b'\n', k));
-        k += 1;
+    for line in cases.lines() {
+        state = step_of(rt, state, line.as_bytes());
     }
     state
 }
@@ -257,18 +255,15 @@ fn step_of(rt: &impl Print, was: State, line: &[u8]) -> State {
     step(rt, was, run_cases::column(line, 1), &rows[0..n], a, b)
 }
 
-fn names_none(answer: PatchedFeatures) -> bool {
+fn names_none(answer: Result<PatchedFeatures, Refusal>) -> bool {
     match answer {
-        PatchedFeatures::Refused(number) => false,
-        PatchedFeatures::Wrote {
-            similarity_first,
-            similarity_past,
-            novelty_first,
-            novelty_past,
-        } => {
-            similarity_first == 0
-                && (similarity_past == 0 && (novelty_first == 0 && novelty_past == 0))
+        Ok(wrote) => {
+            wrote.similarity_first == 0
+                && wrote.similarity_past == 0
+                && wrote.novelty_first == 0
+                && wrote.novelty_past == 0
         }
+        Err(_) => false,
     }
 }
 
@@ -305,31 +300,21 @@ fn unchanged(was: State, features: [f64; 576], similarity: [f64; 614], novelty: 
 
 fn none_anywhere(rt: &impl Print, was: State) {
     run_show::words(rt, b"none, nothing changed at");
-    let mut start = 0;
-    while start < 37 {
+    for start in 0..37 {
         none_at(rt, was, start);
-        start += 1;
     }
     run_show::end(rt);
 }
 
-fn told_alone(rt: &impl Print, answer: PatchedFeatures) {
+fn told_alone(rt: &impl Print, answer: Result<PatchedFeatures, Refusal>) {
     match answer {
-        PatchedFeatures::Refused(number) => {
-            run_show::words(rt, b" refused");
-            run_show::small(rt, number);
-        }
-        PatchedFeatures::Wrote {
-            similarity_first,
-            similarity_past,
-            novelty_first,
-            novelty_past,
-        } => {
+        Ok(wrote) => {
             run_show::words(rt, b" wrote");
-            named(rt, similarity_first, similarity_past);
+            named(rt, wrote.similarity_first, wrote.similarity_past);
             run_show::words(rt, b" and");
-            named(rt, novelty_first, novelty_past);
+            named(rt, wrote.novelty_first, wrote.novelty_past);
         }
+        Err(refusal) => run_show::refused(rt, refusal),
     }
 }
 
@@ -406,19 +391,16 @@ fn left(rt: &impl Print, was: &[f64; 16], features: &[f64; 16], novelty: &[f64; 
     run_show::end(rt);
 }
 
-fn each_line(rt: &impl Print, lines: &[u8]) {
-    let n = run_cases::marks(lines, b'\n');
-    let mut k = 0;
-    while k < n {
-        line(rt, run_cases::part(lines, b'\n', k));
-        k += 1;
+fn each_line(rt: &impl Print, cases: &str) {
+    for text in cases.lines() {
+        line(rt, text.as_bytes());
     }
 }
 
 fn lines(rt: &impl Print) {
     each_line(
         rt,
-        b"room 0:|1|0|16|17|1|1|1|0|h|one row
+        "room 0:|1|0|16|17|1|1|1|0|h|one row
 room 1:|1|0|16|18|2|1|1|0|h|more room
 room 2:|1|0|16|16|1|1|1|0|h|short similarity
 room 3:|1|0|16|17|0|1|1|0|h|short novelty

@@ -9,6 +9,7 @@
 
 ghost use Rattle.std.specs.Prelude.{◌≤◌};
 
+use numbers::Refusal;
 use patch_magnitudes::Patched;
 
 #[derive(Clone, Copy)]
@@ -35,7 +36,7 @@ fn lent() -> [f64; 32] {
 // An analysis from nothing: the flux of the rows, and the threshold of it.
 fn flux_of(magnitudes: &[f32; 60]) -> [f64; 32] {
     let mut flux = lent();
-    flux::spectral_flux(magnitudes, 30, 2, &mut flux);
+    let _ = flux::spectral_flux(magnitudes, 30, 2, &mut flux);
     flux
 }
 
@@ -43,7 +44,7 @@ fn threshold_of(flux: &[f64; 32]) -> [f64; 32] {
     let curve = &flux[..];
     let mut threshold = lent();
     let mut work = [0.0f64; 21];
-    threshold::adaptive_threshold(&curve[0..30], &mut threshold, &mut work);
+    let _ = threshold::adaptive_threshold(&curve[0..30], &mut threshold, &mut work);
     threshold
 }
 
@@ -79,11 +80,8 @@ fn spelled(byte: u8) -> f32 {
 }
 
 fn spell(text: &[u8], values: &mut [f32]) {
-    let most = numbers::least(text.len(), values.len());
-    let mut i = 0;
-    while i < most {
-        values[i] = spelled(text[i]);
-        i += 1;
+    for (value, &byte) in values.iter_mut().zip(text) {
+        *value = spelled(byte);
     }
 }
 
@@ -93,27 +91,20 @@ fn spell(text: &[u8], values: &mut [f32]) {
 fn differ_outside(i: usize, first: usize, past: usize, same: bool) -> usize
     ensures { result ≤ 1 }
 {
-    if same {
-        return 0;
+    if !same && (i < first || past <= i) {
+        1
+    } else {
+        0
     }
-    if i < first {
-        return 1;
-    }
-    if past <= i {
-        return 1;
-    }
-    0
 }
 
 // How many magnitudes differ outside first up to past.
 fn magnitudes_changed(old: &[f32], new: &[f32], first: usize, past: usize) -> usize {
-    let most = numbers::least(old.len(), new.len());
+    let most = old.len().min(new.len());
     let mut count = 0;
-    let mut i = 0;
-    while i < most {
+    for i in 0..most {
         let same = old[i] == new[i];
         count += differ_outside(i, first, past, same);
-        i += 1;
     }
     count
 }
@@ -129,35 +120,38 @@ fn named(rt: &impl Print, first: usize, past: usize) {
     run_show::count(rt, past);
 }
 
-// The slots that the answer names, of the flux and of the threshold; where it refuses, none.
-fn named_in(answer: Patched) -> [usize; 4] {
-    match answer {
-        Patched::Refused(number) => [0, 0, 0, 0],
-        Patched::Wrote {
-            flux_first,
-            flux_past,
-            threshold_first,
-            threshold_past,
-        } => [flux_first, flux_past, threshold_first, threshold_past],
-    }
-}
+// A patch that wrote no slots, as where it refuses.
+const NONE: Patched = Patched {
+    flux_first: 0,
+    flux_past: 0,
+    threshold_first: 0,
+    threshold_past: 0,
+};
 
 // The answer, and how many slots of the flux and of the threshold changed outside what it names.
 fn told(
     rt: &impl Print,
-    answer: Patched,
+    answer: Result<Patched, Refusal>,
     old: &[f64; 32],
     flux: &[f64; 32],
     old_threshold: &[f64; 32],
     threshold: &[f64; 32],
 ) {
-    let n = named_in(answer);
+    let wrote = answer.unwrap_or(NONE);
     told_alone(rt, answer);
     run_show::words(rt, b", flux changed");
     run_show::count(rt, changed(old, flux, 0, 0));
     run_show::words(rt, b", changed outside");
-    run_show::count(rt, changed(old, flux, n[0], n[1]));
-    run_show::count(rt, changed(old_threshold, threshold, n[2], n[3]));
+    run_show::count(rt, changed(old, flux, wrote.flux_first, wrote.flux_past));
+    run_show::count(
+        rt,
+        changed(
+            old_threshold,
+            threshold,
+            wrote.threshold_first,
+            wrote.threshold_past,
+        ),
+    );
 }
 
 // How many magnitudes changed outside the rows replaced.
@@ -223,19 +217,16 @@ fn step_of(rt: &impl Print, was: State, line: &[u8]) -> State {
         rt,
         was,
         run_cases::column(line, 1),
-        &values[0..numbers::least(text.len(), 60)],
+        &values[0..text.len().min(60)],
         at,
         past,
     )
 }
 
-fn each_step(rt: &impl Print, was: State, lines: &[u8]) -> State {
-    let n = run_cases::marks(lines, b'\n');
+fn each_step(rt: &impl Print, was: State, cases: &str) -> State {
     let mut state = was;
-    let mut k = 0;
-    while k < n {
-        state = step_of(rt, state, run_cases::part(lines, b'\n', k));
-        k += 1;
+    for line in cases.lines() {
+        state = step_of(rt, state, line.as_bytes());
     }
     state
 }
@@ -244,7 +235,7 @@ fn steps(rt: &impl Print, was: State) -> State {
     each_step(
         rt,
         was,
-        b"step 0:|0|Bm|0|2|row 0
+        "step 0:|0|Bm|0|2|row 0
 step 1:|29|AA|58|60|row 29
 step 2:|14|Bm|28|30|row 14
 step 3:|10|BGA``B|20|26|rows 10 to 12
@@ -275,15 +266,15 @@ step 25:|17|m`|34|36|row 17\n",
 
 // ---- empty patches
 
-fn names_none(answer: Patched) -> bool {
+fn names_none(answer: Result<Patched, Refusal>) -> bool {
     match answer {
-        Patched::Refused(number) => false,
-        Patched::Wrote {
-            flux_first,
-            flux_past,
-            threshold_first,
-            threshold_past,
-        } => flux_first == 0 && (flux_past == 0 && (threshold_first == 0 && threshold_past == 0)),
+        Ok(wrote) => {
+            wrote.flux_first == 0
+                && wrote.flux_past == 0
+                && wrote.threshold_first == 0
+                && wrote.threshold_past == 0
+        }
+        Err(_) => false,
     }
 }
 
@@ -323,33 +314,23 @@ fn unchanged(was: State, magnitudes: [f32; 60], flux: [f64; 32], threshold: [f64
 
 fn none_anywhere(rt: &impl Print, was: State) {
     run_show::words(rt, b"none, nothing changed at");
-    let mut start = 0;
-    while start < 31 {
+    for start in 0..31 {
         none_at(rt, was, start);
-        start += 1;
     }
     run_show::end(rt);
 }
 
 // ---- rooms and values
 
-fn told_alone(rt: &impl Print, answer: Patched) {
+fn told_alone(rt: &impl Print, answer: Result<Patched, Refusal>) {
     match answer {
-        Patched::Refused(number) => {
-            run_show::words(rt, b" refused");
-            run_show::small(rt, number);
-        }
-        Patched::Wrote {
-            flux_first,
-            flux_past,
-            threshold_first,
-            threshold_past,
-        } => {
+        Ok(wrote) => {
             run_show::words(rt, b" wrote");
-            named(rt, flux_first, flux_past);
+            named(rt, wrote.flux_first, wrote.flux_past);
             run_show::words(rt, b" and");
-            named(rt, threshold_first, threshold_past);
+            named(rt, wrote.threshold_first, wrote.threshold_past);
         }
+        Err(refusal) => run_show::refused(rt, refusal),
     }
 }
 
@@ -421,19 +402,16 @@ fn left(rt: &impl Print, was: &[f32; 3], magnitudes: &[f32; 3], flux: &[f64; 4],
     run_show::end(rt);
 }
 
-fn each_line(rt: &impl Print, lines: &[u8]) {
-    let n = run_cases::marks(lines, b'\n');
-    let mut k = 0;
-    while k < n {
-        line(rt, run_cases::part(lines, b'\n', k));
-        k += 1;
+fn each_line(rt: &impl Print, cases: &str) {
+    for text in cases.lines() {
+        line(rt, text.as_bytes());
     }
 }
 
 fn lines(rt: &impl Print) {
     each_line(
         rt,
-        b"room 0:|3|1|1|AAU|I|000n|0000|1|3|3|3|row 1
+        "room 0:|3|1|1|AAU|I|000n|0000|1|3|3|3|row 1
 room 1:|3|1|1|AAU|I|000n|0000|1|4|4|4|more room
 room 2:|3|1|1|AAU|I|000n|0000|1|2|3|3|short flux
 room 3:|3|1|1|AAU|I|000n|0000|1|3|2|3|short threshold

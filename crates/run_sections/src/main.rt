@@ -8,13 +8,16 @@
 
 ghost use Rattle.std.specs.Prelude.{◌≤◌};
 
+use numbers::Refusal;
 use sections::Sections;
 
-const BOUNDARIES: usize = 1;
-
-const TIMES: usize = 2;
-
-const GAPS: usize = 3;
+// What a table runs.
+#[derive(Clone, Copy)]
+enum Call {
+    Boundaries,
+    Times,
+    Gaps,
+}
 
 fn main(rt: HostRuntime) {
     hills(&rt);
@@ -32,8 +35,8 @@ fn main(rt: HostRuntime) {
 fn hills(rt: &impl Print) {
     table(
         rt,
-        BOUNDARIES,
-        b"hills, at most 10 sections|015h07105q09h070150h30h0|192000|48000|10|26|26
+        Call::Boundaries,
+        "hills, at most 10 sections|015h07105q09h070150h30h0|192000|48000|10|26|26
 at most 9|015h07105q09h070150h30h0|192000|48000|9|26|26
 at most 8|015h07105q09h070150h30h0|192000|48000|8|26|26
 at most 7|015h07105q09h070150h30h0|192000|48000|7|26|26
@@ -78,8 +81,8 @@ length 0 in 23 slots|015h07105q09h070150h30h0|0|48000|10|23|26\n",
 fn others(rt: &impl Print) {
     table(
         rt,
-        BOUNDARIES,
-        b"three thirds, held to 1|00t0000t0000t000|192000|48000|10|26|26
+        Call::Boundaries,
+        "three thirds, held to 1|00t0000t0000t000|192000|48000|10|26|26
 two of three thirds|00t0000t0000t000|192000|48000|3|26|26
 the greater of two zeros|mmmmzmmmm0mmmmmm|192000|48000|2|26|26
 a flat curve|ffffffffffffffff|192000|48000|10|26|26
@@ -91,8 +94,8 @@ a peak above the threshold|020202020u020202|192000|48000|10|26|26\n",
 fn values(rt: &impl Print) {
     table(
         rt,
-        BOUNDARIES,
-        b"2^150 and -2^150|000b00000c000000|192000|48000|10|26|26
+        Call::Boundaries,
+        "2^150 and -2^150|000b00000c000000|192000|48000|10|26|26
 the next above 2^150|000a000000000000|192000|48000|10|26|26
 the next below -2^150|000000000d000000|192000|48000|10|26|26
 a nan|000000000n000000|192000|48000|10|26|26
@@ -110,7 +113,7 @@ fn boundaries(rt: &impl Print, line: &[u8]) {
     run_cases::spell(text, &mut curve);
     boundaries_of(
         rt,
-        &curve[0..numbers::least(text.len(), 24)],
+        &curve[0..text.len().min(24)],
         run_cases::column(line, 2) as u64,
         run_cases::column_u32(line, 3),
         run_cases::column(line, 4),
@@ -143,7 +146,13 @@ fn boundaries_of(
     told(rt, a, novelty.len(), &rows, &work);
 }
 
-fn told(rt: &impl Print, a: Sections, n: usize, rows: &[u32; 26], work: &[f64; 26]) {
+fn told(
+    rt: &impl Print,
+    a: Result<Sections, Refusal>,
+    n: usize,
+    rows: &[u32; 26],
+    work: &[f64; 26],
+) {
     answer(rt, a);
     run_show::words(rt, b", rows");
     run_show::smalls(rt, rows);
@@ -152,22 +161,30 @@ fn told(rt: &impl Print, a: Sections, n: usize, rows: &[u32; 26], work: &[f64; 2
     run_show::end(rt);
 }
 
-fn answer(rt: &impl Print, a: Sections) {
-    run_show::small(rt, a.number);
-    run_show::count(rt, a.sections);
-    run_show::count(rt, a.count);
-    run_show::float(rt, a.confidence);
+// What is printed where no sections are told.
+const NO_SECTIONS: Sections = Sections {
+    sections: 0,
+    count: 0,
+    confidence: 0.0,
+};
+
+fn answer(rt: &impl Print, a: Result<Sections, Refusal>) {
+    run_show::outcome(rt, &a);
+    let s = a.unwrap_or(NO_SECTIONS);
+    run_show::count(rt, s.sections);
+    run_show::count(rt, s.count);
+    run_show::float(rt, s.confidence);
 }
 
 // How many slots of the work slice are left open.
-fn open_slots(a: Sections, n: usize) -> usize {
-    if a.number == 0 { n } else { 0 }
+fn open_slots(a: Result<Sections, Refusal>, n: usize) -> usize {
+    if a.is_ok() { n } else { 0 }
 }
 
 // The slots from `from` to `to`, lent or not.
 fn slots(rt: &impl Print, xs: &[f64], from: usize, to: usize) {
-    let end = numbers::least(to, xs.len());
-    run_show::floats(rt, &xs[numbers::least(from, end)..end]);
+    let end = to.min(xs.len());
+    run_show::floats(rt, &xs[from.min(end)..end]);
 }
 
 // 50,000 rows, with one peak.
@@ -213,8 +230,8 @@ fn too_long(rt: &impl Print) {
 fn time_lists(rt: &impl Print) {
     table(
         rt,
-        TIMES,
-        b"times|0|4|24000|48000|4
+        Call::Times,
+        "times|0|4|24000|48000|4
 times in 6 slots|0|4|24000|48000|6
 times in 3 slots|0|4|24000|48000|3
 a row of 50000|4|6|24000|48000|4
@@ -249,10 +266,8 @@ fn times_of(rt: &impl Print, from: usize, end: usize, samples: u64, rate: u32, r
 {
     let rows = [0u32, 3, 49999, 1, 0, 50000, 1, 49999];
     let mut ms = [9.0f64; 6];
-    run_show::small(
-        rt,
-        sections::boundary_times(&rows[from..end], samples, rate, &mut ms[0..room]),
-    );
+    let answer = sections::boundary_times(&rows[from..end], samples, rate, &mut ms[0..room]);
+    run_show::outcome(rt, &answer);
     six(rt, &ms);
 }
 
@@ -267,8 +282,8 @@ fn six(rt: &impl Print, ms: &[f64; 6]) {
 fn gaps(rt: &impl Print) {
     table(
         rt,
-        GAPS,
-        b"gap 1 1|1|1
+        Call::Gaps,
+        "gap 1 1|1|1
 gap 1 192000|1|192000
 gap 2147483648 1|2147483648|1
 gap 2147483648 192000|2147483648|192000
@@ -292,22 +307,17 @@ fn gap(rt: &impl Print, line: &[u8]) {
 
 // ---- the tables
 
-fn table(rt: &impl Print, call: usize, lines: &[u8]) {
-    let n = run_cases::marks(lines, b'\n');
-    let mut k = 0;
-    while k < n {
-        run(rt, call, run_cases::part(lines, b'\n', k));
-        k += 1;
+fn table(rt: &impl Print, call: Call, cases: &str) {
+    for line in cases.lines() {
+        run(rt, call, line.as_bytes());
     }
 }
 
-fn run(rt: &impl Print, call: usize, line: &[u8]) {
+fn run(rt: &impl Print, call: Call, line: &[u8]) {
     run_show::words(rt, run_cases::part(line, b'|', 0));
-    if call == TIMES {
-        return times(rt, line);
+    match call {
+        Call::Boundaries => boundaries(rt, line),
+        Call::Times => times(rt, line),
+        Call::Gaps => gap(rt, line),
     }
-    if call == GAPS {
-        return gap(rt, line);
-    }
-    boundaries(rt, line);
 }

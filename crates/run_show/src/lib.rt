@@ -3,6 +3,8 @@
 // A write that fails is not told: the comparison then does.
 #![tactic(auto)]
 
+use numbers::Refusal;
+
 pub fn words(rt: &impl Print, text: &[u8]) {
     let _ = rt.write_all(text);
 }
@@ -38,25 +40,36 @@ pub fn float(rt: &impl Print, x: f64) {
 }
 
 pub fn floats(rt: &impl Print, xs: &[f64]) {
-    let mut i = 0;
-    while i < xs.len() {
-        float(rt, xs[i]);
-        i += 1;
+    for &x in xs {
+        float(rt, x);
     }
 }
 
 pub fn smalls(rt: &impl Print, xs: &[u32]) {
-    let mut i = 0;
-    while i < xs.len() {
-        small(rt, xs[i]);
-        i += 1;
+    for &x in xs {
+        small(rt, x);
     }
 }
 
 pub fn counts(rt: &impl Print, xs: &[usize]) {
-    let mut i = 0;
-    while i < xs.len() {
-        count(rt, xs[i]);
-        i += 1;
+    for &x in xs {
+        count(rt, x);
     }
+}
+
+// What a call answers beside what it gives: 0, or the number of its refusal.
+pub fn outcome<T>(rt: &impl Print, answer: &Result<T, Refusal>) {
+    small(rt, numbers::number_of(answer));
+}
+
+// The same of a call that lists, and how many it listed: none where it refuses.
+pub fn listing(rt: &impl Print, answer: Result<usize, Refusal>) {
+    outcome(rt, &answer);
+    count(rt, answer.unwrap_or(0));
+}
+
+// A refusal, where an answer has no number otherwise.
+pub fn refused(rt: &impl Print, refusal: Refusal) {
+    words(rt, b" refused");
+    small(rt, refusal.number());
 }

@@ -5,8 +5,9 @@
 
 ghost use Rattle.std.specs.Prelude.{◌≤◌};
 
+use numbers::Refusal;
 use options::TempoOpts;
-use stability::{Stability, Steadiness};
+use stability::Stability;
 
 fn main(rt: HostRuntime) {
     windows(&rt);
@@ -25,7 +26,7 @@ fn windows(rt: &impl Print) {
         rt,
         b"030103010301031030030030030030",
         PAST_LAGS,
-        b"no slots:|0|0|512|0|4|5|5|5
+        "no slots:|0|0|512|0|4|5|5|5
 eleven slots, one window:|0|11|512|0|4|5|5|5
 twelve slots, two windows:|0|12|512|0|4|5|5|5
 seventeen slots, two windows of eight:|0|17|512|0|4|5|5|5
@@ -47,7 +48,7 @@ fn contents(rt: &impl Print) {
         rt,
         b"000000000000000000000000ffffffffffffffffffffffff010101010101000000000000z1z1z1zzzzzzzzzzzzz1z1z1",
         PAST_LAGS,
-        b"all zero:|0|24|512|0|2|5|5|5
+        "all zero:|0|24|512|0|2|5|5|5
 constant:|24|48|512|0|2|5|5|5
 two windows flat:|48|72|512|0|2|5|5|5
 two windows of -0:|72|96|512|0|4|5|5|5\n",
@@ -59,7 +60,7 @@ fn bounds(rt: &impl Print) {
         rt,
         b"030103010301",
         ALL_FIVE,
-        b"whole lag 45,001:|0|12|512|0|45001|5|5|5
+        "whole lag 45,001:|0|12|512|0|45001|5|5|5
 whole lag 18,446,744,073,709,551,615:|0|12|512|0|18446744073709551615|5|5|5
 rate 0:|0|12|0|0|4|5|5|5
 rate 192,001:|0|12|192001|1|4|5|5|5
@@ -74,7 +75,7 @@ fn values(rt: &impl Print) {
         rt,
         b"03010301030nj3010301030103010301030a",
         ALL_FIVE,
-        b"a NaN:|0|12|512|0|4|5|5|5
+        "a NaN:|0|12|512|0|4|5|5|5
 a NaN, whole lag 0:|0|12|512|0|0|5|5|5
 a NaN alone:|11|12|512|0|4|5|5|5
 minus infinity:|12|24|512|0|4|5|5|5
@@ -89,7 +90,7 @@ fn rooms(rt: &impl Print) {
         rt,
         b"030103010301",
         NOTHING,
-        b"just enough room:|0|12|512|0|4|4|4|4
+        "just enough room:|0|12|512|0|4|4|4|4
 clarity one short:|0|12|512|0|4|3|4|4
 weight one short:|0|12|512|0|4|4|3|4
 work one short:|0|12|512|0|4|4|4|3
@@ -103,7 +104,7 @@ fn envelopes(rt: &impl Print) {
         rt,
         b"17100160110601106000060171001700117011070001611600000111160110110106006011001601101160110007",
         NOTHING,
-        b"periods 5, 5, 10 and 7, whole lag 5:|0|92|2560|0|5|19|19|19
+        "periods 5, 5, 10 and 7, whole lag 5:|0|92|2560|0|5|19|19|19
 periods 5, 5, 10 and 7, whole lag 10:|0|92|2560|0|10|19|19|19
 periods 5, 5, 10 and 7, whole lag 20:|0|92|2560|0|20|19|19|19
 periods 5, 5, 10 and 7, whole lag 3:|0|92|2560|0|3|19|19|19
@@ -116,7 +117,7 @@ periods 5, 5, 10 and 7, whole lag 4:|0|92|2560|0|4|19|19|19\n",
         rt,
         b"0070000000700000007000007000000000000000700000700070007000700070000070000000070000000070",
         NOTHING,
-        b"periods 8, 16, 4 and 9, whole lag 8:|0|88|2560|0|8|19|19|19
+        "periods 8, 16, 4 and 9, whole lag 8:|0|88|2560|0|8|19|19|19
 periods 8, 16, 4 and 9, whole lag 16:|0|88|2560|0|16|19|19|19
 periods 8, 16, 4 and 9, whole lag 2:|0|88|2560|0|2|19|19|19
 periods 8, 16, 4 and 9, whole lag 4:|0|88|2560|0|4|19|19|19
@@ -130,7 +131,7 @@ periods 8, 16, 4 and 9, whole lag 32:|0|88|2560|0|32|19|19|19\n",
         rt,
         b"7850255171607909669091111465697778188049170317974054293825773564363363953227501421774366875975104904",
         NOTHING,
-        b"noise, whole lag 5:|0|100|2560|0|5|19|19|19
+        "noise, whole lag 5:|0|100|2560|0|5|19|19|19
 noise, whole lag 10:|0|100|2560|0|10|19|19|19
 noise, whole lag 11:|0|100|2560|0|11|19|19|19
 noise, whole lag 12:|0|100|2560|0|12|19|19|19
@@ -147,18 +148,15 @@ const PAST_LAGS: usize = 4;
 
 const NOTHING: usize = 5;
 
-fn table(rt: &impl Print, text: &[u8], shown: usize, lines: &[u8]) {
+fn table(rt: &impl Print, text: &[u8], shown: usize, cases: &str) {
     let mut envelope = [0.0f64; 100];
     run_cases::spell(text, &mut envelope);
-    each(rt, &envelope, shown, lines);
+    each(rt, &envelope, shown, cases);
 }
 
-fn each(rt: &impl Print, envelope: &[f64], shown: usize, lines: &[u8]) {
-    let n = run_cases::marks(lines, b'\n');
-    let mut k = 0;
-    while k < n {
-        run(rt, envelope, shown, run_cases::part(lines, b'\n', k));
-        k += 1;
+fn each(rt: &impl Print, envelope: &[f64], shown: usize, cases: &str) {
+    for line in cases.lines() {
+        run(rt, envelope, shown, line.as_bytes());
     }
 }
 
@@ -213,16 +211,12 @@ fn stability(
 
 // The bounds of a case: 0 are the defaults.
 fn bounds_of(k: usize) -> TempoOpts {
-    if k == 1 {
-        return TempoOpts::between(299.0, 300.0);
+    match k {
+        1 => TempoOpts::between(299.0, 300.0),
+        2 => TempoOpts::between(30.0, 1.0 / 0.0),
+        3 => TempoOpts::between(0.0 / 0.0, 300.0),
+        _ => TempoOpts::new(),
     }
-    if k == 2 {
-        return TempoOpts::between(30.0, 1.0 / 0.0);
-    }
-    if k == 3 {
-        return TempoOpts::between(0.0 / 0.0, 300.0);
-    }
-    TempoOpts::new()
 }
 
 // The slots of a lent slice that a table shows.
@@ -230,8 +224,8 @@ fn slots(rt: &impl Print, name: &[u8], slots: &[f64], shown: usize) {
     if shown == ALL_FIVE {
         run_show::words(rt, name);
     }
-    let end = numbers::least(5, slots.len());
-    run_show::floats(rt, &slots[numbers::least(shown, end)..end]);
+    let end = slots.len().min(5);
+    run_show::floats(rt, &slots[shown.min(end)..end]);
 }
 
 fn left(rt: &impl Print, clarity: &[f64; 19], weight: &[f64; 19], work: &[f64; 19], shown: usize) {
@@ -259,8 +253,7 @@ fn stability_is(rt: &impl Print, s: Stability) {
     }
 }
 
-fn answer(rt: &impl Print, a: Steadiness) {
-    run_show::small(rt, a.number);
-    let s = a.stability;
-    stability_is(rt, s);
+fn answer(rt: &impl Print, a: Result<Stability, Refusal>) {
+    run_show::outcome(rt, &a);
+    stability_is(rt, a.unwrap_or(Stability::None));
 }

@@ -4,6 +4,8 @@
 
 ghost use Rattle.std.specs.Prelude.{◌≤◌};
 
+use numbers::Refusal;
+
 // The cases of the refusals, one to a line: s for similarity or n for novelty; what is lent to it, which is the first digit in every slot,
 // but one in slot 17 and, in the slot that is told, the value by its letter or digit; how many slots of that are lent; the rows; how many slots are lent to
 // be written, of eighteen for similarity and of three for novelty; and what the line begins with. Letters from a on are numbers from ten on, and
@@ -11,7 +13,7 @@ ghost use Rattle.std.specs.Prelude.{◌≤◌};
 fn refusals(rt: &impl Print) {
     each_case(
         rt,
-        b"\
+        "\
           s 101 0 z 0 similarity, 50001 rows:\n\
           s 101 0 y 0 similarity, 50000 rows without values:\n\
           s 101 f 1 i similarity, 15 values:\n\
@@ -46,22 +48,17 @@ fn refusals(rt: &impl Print) {
 }
 
 fn rows_of(byte: u8) -> usize {
-    if byte == 121 {
-        return 50000;
+    match byte {
+        b'y' => 50000,
+        b'z' => 50001,
+        _ => run_cases::digit(byte, 9),
     }
-    if byte == 122 {
-        return 50001;
-    }
-    run_cases::digit(byte, 9)
 }
 
 // Runs each case of a text.
-fn each_case(rt: &impl Print, text: &[u8]) {
-    let n = run_cases::marks(text, b'\n');
-    let mut k = 0;
-    while k < n {
-        case(rt, run_cases::part(text, b'\n', k));
-        k += 1;
+fn each_case(rt: &impl Print, cases: &str) {
+    for line in cases.lines() {
+        case(rt, line.as_bytes());
     }
 }
 
@@ -82,7 +79,7 @@ fn values_lent(all: u8, at: usize, value: f64) -> [f64; 35]
     requires { at ≤ 34 }
 {
     let mut values = [0.0f64; 35];
-    if all == 49 {
+    if all == b'1' {
         values = [1.0f64; 35];
     }
     values[17] = 1.0;
@@ -91,12 +88,11 @@ fn values_lent(all: u8, at: usize, value: f64) -> [f64; 35]
 }
 
 fn refusal(rt: &impl Print, kind: u8, values: &[f64], rows: usize, room: usize) {
-    if kind == 115 {
+    if kind == b's' {
         let s = similarity_of(values, rows, room);
-        let slots = s.slots;
-        run_show::small(rt, s.number);
+        run_show::outcome(rt, &s.answer);
         run_show::words(rt, b", slots");
-        similarity_slots(rt, &slots, 0, 18);
+        similarity_slots(rt, &s.slots, 0, 18);
         return;
     }
     told(rt, novelty_of(values, rows, room), 3);
@@ -104,19 +100,15 @@ fn refusal(rt: &impl Print, kind: u8, values: &[f64], rows: usize, room: usize) 
 
 #[derive(Drop)]
 struct Similar {
-    number: u32,
+    answer: Result<(), Refusal>,
     slots: [f64; 2210],
 }
 
 // The answer of similarity where the first `room` slots are lent, and all of them afterwards.
 fn similarity_of(features: &[f64], rows: usize, room: usize) -> Similar {
     let mut slots = [9.0f64; 2210];
-    let number = similarities::similarity(
-        features,
-        rows,
-        &mut slots[0..numbers::least(room, 2210)],
-    );
-    Similar { number, slots }
+    let answer = similarities::similarity(features, rows, &mut slots[0..room.min(2210)]);
+    Similar { answer, slots }
 }
 
 fn similarity_slots(rt: &impl Print, slots: &[f64; 2210], from: usize, past: usize)
@@ -129,24 +121,23 @@ fn similarity_slots(rt: &impl Print, slots: &[f64; 2210], from: usize, past: usi
 
 #[derive(Drop)]
 struct Novel {
-    number: u32,
+    answer: Result<(), Refusal>,
     slots: [f64; 131],
 }
 
 fn novelty_of(similarity: &[f64], rows: usize, room: usize) -> Novel {
     let mut slots = [9.0f64; 131];
-    let number = novelties::novelty(similarity, rows, &mut slots[0..numbers::least(room, 131)]);
-    Novel { number, slots }
+    let answer = novelties::novelty(similarity, rows, &mut slots[0..room.min(131)]);
+    Novel { answer, slots }
 }
 
 // The end of a line: the number, and the first n slots.
 fn told(rt: &impl Print, novelty: Novel, n: usize)
     requires { n ≤ 131 }
 {
-    let slots = novelty.slots;
-    run_show::small(rt, novelty.number);
+    run_show::outcome(rt, &novelty.answer);
     run_show::words(rt, b", slots");
-    novelty_slots(rt, &slots, n);
+    novelty_slots(rt, &novelty.slots, n);
 }
 
 fn novelty_slots(rt: &impl Print, slots: &[f64; 131], n: usize)
@@ -165,18 +156,13 @@ fn value_at(seed: u32) -> f64 {
 // Values that look like chance, and zeros from slot `from` up to `past`.
 fn fill(values: &mut [f64], from: usize, past: usize) {
     let mut seed = 1u32;
-    let mut k = 0;
-    while k < values.len() {
+    for (k, value) in values.iter_mut().enumerate() {
         seed = (seed * 1103 + 12345) % 65536;
-        let x = value_at(seed);
-        values[k] = if k < from {
-            x
-        } else if k < past {
+        *value = if from <= k && k < past {
             0.0
         } else {
-            x
+            value_at(seed)
         };
-        k += 1;
     }
 }
 
@@ -207,11 +193,10 @@ fn both(rt: &impl Print, label: &[u8], features: [f64; 2080], rows: usize, from:
 {
     run_show::words(rt, label);
     let s = similarity_of(&features[0..16 * rows], rows, 17 * rows);
-    let slots = s.slots;
-    run_show::small(rt, s.number);
+    run_show::outcome(rt, &s.answer);
     run_show::words(rt, b", similarity");
-    similarity_slots(rt, &slots, 17 * from, 17 * past);
-    novelty_line(rt, &slots, rows);
+    similarity_slots(rt, &s.slots, 17 * from, 17 * past);
+    novelty_line(rt, &s.slots, rows);
 }
 
 fn novelty_line(rt: &impl Print, similarity: &[f64; 2210], rows: usize)

@@ -5,6 +5,7 @@
 
 ghost use Rattle.std.specs.Prelude.{◌≤◌, length};
 
+use numbers::Refusal;
 use options::TempoOpts;
 use tempo::{Candidate, Tempo, TempoEstimate};
 
@@ -23,14 +24,24 @@ fn candidate(rt: &impl Print, c: Candidate) {
     run_show::float(rt, c.salience);
 }
 
-fn answer(rt: &impl Print, e: TempoEstimate) {
-    run_show::small(rt, e.number);
-    let t = e.tempo;
-    tempo_of(rt, t);
+// What is printed where nothing is estimated.
+const NO_ESTIMATE: TempoEstimate = TempoEstimate {
+    tempo: Tempo::None,
+    candidates: [Candidate {
+        lag: 0,
+        salience: 0.0,
+    }; 3],
+    count: 0,
+};
+
+fn answer(rt: &impl Print, a: Result<TempoEstimate, Refusal>) {
+    run_show::outcome(rt, &a);
+    let e = a.unwrap_or(NO_ESTIMATE);
+    tempo_of(rt, e.tempo);
     run_show::count(rt, e.count);
-    candidate(rt, e.candidates[0]);
-    candidate(rt, e.candidates[1]);
-    candidate(rt, e.candidates[2]);
+    for &c in &e.candidates {
+        candidate(rt, c);
+    }
 }
 
 fn main(rt: HostRuntime) {
@@ -48,7 +59,7 @@ fn main(rt: HostRuntime) {
 fn lengths(rt: &impl Print) {
     table(
         rt,
-        b"slots, onsets 0 2:|03010301|0|2|512|0|5|5|5|5
+        "slots, onsets 0 2:|03010301|0|2|512|0|5|5|5|5
 slots, onsets 2 2:|03010301|2|2|512|0|5|5|5|5
 slots, onsets 3 2:|03010301|3|2|512|0|5|5|5|5
 slots, onsets 5 2:|03010301|5|2|512|0|5|5|5|5
@@ -62,7 +73,7 @@ slots, onsets 8 0:|03010301|8|0|512|0|5|5|5|5\n",
 fn contents(rt: &impl Print) {
     table(
         rt,
-        b"envelope 0:|ffffffff|8|2|512|0|5|5|5|5|constant
+        "envelope 0:|ffffffff|8|2|512|0|5|5|5|5|constant
 envelope 1:|00000000|8|2|512|0|5|5|5|5|all zero
 envelope 2:|z3z103z1|8|2|512|0|5|5|5|5|signed zeros
 envelope 3:|00050000|8|2|512|0|5|5|5|5|one pulse, no weight above 0
@@ -86,7 +97,7 @@ a NaN alone:|n|1|2|512|0|5|5|5|5\n",
 fn bounds(rt: &impl Print) {
     table(
         rt,
-        b"bounds 0:|03010301|8|2|0|0|5|5|5|5|rate 0
+        "bounds 0:|03010301|8|2|0|0|5|5|5|5|rate 0
 bounds 1:|03010301|8|2|1|0|5|5|5|5|rate 1, lags 1 to 2
 bounds 2:|03010301|4|2|1|0|5|5|5|5|rate 1, four slots
 bounds 3:|03010301|3|2|1|0|5|5|5|5|rate 1, three slots
@@ -107,7 +118,7 @@ bounds 13:|03010301|8|2|512|8|5|5|5|5|the lower bound that makes six lags\n",
 fn rooms(rt: &impl Print) {
     table(
         rt,
-        b"room 0:|03010301|8|2|512|0|4|4|4|5|just enough room
+        "room 0:|03010301|8|2|512|0|4|4|4|5|just enough room
 room 1:|03010301|8|2|512|0|3|4|4|5|clarity one short
 room 2:|03010301|8|2|512|0|4|3|4|5|weight one short
 room 3:|03010301|8|2|512|0|4|4|3|5|work one short
@@ -121,7 +132,7 @@ one short and a NaN:|n3010301|8|2|512|0|3|4|4|5\n",
 fn envelopes(rt: &impl Print) {
     table(
         rt,
-        b"period 5:|0400004000040000400004000040000400004000|60|2|2560|0|20|20|20|20
+        "period 5:|0400004000040000400004000040000400004000|60|2|2560|0|20|20|20|20
 periods 6 and 4:|305030008000305030008000305030008000305030008000|60|2|2560|0|20|20|20|20
 period 7 and noise:|101800201262000116002102602220281000207102021|60|2|2560|0|20|20|20|20
 noise:|8219935181909378657975432319487574911|60|2|2560|0|20|20|20|20
@@ -159,12 +170,9 @@ const ENVELOPES: [[f64; 8]; 6] = [
 
 // ---- the tables
 
-fn table(rt: &impl Print, lines: &[u8]) {
-    let n = run_cases::marks(lines, b'\n');
-    let mut k = 0;
-    while k < n {
-        run(rt, run_cases::part(lines, b'\n', k));
-        k += 1;
+fn table(rt: &impl Print, cases: &str) {
+    for line in cases.lines() {
+        run(rt, line.as_bytes());
     }
 }
 
@@ -177,7 +185,7 @@ fn run(rt: &impl Print, line: &[u8]) {
     }
     let mut e = [0.0f64; 60];
     run_cases::spell(text, &mut e);
-    let n = numbers::least(text.len(), 60);
+    let n = text.len().min(60);
     estimate(rt, &e[0..run_cases::column_within(line, 2, n)], line);
 }
 

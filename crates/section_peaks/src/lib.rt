@@ -44,9 +44,10 @@ fn note_values(curve: &[f64], level: f64, gap: usize, work: &mut [f64]) -> usize
     requires { length curve.now ≤ length work.old }
     ensures { Noted (map (at curve.now) (kept_from curve.now level gap 1)) work.old result work.new }
 {
-    let last = numbers::less(curve.len(), 1);
+    let last = curve.len().saturating_sub(1);
     let mut count = 0;
     let mut t = next_peak(curve, level, 1);
+    // Kept as a while: the next group begins where this one ends.
     while t < last {
         let group = group_of(curve, level, gap, t);
         let best = group.best;
@@ -64,11 +65,12 @@ fn list_chosen(curve: &[f64], level: f64, gap: usize, cut: Cut, rows: &mut [u32]
         rows.old
         result rows.new }
 {
-    let last = numbers::less(curve.len(), 1);
+    let last = curve.len().saturating_sub(1);
     let edge = cut.level;
     let mut spare = cut.spare;
     let mut count = 0;
     let mut t = next_peak(curve, level, 1);
+    // Kept as a while: the next group begins where this one ends.
     while t < last {
         let group = group_of(curve, level, gap, t);
         let best = group.best;
@@ -101,6 +103,7 @@ fn group_of(curve: &[f64], level: f64, gap: usize, peak: usize) -> Group
     let last = curve.len() - 1;
     let mut best = peak;
     let mut t = next_peak(curve, level, peak + 1);
+    // Kept as a while: it goes from peak to peak.
     while t < last {
         if t - best > gap {
             return Group { best, next: t };
@@ -128,15 +131,13 @@ fn next_peak(curve: &[f64], level: f64, from: usize) -> usize
     requires { 1 ≤ from }
     ensures { Next curve.now level from result }
 {
-    let last = numbers::less(curve.len(), 1);
-    let mut t = from;
-    while t < last {
+    let last = curve.len().saturating_sub(1);
+    for t in from..last {
         if onsets::peaks::is_peak(curve, level, t) {
             return t;
         }
-        t += 1;
     }
-    t
+    from.max(last)
 }
 
 // ---- the cut
@@ -165,14 +166,11 @@ fn at_most(values: &[f64], level: f64) -> usize
     ensures { result ≡ below (suc (key level)) values.now }
 {
     let mut n = 0;
-    let mut i = 0;
-    while i < values.len() {
-        if floats::bits::precedes(level, values[i]) {
-            i += 1;
+    for &x in values {
+        if floats::bits::precedes(level, x) {
             continue;
         }
         n += 1;
-        i += 1;
     }
     n
 }
@@ -198,6 +196,6 @@ fn judge(level: f64, spare: usize, value: f64) -> Verdict
     }
     Verdict {
         taken: 0 < spare,
-        spare: numbers::less(spare, 1),
+        spare: spare.saturating_sub(1),
     }
 }

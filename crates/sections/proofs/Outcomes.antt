@@ -1,10 +1,14 @@
 -- What the calls promise: a refusal, a curve that is too short and an answer each meet it, and any two outcomes that it permits
 -- coincide (of `boundary_times` by the law `written_unique` of numbers). Assumes nothing.
-use Rattle.std.proofs.Common.{◌≡◌, ℕ, zero, suc, ◌+◌, ◌-◌, ◌<◌, ◌≤◌, min, List, length, take, drop, sym, refl, ◌∙◌, arith, le-ltb, lt-ltb}
+use Rattle.std.proofs.Common.{◌≡◌, ℕ, zero, suc, ◌+◌, ◌-◌, ◌<◌, ◌≤◌, min, List, length, take, drop, sym, refl, ap, ◌∙◌, arith, le-ltb, lt-ltb}
 use lib.Ieee.{Float}
 use Rattle.median.specs.Median.{median_of, mad_of}
 use Rattle.numbers.proofs.Tabs.{listed-none, listed-first}
-use Rattle.numbers.proofs.Outcomes.{open_same, open_then, open_unique}
+use Rattle.std.specs.Prelude.{Result, Ok, Err, IsErrAnd}
+use Rattle.numbers.specs.Refusals as Refusals
+use Rattle.numbers.specs.declared.Refusal.{Refusal}
+use Rattle.numbers.proofs.Outcomes.{number-not_0, open_same, open_then, open_unique}
+use Rattle.sections.specs.declared.Sections.{Sections}
 use Rattle.numbers.specs.Outcomes.{Open}
 use Rattle.numbers.proofs.Tests.{refused_keeps}
 use Rattle.numbers.specs.Lists.{listed}
@@ -14,12 +18,11 @@ use Rattle.onsets.specs.Steps.{Picked}
 use Rattle.section_peaks.specs.Greatest.{kept_greatest}
 use Rattle.sections.specs.Boundaries.{section_mad_scale, least_rows, section_gap, section_level, section_peaks, most_boundaries, boundaries_of, sections_of}
 use Rattle.sections.specs.Confidence.{confidence_of}
-use Rattle.sections.specs.Outcomes.{worked_in, Found}
+use Rattle.sections.specs.Outcomes.{SectionsSaid, sections_said, worked_in, Found}
 use Rattle.section_peaks.specs.Steps.{PickedIn}
-use Rattle.sections.specs.declared.Sections.{Sections}
 
 module _ (number : ℕ) (novelty : List Float) (bounds rows : List ℕ) (work : List Float) where
-  pub found_refused : (answer : Sections) → answer.number ≡ number → (answer.number ≡ 0 → ⊥) → answer.sections ≡ 0 → answer.count ≡ 0
+  pub found_refused : (answer : SectionsSaid) → answer.number ≡ number → (answer.number ≡ 0 → ⊥) → answer.sections ≡ 0 → answer.count ≡ 0
       → answer.confidence ≡ nought → Found number novelty bounds rows work answer rows work
   found_refused answer e h s n c =
       let no : number ≡ 0 → ⊥ = λ z. h (e ∙ z) in
@@ -32,8 +35,14 @@ module _ (number : ℕ) (novelty : List Float) (bounds rows : List ℕ) (work : 
         works = open_same _ work;
       }
 
+  -- a refusal that `?` hands on: e is what refused
+  pub found_on : (r : Result Sections Refusal) (e : Refusal) → IsErrAnd r (λ (x : Refusal). x ≡ e) → Refusals.number e ≡ number
+      → Found number novelty bounds rows work (sections_said r) rows work
+  found_on (Ok s) e h k = absurd h
+  found_on (Err x) e h k = found_refused (sections_said (Err x)) (ap Refusals.number h ∙ k) (number-not_0 x) refl refl refl
+
   -- any two outcomes coincide, but for the sorting room
-  pub found_unique : {a b : Sections} {x y : List ℕ} {u v : List Float} → Found number novelty bounds rows work a x u
+  pub found_unique : {a b : SectionsSaid} {x y : List ℕ} {u v : List Float} → Found number novelty bounds rows work a x u
       → Found number novelty bounds rows work b y v
       → (a.number ≡ b.number) × (a.sections ≡ b.sections) × (a.count ≡ b.count) × (a.confidence ≡ b.confidence) × (x ≡ y)
       × (drop (worked_in number (length novelty)) u ≡ drop (worked_in number (length novelty)) v)
@@ -53,7 +62,7 @@ unfolding sections_of
 sections_short zero = refl
 sections_short (suc n) = omega arith
 
-pub found_short : (number : ℕ) (novelty : List Float) (samples rate max_sections : ℕ) (rows : List ℕ) (work : List Float) (answer : Sections)
+pub found_short : (number : ℕ) (novelty : List Float) (samples rate max_sections : ℕ) (rows : List ℕ) (work : List Float) (answer : SectionsSaid)
     → number ≡ 0 → length novelty < least_rows → answer.number ≡ 0 → answer.sections ≡ min (length novelty) 1 → answer.count ≡ 0 → answer.confidence ≡ nought
     → Found number novelty (boundaries_of novelty samples rate max_sections) rows work answer rows work
 unfolding boundaries_of confidence_of
@@ -93,7 +102,7 @@ unfolding sections_of
 sections_long zero b h = absurd (omega arith)
 sections_long (suc n) b h = refl
 
-pub found-picked : (novelty : List Float) (bounds rows : List ℕ) (work : List Float) (answer : Sections) (rows' : List ℕ) (work₁ work' : List Float)
+pub found-picked : (novelty : List Float) (bounds rows : List ℕ) (work : List Float) (answer : SectionsSaid) (rows' : List ℕ) (work₁ work' : List Float)
     → least_rows ≤ length novelty → answer.number ≡ 0 → answer.sections ≡ answer.count + 1 → answer.confidence ≡ confidence_of novelty bounds
     → Open (length novelty) work work₁ → PickedIn (length novelty) bounds rows work₁ answer.count rows' work'
     → Found 0 novelty bounds rows work answer rows' work'
@@ -107,7 +116,7 @@ found-picked novelty bounds rows work answer rows' work₁ work' h a s c w p =
       works = rw (le-ltb (length novelty) least_rows h) (open_then _ _ _ _ w p.works);
     }
 
-pub found_long : (number : ℕ) (novelty : List Float) (samples rate max_sections gap most : ℕ) (rows : List ℕ) (work : List Float) (answer : Sections)
+pub found_long : (number : ℕ) (novelty : List Float) (samples rate max_sections gap most : ℕ) (rows : List ℕ) (work : List Float) (answer : SectionsSaid)
     (rows' : List ℕ) (work' : List Float)
     → number ≡ 0 → least_rows ≤ length novelty → gap ≡ section_gap samples rate → most ≡ most_boundaries max_sections
     → Found 0 novelty (kept_greatest novelty most (section_peaks novelty gap)) rows work answer rows' work'

@@ -27,10 +27,8 @@ fn greatest_of(values: &[f64]) -> f64
     ensures { result ≡ greatest_from lowest_float values.now }
 {
     let mut top = -1.7976931348623157e308;
-    let mut i = 0;
-    while i < values.len() {
+    for i in 0..values.len() {
         top = greater(top, values[i]);
-        i += 1;
     }
     top
 }
@@ -47,10 +45,8 @@ fn prominences(novelty: &[f64], med: f64, rows: &[u32]) -> f64
     ensures { result ≡ sum_of (map (prominence novelty.now med) rows.now) }
 {
     let mut sum = 0.0;
-    let mut i = 0;
-    while i < rows.len() {
+    for i in 0..rows.len() {
         sum += prominence_of(novelty, med, rows[i] as usize);
-        i += 1;
     }
     sum
 }

@@ -5,22 +5,22 @@
 
 mod confidence; // confidence.rt: how far they stand out
 
-ghost use Rattle.std.specs.Prelude.{◌≡◌, ◌≤◌, map, length};
+ghost use Rattle.std.specs.Prelude.{◌≡◌, ◌≤◌, map, length, Ok};
+ghost use Rattle.numbers.specs.Refusals.{number_of};
 ghost use Rattle.numbers.specs.Rounded.{◌⊗◌, real};
 ghost use Rattle.numbers.specs.Limits.{most_features, row_fine};
 ghost use Rattle.numbers.specs.Lists.{every, listed};
 ghost use Rattle.section_peaks.specs.Greatest.{kept_greatest};
 ghost use Rattle.sections.specs.Boundaries.{least_rows, frame_ms, section_gap, section_peaks, grid_fine, boundaries_refusal};
 ghost use Rattle.sections.specs.Times.{row_times_refusal};
-ghost use Rattle.sections.specs.Outcomes.{Found, BoundariesPromise, BoundaryTimesPromise};
+ghost use Rattle.sections.specs.Outcomes.{Found, BoundariesPromise, BoundaryTimesPromise, sections_said};
 
-use numbers::THOUSAND;
+use numbers::{Refusal, THOUSAND};
 
-// What `boundaries` answers: its number, how many sections there are, how many boundaries are listed (one less, or none), and how far
-// they stand out, from 0 to 1. All are 0 at a refusal, but the number.
+// What `boundaries` answers: how many sections there are, how many boundaries are listed (one less, or none), and how far they stand out, from 0
+// to 1.
 #[derive(Clone, Copy)]
 pub struct Sections {
-    pub number: u32,
     pub sections: usize,
     pub count: usize,
     pub confidence: f64,
@@ -45,31 +45,22 @@ pub fn boundaries(
     max_sections: usize,
     rows: &mut [u32],
     work: &mut [f64],
-) -> Sections
+) -> Result<Sections, Refusal>
     ensures { BoundariesPromise novelty.now length rate max_sections
         rows.old work.old
-        result rows.new work.new }
+        (sections_said result) rows.new work.new }
 {
-    let number = refusal(novelty, length, rate, rows.len(), work.len());
-    if number != 0 {
-        return Sections {
-            number,
-            sections: 0,
-            count: 0,
-            confidence: 0.0,
-        };
-    }
+    refusal(novelty, length, rate, rows.len(), work.len())?;
     let n = novelty.len();
     if n < LEAST_ROWS {
-        return Sections {
-            number: 0,
-            sections: numbers::least(n, 1),
+        return Ok(Sections {
+            sections: n.min(1),
             count: 0,
             confidence: 0.0,
-        };
+        });
     }
-    let most = numbers::greatest(1, max_sections) - 1;
-    find(novelty, section_gap(length, rate), most, rows, work)
+    let most = max_sections.max(1) - 1;
+    Ok(find(novelty, section_gap(length, rate), most, rows, work))
 }
 
 // The boundaries of a curve that is long enough, with the least rows between them and the most that are listed.
@@ -80,39 +71,38 @@ fn find(novelty: &[f64], gap: usize, most: usize, rows: &mut [u32], work: &mut [
         × (length novelty.now ≤ length work.old) }
     ensures { Found 0 novelty.now (kept_greatest novelty.now most (section_peaks novelty.now gap))
         rows.old work.old
-        result rows.new work.new }
+        (sections_said (Ok result)) rows.new work.new }
 {
     let med = median::median_in(novelty, work);
     let level = med + MAD_SCALE * median::mad_in(novelty, med, work);
     let count = section_peaks::pick_boundaries(novelty, level, gap, most, rows, work);
     let sure = confidence::confidence_of(novelty, med, &rows[0..count]);
     Sections {
-        number: 0,
         sections: count + 1,
         count,
         confidence: sure,
     }
 }
 
-fn refusal(novelty: &[f64], length: u64, rate: u32, room: usize, work: usize) -> u32
-    ensures { result ≡ boundaries_refusal novelty.now length rate room work }
+fn refusal(novelty: &[f64], length: u64, rate: u32, room: usize, work: usize) -> Result<(), Refusal>
+    ensures { number_of result ≡ boundaries_refusal novelty.now length rate room work }
 {
     if novelty.len() > numbers::MOST_FEATURES {
-        return numbers::OUT_OF_BOUNDS;
+        return Err(Refusal::OutOfBounds);
     }
     if !grid_fine(length, rate) {
-        return numbers::OUT_OF_BOUNDS;
+        return Err(Refusal::OutOfBounds);
     }
     if room < novelty.len() {
-        return numbers::TOO_LITTLE_ROOM;
+        return Err(Refusal::TooLittleRoom);
     }
     if work < novelty.len() {
-        return numbers::TOO_LITTLE_ROOM;
+        return Err(Refusal::TooLittleRoom);
     }
     if numbers::values_fine(novelty) {
-        return 0;
+        return Ok(());
     }
-    numbers::WRONG_VALUE
+    Err(Refusal::WrongValue)
 }
 
 // Whether a feature row's length and the sample rate are in their bounds.
@@ -140,45 +130,40 @@ pub fn section_gap(length: u64, rate: u32) -> usize
     ensures { result ≡ section_gap length rate }
 {
     let rows = floats::wholes::ceil_of(MIN_GAP_MS / frame_ms(length, rate)) as usize;
-    numbers::greatest(1, rows)
+    rows.max(1)
 }
 
 // Writes the time in milliseconds at which each row begins, in the rows' order. Room: one slot for each row.
 // Refuses: 1 a length outside 1 to 2^31, a rate outside 1 to 192,000 or a row of 50,000 and above; 3 ms shorter than rows. A refusal
 // writes nothing. The rows need not ascend. Slots past them stay.
-pub fn boundary_times(rows: &[u32], length: u64, rate: u32, ms: &mut [f64]) -> u32
-    ensures { BoundaryTimesPromise rows.now length rate ms.old result ms.new }
+pub fn boundary_times(rows: &[u32], length: u64, rate: u32, ms: &mut [f64]) -> Result<(), Refusal>
+    ensures { BoundaryTimesPromise rows.now length rate ms.old (number_of result) ms.new }
 {
-    let number = times_refusal(rows, length, rate, ms.len());
-    if number != 0 {
-        return number;
-    }
+    times_refusal(rows, length, rate, ms.len())?;
     write_times(rows, frame_ms(length, rate), ms);
-    0
+    Ok(())
 }
 
-fn times_refusal(rows: &[u32], length: u64, rate: u32, room: usize) -> u32
-    ensures { result ≡ row_times_refusal rows.now length rate room }
+fn times_refusal(rows: &[u32], length: u64, rate: u32, room: usize) -> Result<(), Refusal>
+    ensures { number_of result ≡ row_times_refusal rows.now length rate room }
 {
     if !grid_fine(length, rate) {
-        return numbers::OUT_OF_BOUNDS;
+        return Err(Refusal::OutOfBounds);
     }
     if !lists::all_at_most(rows, numbers::MOST_LISTED_ROW) {
-        return numbers::OUT_OF_BOUNDS;
+        return Err(Refusal::OutOfBounds);
     }
     if room < rows.len() {
-        return numbers::TOO_LITTLE_ROOM;
+        return Err(Refusal::TooLittleRoom);
     }
-    0
+    Ok(())
 }
 
 fn write_times(rows: &[u32], each: f64, ms: &mut [f64])
     requires { length rows.now ≤ length ms.old }
     ensures { ms.new ≡ listed (map (λ row. real row ⊗ each) rows.now) ms.old }
 {
-    let mut i = 0;
-    while i < rows.len() {
+    for i in 0..rows.len() {
         ms[i] = (rows[i] as f64) * each;
-        i += 1;
     }
 }

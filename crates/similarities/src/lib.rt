@@ -5,6 +5,7 @@
 
 ghost use Rattle.std.specs.Prelude.{◌≡◌, ℕ, ◌+◌, ◌-◌, ◌*◌, ◌≤◌, ◌<◌, min, length, get_or};
 ghost use Rattle.std.specs.Float.{nan};
+ghost use Rattle.numbers.specs.Refusals.{number_of};
 ghost use Rattle.numbers.specs.Limits.{feature_width};
 ghost use Rattle.numbers.specs.Lists.{filled};
 ghost use Rattle.row_pairs.specs.Pairs.{band_width, dot_of, similarity_at};
@@ -12,10 +13,7 @@ ghost use Rattle.similarities.specs.Similarity.{similarity_number, SimilarityPro
 ghost use Rattle.similarities.specs.Lanes.{columns, own_columns, turned_room, turned_at, turned_column, square_at, root_at, Block};
 ghost use Rattle.similarities.specs.Lanes.{lane_product, lane_quotient, settled_from};
 
-use numbers::{
-    FEATURE_WIDTH, MOST_FEATURES, OUT_OF_BOUNDS, TOO_LITTLE_ROOM, WRONG_LENGTH, WRONG_VALUE, least,
-    values_fine,
-};
+use numbers::{FEATURE_WIDTH, MOST_FEATURES, Refusal, values_fine};
 use roots::{guess_root, sqrt_from};
 use row_pairs::{dot, feature_row, settle};
 
@@ -27,37 +25,34 @@ const COLUMNS: usize = 128;
 // those of them whose slots are written: each has the sixteen rows after it in the block
 const OWN_COLUMNS: usize = 112;
 
-// the number that similarity gives
-fn similarity_number(features: &[f64], rows: usize, room: usize) -> u32
-    ensures { result ≡ similarity_number features.now rows room }
+// what similarity refuses
+fn refusal(features: &[f64], rows: usize, room: usize) -> Result<(), Refusal>
+    ensures { number_of result ≡ similarity_number features.now rows room }
 {
     if rows > MOST_FEATURES {
-        return OUT_OF_BOUNDS;
+        return Err(Refusal::OutOfBounds);
     }
     if features.len() != rows * FEATURE_WIDTH {
-        return WRONG_LENGTH;
+        return Err(Refusal::WrongLength);
     }
     if room < rows * BAND_WIDTH {
-        return TOO_LITTLE_ROOM;
+        return Err(Refusal::TooLittleRoom);
     }
     if !values_fine(features) {
-        return WRONG_VALUE;
+        return Err(Refusal::WrongValue);
     }
-    0
+    Ok(())
 }
 
 // Writes similarity[0..rows * 17] from rows of sixteen feature values: slot i * 17 + d is how alike rows i and i + d are, from -1 to 1. Later slots stay.
 // Refuses 1 to 4 and then writes nothing: 1 for more than 50,000 rows, 2 for a length of the features other than rows * 16, 3 for fewer than
 // rows * 17 slots of similarity, 4 for a feature value that isn't finite or has size above 2^150.
-pub fn similarity(features: &[f64], rows: usize, similarity: &mut [f64]) -> u32
-    ensures { SimilarityPromise features.now rows similarity.old result similarity.new }
+pub fn similarity(features: &[f64], rows: usize, similarity: &mut [f64]) -> Result<(), Refusal>
+    ensures { SimilarityPromise features.now rows similarity.old (number_of result) similarity.new }
 {
-    let number = similarity_number(features, rows, similarity.len());
-    if number != 0 {
-        return number;
-    }
+    refusal(features, rows, similarity.len())?;
     fill_similarity_rows(features, rows, 0, rows, similarity);
-    0
+    Ok(())
 }
 
 // Value k of rows first to first + count - 1, side by side: that of row first + r stands at k * 128 + r.
@@ -76,10 +71,8 @@ fn turn_value(
         × (length turned.old ≡ turned_room) }
     ensures { turned.new ≡ filled (turned_at features.now first) turned.old (k * columns) (k * columns + count) }
 {
-    let mut r = 0;
-    while r < count {
+    for r in 0..count {
         turned[k * COLUMNS + r] = features[(first + r) * FEATURE_WIDTH + k];
-        r += 1;
     }
 }
 
@@ -92,10 +85,8 @@ fn turn(features: &[f64], rows: usize, first: usize, count: usize, turned: &mut 
     ensures { (r k : ℕ) → r < count → k < feature_width
         → get_or turned.new (k * columns + r) nan ≡ get_or features.now ((first + r) * feature_width + k) nan }
 {
-    let mut k = 0;
-    while k < FEATURE_WIDTH {
+    for k in 0..FEATURE_WIDTH {
         turn_value(features, rows, first, count, k, turned);
-        k += 1;
     }
 }
 
@@ -107,11 +98,9 @@ fn square_rows(features: &[f64], rows: usize, first: usize, count: usize, square
         × (length squares.old ≡ columns) }
     ensures { squares.new ≡ filled (square_at features.now first) squares.old 0 count }
 {
-    let mut r = 0;
-    while r < count {
+    for r in 0..count {
         let row = feature_row(features, rows, first + r);
         squares[r] = dot(row, row);
-        r += 1;
     }
 }
 
@@ -120,10 +109,8 @@ fn guess_all(squares: &[f64; 128], guesses: &mut [u64; 128])
     requires { length guesses.old ≡ columns }
     ensures { length guesses.new ≡ columns }
 {
-    let mut r = 0;
-    while r < COLUMNS {
+    for r in 0..COLUMNS {
         guesses[r] = guess_root(squares[r]);
-        r += 1;
     }
 }
 
@@ -134,10 +121,8 @@ fn root_all(squares: &[f64; 128], norms: &mut [f64; 128])
 {
     let mut guesses = [0u64; 128];
     guess_all(squares, &mut guesses);
-    let mut r = 0;
-    while r < COLUMNS {
+    for r in 0..COLUMNS {
         norms[r] = sqrt_from(squares[r], guesses[r]);
-        r += 1;
     }
 }
 
@@ -146,10 +131,8 @@ fn add_products(sums: &mut [f64; 17], x: f64, turned: &[f64; 2048], at: usize)
     requires { (length sums.old ≡ band_width) × (at + feature_width < turned_room) }
     ensures { sums.new ≡ filled (lane_product sums.old x turned.now at) sums.old 1 band_width }
 {
-    let mut j = 1;
-    while j < BAND_WIDTH {
+    for j in 1..BAND_WIDTH {
         sums[j] = sums[j] + x * turned[at + j];
-        j += 1;
     }
 }
 
@@ -161,10 +144,8 @@ fn row_dots(row: &[f64], turned: &[f64; 2048], c: usize, own: f64) -> [f64; 17]
         × ((d : ℕ) → 0 < d → d < band_width → get_or result d nan ≡ dot_of row.now (turned_column turned.now (c + d))) }
 {
     let mut sums = [0.0; 17];
-    let mut k = 0;
-    while k < FEATURE_WIDTH {
+    for k in 0..FEATURE_WIDTH {
         add_products(&mut sums, row[k], turned, k * COLUMNS + c);
-        k += 1;
     }
     sums[0] = own;
     sums
@@ -176,10 +157,8 @@ fn divide(sums: &mut [f64; 17], norms: &[f64; 128], c: usize)
     ensures { sums.new ≡ filled (lane_quotient sums.old norms.now c) sums.old 0 band_width }
 {
     let norm = norms[c];
-    let mut d = 0;
-    while d < BAND_WIDTH {
+    for d in 0..BAND_WIDTH {
         sums[d] = sums[d] / (norm * norms[c + d]);
-        d += 1;
     }
 }
 
@@ -190,10 +169,8 @@ fn put_row(quotients: &[f64; 17], norms: &[f64; 128], c: usize, at: usize, simil
         ≡ filled (settled_from quotients.now norms.now c at) similarity.old at (at + band_width) }
 {
     let norm = norms[c];
-    let mut d = 0;
-    while d < BAND_WIDTH {
+    for d in 0..BAND_WIDTH {
         similarity[at + d] = settle(quotients[d], norm, norms[c + d]);
-        d += 1;
     }
 }
 
@@ -243,10 +220,8 @@ fn put_block(
     ensures { similarity.new
         ≡ filled (similarity_at features.now rows) similarity.old (first * band_width) (past * band_width) }
 {
-    let mut i = first;
-    while i < past {
+    for i in first..past {
         put_slots(features, rows, first, i, turned, squares, norms, similarity);
-        i += 1;
     }
 }
 
@@ -260,7 +235,7 @@ fn fill_block(features: &[f64], rows: usize, first: usize, past: usize, similari
     ensures { similarity.new
         ≡ filled (similarity_at features.now rows) similarity.old (first * band_width) (past * band_width) }
 {
-    let count = least(COLUMNS, rows - first);
+    let count = COLUMNS.min(rows - first);
     let mut turned = [0.0; 2048];
     turn(features, rows, first, count, &mut turned);
     let mut squares = [0.0; 128];
@@ -285,8 +260,9 @@ pub fn fill_similarity_rows(
         ≡ filled (similarity_at features.now rows) similarity.old (from * band_width) (past * band_width) }
 {
     let mut i = from;
+    // Kept as a while: step_by's loop has a second end, where its count would overflow, to be proved again.
     while i < past {
-        let next = least(i + OWN_COLUMNS, past);
+        let next = (i + OWN_COLUMNS).min(past);
         fill_block(features, rows, i, next, similarity);
         i = next;
     }

@@ -13,9 +13,8 @@ use Rattle.numbers.specs.Refusals.{unless_refused}
 use Rattle.numbers.proofs.Outcomes.{open_unique}
 use Rattle.options.specs.declared.TempoOpts.{TempoOpts}
 use Rattle.lags.specs.Lags.{min_lag, max_lag}
-use Rattle.stability.specs.declared.Steadiness.{Steadiness}
 use Rattle.stability.specs.Windows.{windows_of, window_at, window_agrees, agreeing_to}
-use Rattle.stability.specs.Answers.{stability_refusal, left_open, StabilityPromise}
+use Rattle.stability.specs.Answers.{Steadiness, stability_refusal, left_open, StabilityPromise}
 
 -- two slices that are alike in length and in every slot that is not left open
 abbrev pub Alike : (number room : ℕ) → (xs ys : List Float) → Type 0

@@ -11,7 +11,7 @@ use lib.Ieee.{Float}
 use Rattle.numbers.specs.Limits.{most_rows, most_period, value_fine}
 use Rattle.numbers.specs.Refusals.{lowest}
 use Rattle.numbers.specs.Lists.{every}
-use Rattle.numbers.proofs.Tests.{lowest_1, and_left, and_failed, Passed, lowest-zero}
+use Rattle.numbers.proofs.Tests.{lowest_1, and_left, and_failed, lowest-zero}
 use Rattle.options.specs.declared.TempoOpts.{TempoOpts}
 use Rattle.lags.specs.declared.LagRange.{LagRange}
 use Rattle.lags.specs.Lags.{lag_room}

@@ -8,19 +8,21 @@ use borrow.Author.Tests.{eq-eqb, ne_eqb, lt-ltb, le-ltb}
 use lib.Dec.{ltb, eqb}
 use lib.ListN.{length}
 use lib.Ieee.{Float}
+use Rattle.std.specs.Prelude.{Result, Ok, Err, IsErrAnd}
 use Rattle.numbers.specs.Rounded.{◌⊘◌, real}
+use Rattle.numbers.specs.Refusals as Refusals
+use Rattle.numbers.specs.declared.Refusal.{Refusal}
 use Rattle.numbers.proofs.Tests.{pick_true, pick-false, refused_keeps, passed_does}
 use Rattle.numbers.specs.Outcomes.{Open}
-use Rattle.numbers.proofs.Outcomes.{open_same, open_answered}
+use Rattle.numbers.proofs.Outcomes.{number-not_0, open_same, open_answered}
 use Rattle.options.specs.declared.TempoOpts.{TempoOpts}
 use Rattle.lags.specs.declared.LagRange.{LagRange}
 use Rattle.lags.specs.Lags.{min_lag, max_lag, lag_room}
 use Rattle.tempo.proofs.Refusals.{Ranged}
 use Rattle.stability.specs.declared.Stability.{Stability}
 use Rattle.stability.specs.declared.Stability.TheVariants.{None, Share}
-use Rattle.stability.specs.declared.Steadiness.{Steadiness}
 use Rattle.stability.specs.Windows.{windows_of, agreeing_to}
-use Rattle.stability.specs.Answers.{stability_refusal, left_open, share_of, without_stability, steadiness_of, StabilityPromise}
+use Rattle.stability.specs.Answers.{steadiness, stability_refusal, left_open, share_of, without_stability, steadiness_of, StabilityPromise}
 use Rattle.stability.specs.Inner.{Counted, Shared}
 
 -- so many windows lie in the envelope
@@ -86,26 +88,29 @@ module _ (env : List Float) (rate : ℕ) (o : TempoOpts) (whole : ℕ) (clarity 
   abbrev number : ℕ
   number = stability_refusal env rate o whole (length clarity) (length weight) (length work)
 
-  pub steadied_refused : (n : ℕ) → n ≡ number → (n ≡ 0 → ⊥) → StabilityPromise env rate o whole clarity weight work (without_stability n) clarity weight work
+  -- a refusal that `?` hands on: e is what refused
+  pub steadied_refused : (r : Result Stability Refusal) (e : Refusal) → IsErrAnd r (λ (x : Refusal). x ≡ e) → Refusals.number e ≡ number
+      → StabilityPromise env rate o whole clarity weight work (steadiness r) clarity weight work
   unfolding steadiness_of
-  steadied_refused n e some =
-      let left : number ≡ 0 → ⊥ = λ z. some (e ∙ z) in
+  steadied_refused (Ok s) e h is = absurd h
+  steadied_refused (Err x) e h is =
+      let same : Refusals.number x ≡ number = ap Refusals.number h ∙ is in
+      let left : number ≡ 0 → ⊥ = λ z. number-not_0 x (same ∙ z) in
       record {
-        answered = ap without_stability e ∙ sym (refused_keeps number _ _ left);
+        answered = ap without_stability same ∙ sym (refused_keeps number _ _ left);
         clarities = open_same _ clarity;
         weights = open_same _ weight;
         works = open_same _ work;
       }
 
-  pub steadied_shared : (n : ℕ) (range : LagRange) (s : Stability) (clarity' weight' work' : List Float) → n ≡ number → n ≡ 0 → Ranged rate o range
+  pub steadied_shared : (range : LagRange) (s : Stability) (clarity' weight' work' : List Float) → number ≡ 0 → Ranged rate o range
       → Shared env rate range.min_lag range.max_lag whole clarity weight work s clarity' weight' work'
-      → StabilityPromise env rate o whole clarity weight work (record { number = 0; stability = s }) clarity' weight' work'
+      → StabilityPromise env rate o whole clarity weight work (steadiness (Ok s)) clarity' weight' work'
   unfolding steadiness_of
-  steadied_shared n range s clarity' weight' work' e z a told =
-      let none : number ≡ 0 = sym e ∙ z in
+  steadied_shared range s clarity' weight' work' none a told =
       let t : Shared env rate (min_lag rate o) (max_lag rate o) whole clarity weight work s clarity' weight' work' = rw (a.least, a.greatest) at told in
       record {
-        answered = ap (λ (x : Stability). record { number = 0; stability = x }) t.answered ∙ sym (passed_does number _ _ none);
+        answered = ap (λ (x : Stability). steadiness (Ok x)) t.answered ∙ sym (passed_does number _ _ none);
         clarities = open_answered _ _ clarity clarity' none t.clarities;
         weights = open_answered _ _ weight weight' none t.weights;
         works = open_answered _ _ work work' none t.works;

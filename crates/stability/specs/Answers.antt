@@ -2,10 +2,11 @@
 --
 -- Read first `stability_refusal`, when it refuses; then `share_of`, the stability of an envelope, by the windows of Windows; then `left_open`, how many
 -- slots of each lent slice it leaves open. `StabilityPromise`, the last, is the whole.
-use Rattle.std.specs.Prelude.{ℕ, true, ◌&&◌, ◌||◌, List, ◌≡◌, ltb, leb, eqb, length, Float}
+use Rattle.std.specs.Prelude.{ℕ, true, ◌&&◌, ◌||◌, List, ◌≡◌, ltb, leb, eqb, length, Float, Result, Ok, Err}
 use Rattle.numbers.specs.Rounded.{◌⊘◌, real, pick}
 use Rattle.numbers.specs.Limits.{most_period, value_fine}
-use Rattle.numbers.specs.Refusals.{lowest, unless_refused}
+use Rattle.numbers.specs.Refusals.{number, lowest, unless_refused}
+use Rattle.numbers.specs.declared.Refusal.{Refusal}
 use Rattle.numbers.specs.Lists.{every}
 use Rattle.numbers.specs.Outcomes.{OpenUnless}
 use Rattle.options.specs.declared.TempoOpts.{TempoOpts}
@@ -13,7 +14,6 @@ use Rattle.lags.specs.Lags.{min_lag, max_lag, lag_room}
 use Rattle.tempo.specs.Answers.{search_bounds, search_room}
 use Rattle.stability.specs.declared.Stability.{Stability}
 use Rattle.stability.specs.declared.Stability.TheVariants.{None, Share}
-use Rattle.stability.specs.declared.Steadiness.{Steadiness}
 use Rattle.stability.specs.Windows.{windows_of, agreeing_to}
 
 -- the number: what `estimate` looks at, and the whole lag, which is bounded as a period
@@ -44,16 +44,26 @@ unfoldable pub left_open : (n min_lag max_lag whole : ℕ) → ℕ
 unfolding windows_of
 left_open n min_lag max_lag whole = pick (eqb whole 0 || ltb (windows_of n max_lag) 2) 0 (lag_room min_lag max_lag)
 
+-- what `stability_of` says: its number, and the stability
+pub record Steadiness : Type 0 where
+  pub number : ℕ
+  pub stability : Stability
+
 -- no stability, with the number of a refusal or 0
 abbrev pub without_stability : ℕ → Steadiness
 without_stability n = record { number = n; stability = None }
+
+-- by its answer: `Ok` is number 0 and the stability, `Err e` the number of e in the table, and none
+abbrev pub steadiness : Result Stability Refusal → Steadiness
+steadiness (Ok s) = record { number = 0; stability = s }
+steadiness (Err e) = without_stability (number e)
 
 -- the answer
 unfoldable pub steadiness_of : List Float → (rate : ℕ) → TempoOpts → (whole clarity weight work : ℕ) → Steadiness
 unfolding stability_refusal share_of min_lag max_lag
 steadiness_of env rate o whole clarity weight work =
-    let number = stability_refusal env rate o whole clarity weight work in
-    unless_refused number (record { number = 0; stability = share_of env rate (min_lag rate o) (max_lag rate o) whole }) (without_stability number)
+    let k = stability_refusal env rate o whole clarity weight work in
+    unless_refused k (record { number = 0; stability = share_of env rate (min_lag rate o) (max_lag rate o) whole }) (without_stability k)
 
 -- The promise of `stability_of`: its answer is determined by the input. Where windows are searched, what the first slots of each lent slice hold
 -- afterwards, one a lag, is left open, since no caller has a use for it: in the lag curves' room each window's curves go over those of the window

@@ -4,21 +4,23 @@
 #![tactic(auto)]
 
 ghost use Rattle.std.specs.Prelude.{◌≡◌, ◌≤◌, length};
+ghost use Rattle.numbers.specs.Refusals.{number_of};
 ghost use Rattle.numbers.specs.Limits.{most_period, most_rows};
 ghost use Rattle.lags.specs.Lags.{lag_room};
-ghost use Rattle.stability.specs.Answers.{stability_refusal, StabilityPromise};
+ghost use Rattle.stability.specs.Answers.{stability_refusal, StabilityPromise, steadiness};
 ghost use Rattle.stability.specs.Inner.{Shared};
 
 use crate::windows::count_agreeing;
-use lags::lag_range;
+use lags::lags_in;
 use lists::float_of;
-use numbers::{MOST_PERIOD, OUT_OF_BOUNDS, least};
+use numbers::{MOST_PERIOD, Refusal};
 use options::TempoOpts;
 use tempo::search_refusal;
 
 mod windows;
 
-// No stability, or the share of windows whose tempo agrees with the whole envelope's, with both counts.
+// No stability, or the share of windows whose tempo agrees with the whole envelope's, with both counts. Kept as an enum of its own, and no Option:
+// docs/RULES.md, X6.
 #[derive(Clone, Copy)]
 pub enum Stability {
     None,
@@ -29,14 +31,7 @@ pub enum Stability {
     },
 }
 
-// The answer of `stability_of`: its number, and the stability.
-#[derive(Clone, Copy)]
-pub struct Steadiness {
-    pub number: u32,
-    pub stability: Stability,
-}
-
-// the number of `stability_of`
+// what `stability_of` refuses
 fn refusal(
     envelope: &[f64],
     rate: u32,
@@ -45,11 +40,11 @@ fn refusal(
     clarity: usize,
     weight: usize,
     work: usize,
-) -> u32
-    ensures { result ≡ stability_refusal envelope.now rate opts whole_lag clarity weight work }
+) -> Result<(), Refusal>
+    ensures { number_of result ≡ stability_refusal envelope.now rate opts whole_lag clarity weight work }
 {
     if whole_lag > MOST_PERIOD {
-        return OUT_OF_BOUNDS;
+        return Err(Refusal::OutOfBounds);
     }
     search_refusal(envelope, rate, opts, clarity, weight, work)
 }
@@ -78,7 +73,7 @@ fn share(
     if whole_lag == 0 {
         return Stability::None;
     }
-    let windows = least(4, envelope.len() / (max_lag + 2));
+    let windows = (envelope.len() / (max_lag + 2)).min(4);
     if windows < 2 {
         return Stability::None;
     }
@@ -105,14 +100,14 @@ pub fn stability_of(
     clarity: &mut [f64],
     weight: &mut [f64],
     work: &mut [f64],
-) -> Steadiness
+) -> Result<Stability, Refusal>
     ensures { StabilityPromise
         envelope.now rate opts whole_lag
         clarity.old weight.old work.old
-        result
+        (steadiness result)
         clarity.new weight.new work.new }
 {
-    let number = refusal(
+    refusal(
         envelope,
         rate,
         opts,
@@ -120,15 +115,9 @@ pub fn stability_of(
         clarity.len(),
         weight.len(),
         work.len(),
-    );
-    if number != 0 {
-        return Steadiness {
-            number,
-            stability: Stability::None,
-        };
-    }
-    let range = lag_range(rate, opts);
-    let stability = share(
+    )?;
+    let range = lags_in(rate, opts);
+    Ok(share(
         envelope,
         rate,
         range.min_lag,
@@ -137,9 +126,5 @@ pub fn stability_of(
         clarity,
         weight,
         work,
-    );
-    Steadiness {
-        number: 0,
-        stability,
-    }
+    ))
 }

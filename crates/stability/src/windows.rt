@@ -74,22 +74,18 @@ pub fn count_agreeing(
     fill_priors(rate, min_lag, max_lag, work);
     let slots = envelope.len() / windows;
     let mut agreeing = 0;
-    let mut i = 0;
-    'windows: while i < windows {
+    'windows: for i in 0..windows {
         let from = i * slots;
         let to = from + slots;
         let lag = window_lag(&envelope[from..to], work, min_lag, max_lag, clarity, weight);
-        i += 1;
         if lag == 0 {
             continue;
         }
-        let mut k = 0;
-        while k < 5 {
-            if fold_fits(whole_lag, lag, FOLDS[k]) {
+        for fold in FOLDS {
+            if fold_fits(whole_lag, lag, fold) {
                 agreeing += 1;
                 continue 'windows;
             }
-            k += 1;
         }
     }
     agreeing

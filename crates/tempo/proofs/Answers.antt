@@ -6,14 +6,12 @@ use lib.ListN.{length}
 use lib.Ieee.{Float}
 use Rattle.lags.specs.Lags.{bpm_at}
 use Rattle.tempo.specs.declared.Candidate.{Candidate}
-use Rattle.tempo.specs.declared.Tempo.{Tempo}
-use Rattle.tempo.specs.declared.Tempo.TheVariants.{None, Found}
-use Rattle.tempo.specs.declared.TempoEstimate.{TempoEstimate}
+use Rattle.tempo.specs.declared.Tempo.TheVariants.{Found}
 use Rattle.lag_candidates.specs.Candidates.{winner_of, candidates_of}
-use Rattle.tempo.specs.Answers.{unused, candidate_at, pairs_of, found_of}
+use Rattle.tempo.specs.Answers.{EstimateSaid, unused, candidate_at, pairs_of, found_of}
 
 -- the answer with these candidates
-abbrev answer_with : (bpm : Float) → (first : Candidate) → List Candidate → ℕ → TempoEstimate
+abbrev answer_with : (bpm : Float) → (first : Candidate) → List Candidate → ℕ → EstimateSaid
 answer_with bpm first pairs n = record { number = 0; tempo = Found bpm first.salience; candidates = pairs; count = n }
 
 module _ (rate min_lag : ℕ) (cs ws : List Float) (w : ℕ) (first : Candidate) (bpm : Float)

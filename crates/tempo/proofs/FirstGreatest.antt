@@ -7,15 +7,14 @@ use mathlib.Core.Bool.{true, false, not}
 use mathlib.Core.List.{List}
 use Prim.Native.Nat.{ℕ, ◌+◌, ◌^◌, ◌≤◌, ◌<◌}
 use native.Mathlib.Omega.{arith}
-use borrow.Author.Tests.{leb-true}
-use lib.Dec.{T, leb, lit<, lit≤}
+use lib.Dec.{T, lit<, lit≤}
 use lib.ListN.{length, get_or}
 use lib.Ieee.{Float, nan, binary64, is_nan, lt, le, of_bits}
 use lib.Ieee.Fits.{div-fits}
 use Rattle.numbers.specs.Rounded.{◌⊘◌, real, nought, epsilon, one, hop}
 use Rattle.numbers.specs.Limits.{most_rate, most_period, most_rows, value_fine}
 use Rattle.numbers.specs.Lists.{every}
-use Rattle.numbers.proofs.Tests.{and_left, or_left, or_right}
+use Rattle.numbers.proofs.Tests.{or_left, or_right}
 use Rattle.numbers.proofs.Tabs.{get_or-curve, length-tab}
 use Rattle.lists.specs.Means.{mean_of}
 use Rattle.sizes.specs.Sizes.{AtMost, AtLeast, Within, is_plus, Plus}

@@ -24,17 +24,16 @@ use Rattle.lags.proofs.Ranges.{min_lag_least, min_lt_max, range_of_lem}
 use Rattle.tempo.specs.declared.Candidate.{Candidate}
 use Rattle.tempo.specs.declared.Tempo.{Tempo}
 use Rattle.tempo.specs.declared.Tempo.TheVariants.{None, Found}
-use Rattle.tempo.specs.declared.TempoEstimate.{TempoEstimate}
 use Rattle.lag_candidates.specs.Candidates.{winner_of, ranked, stands_apart, accepted_of, candidates_of}
 use Rattle.lag_search.specs.Search.{weight_rule, clarity_curve, weight_curve, winner_above}
-use Rattle.tempo.specs.Answers.{unused, candidate_at, pairs_of, without_tempo, found_of, unwritten, tempo_of, search_refusal, estimate_of, EstimatePromise}
+use Rattle.tempo.specs.Answers.{EstimateSaid, unused, candidate_at, pairs_of, without_tempo, found_of, unwritten, tempo_of, search_refusal, estimate_of, EstimatePromise}
 use Rattle.lag_candidates.proofs.Winners.{winner-below}
 use Rattle.lag_candidates.proofs.Rankings.{ranked-below}
 use Rattle.tempo.proofs.Refusals.{accepted}
 
 -- any two outcomes that the promise permits coincide
 pub coincide : {env : List Float} {onsets rate : ℕ} {o : TempoOpts} {clarity weight work : List Float}
-    {r s : TempoEstimate} {c d w v k l : List Float}
+    {r s : EstimateSaid} {c d w v k l : List Float}
     → EstimatePromise env onsets rate o clarity weight work r c w k → EstimatePromise env onsets rate o clarity weight work s d v l
     → (r ≡ s) × (c ≡ d) × (w ≡ v) × (k ≡ l)
 coincide p q = (
@@ -83,7 +82,7 @@ is_found None = false
 is_found (Found bpm clarity) = true
 
 -- what every answer keeps, by the lags of its range
-pub record Kept (least most : ℕ) (e : TempoEstimate) : Type 0 where
+pub record Kept (least most : ℕ) (e : EstimateSaid) : Type 0 where
   pub few : e.count ≤ 3
   pub found : is_found e.tempo ≡ ltb 0 e.count
   pub used : (i : ℕ) (z : Candidate) → i < e.count → (least ≤ (get_or e.candidates i z).lag) × ((get_or e.candidates i z).lag ≤ most)
@@ -130,7 +129,7 @@ kept-found rate least most cs ws h l =
     }
 
 -- where the range begins at 1 or above, there is a tempo exactly where the first pair has a lag
-pub kept_lag : (least most : ℕ) (e : TempoEstimate) → 1 ≤ least → Kept least most e → (z : Candidate)
+pub kept_lag : (least most : ℕ) (e : EstimateSaid) → 1 ≤ least → Kept least most e → (z : Candidate)
     → is_found e.tempo ≡ ltb 0 (get_or e.candidates 0 z).lag
 kept_lag least most e h k z =
     ⊎_elim
@@ -142,6 +141,13 @@ kept_lag least most e h k z =
     (lt_or_le 0 e.count)
 
 -- ---- every call
+
+-- where nothing is refused the number is 0
+pub told-number : (env : List Float) (onsets rate least most : ℕ) → (tempo_of env onsets rate least most).number ≡ 0
+unfolding tempo_of found_of
+told-number env onsets rate least most =
+    by_pick (λ (e : EstimateSaid). e.number ≡ 0) (unwritten env onsets most) _ _ (λ u. refl)
+    (λ u. by_pick (λ (e : EstimateSaid). e.number ≡ 0) (winner_above (weight_curve env rate least most)) _ _ (λ a. refl) (λ a. refl))
 
 by_refused : {A : Type 0} (P : A → Type 0) (n : ℕ) (x y : A) → (n ≡ 0 → P x) → P y → P (unless_refused n x y)
 by_refused P zero x y f g = f refl
@@ -178,12 +184,12 @@ module _ (env : List Float) (onsets rate : ℕ) (o : TempoOpts) (clarity weight 
   pub winner-most : (z : Candidate) → (get_or (estimate_of env onsets rate o clarity weight work).candidates 0 z).lag ≤ most_period
   unfolding estimate_of
   winner-most z =
-      by_refused (λ (e : TempoEstimate). (get_or e.candidates 0 z).lag ≤ most_period) (search_refusal env rate o clarity weight work) _ _
+      by_refused (λ (e : EstimateSaid). (get_or e.candidates 0 z).lag ≤ most_period) (search_refusal env rate o clarity weight work) _ _
       (λ e. first-most (tempo_of env onsets rate (min_lag rate o) (max_lag rate o)) told-kept
       (range_of_lem rate o (accepted env rate o clarity weight work e).bounds).most-max)
       (omega arith)
     where
-      first-most : (e : TempoEstimate) → Kept (min_lag rate o) (max_lag rate o) e → max_lag rate o ≤ most_period → (get_or e.candidates 0 z).lag ≤ most_period
+      first-most : (e : EstimateSaid) → Kept (min_lag rate o) (max_lag rate o) e → max_lag rate o ≤ most_period → (get_or e.candidates 0 z).lag ≤ most_period
       first-most e k h =
           ⊎_elim
           (λ (p : 0 < e.count). omega (arith, (k.used 0 z p).1))

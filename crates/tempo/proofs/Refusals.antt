@@ -10,14 +10,14 @@ use lib.ListN.{length}
 use lib.Ieee.{Float}
 use Rattle.numbers.specs.Limits.{most_rows, most_period, value_fine}
 use Rattle.numbers.specs.Lists.{every}
-use Rattle.numbers.proofs.Tests.{and_left, and_right, and-held, and_failed, Passed, lowest-zero, lowest_0, lowest_1, lowest_3, lowest_4}
+use Rattle.numbers.proofs.Tests.{and_left, and_right, and-held, and_failed, lowest-zero, lowest_0, lowest_1, lowest_3, lowest_4}
 use Rattle.options.specs.declared.TempoOpts.{TempoOpts}
 use Rattle.lags.specs.declared.LagRange.{LagRange}
-use Rattle.lags.specs.Lags.{min_lag, max_lag, lag_room, bounds_fine, lag_range}
-use Rattle.lags.proofs.Ranges.{Answered, range_of_lem}
+use Rattle.lags.specs.Lags.{min_lag, max_lag, lag_room, bounds_fine}
+use Rattle.lags.proofs.Ranges.{range_of_lem}
 use Rattle.tempo.specs.Answers.{search_bounds, search_room, search_refusal}
 
--- the lags that `lag_range` answered, where the bounds are fine
+-- the lags that `lags_in` answered, where the bounds are fine
 pub record Ranged (rate : ℕ) (o : TempoOpts) (r : LagRange) : Type 0 where
   pub least : r.min_lag ≡ min_lag rate o
   pub greatest : r.max_lag ≡ max_lag rate o
@@ -25,11 +25,12 @@ pub record Ranged (rate : ℕ) (o : TempoOpts) (r : LagRange) : Type 0 where
   pub ordered : r.min_lag < r.max_lag
   pub most : r.max_lag ≤ most_period
 
-pub ranged : (rate : ℕ) (o : TempoOpts) (r : LagRange) → r ≡ lag_range rate o → bounds_fine rate o ≡ true → Ranged rate o r
+pub ranged : (rate : ℕ) (o : TempoOpts) (r : LagRange) → r ≡ record { min_lag = min_lag rate o; max_lag = max_lag rate o }
+    → bounds_fine rate o ≡ true → Ranged rate o r
 ranged rate o r e fine =
     let a = range_of_lem rate o fine in
-    let l : r.min_lag ≡ min_lag rate o = ap (λ (x : LagRange). x.min_lag) e ∙ a.least in
-    let g : r.max_lag ≡ max_lag rate o = ap (λ (x : LagRange). x.max_lag) e ∙ a.greatest in
+    let l : r.min_lag ≡ min_lag rate o = ap (λ (x : LagRange). x.min_lag) e in
+    let g : r.max_lag ≡ max_lag rate o = ap (λ (x : LagRange). x.max_lag) e in
     record {
       least = l;
       greatest = g;

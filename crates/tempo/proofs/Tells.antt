@@ -9,18 +9,22 @@ use borrow.Author.Tests.{leb-false}
 use lib.Dec.{ltb}
 use lib.ListN.{length, take, drop}
 use lib.Ieee.{Float}
+use Rattle.std.specs.Prelude.{Result, Ok, Err, IsErrAnd}
 use Rattle.numbers.specs.Rounded.{pick}
 use Rattle.numbers.specs.Limits.{most_period}
+use Rattle.numbers.specs.Refusals as Refusals
+use Rattle.numbers.specs.declared.Refusal.{Refusal}
 use Rattle.numbers.specs.Lists.{filled}
 use Rattle.numbers.proofs.Tests.{which, or_right, pick_true, pick-false, refused_keeps, passed_does}
 use Rattle.numbers.proofs.Tabs.{length-tab}
+use Rattle.numbers.proofs.Outcomes.{number-not_0}
 use Rattle.options.specs.declared.TempoOpts.{TempoOpts}
 use Rattle.lags.specs.declared.LagRange.{LagRange}
 use Rattle.lags.specs.Lags.{min_lag, max_lag, lag_room}
-use Rattle.tempo.specs.declared.TempoEstimate.{TempoEstimate}
 use Rattle.lag_candidates.specs.Candidates.{winner_of}
 use Rattle.lag_search.specs.Search.{flat, clarity_rule, weight_rule, clarity_curve, weight_curve, winner_above, winner_lag, winning_lag, Searched}
-use Rattle.tempo.specs.Answers.{without_tempo, found_of, too_little, unwritten, tempo_of, curve_of, search_refusal, estimate_of, EstimatePromise}
+use Rattle.tempo.specs.declared.TempoEstimate.{TempoEstimate}
+use Rattle.tempo.specs.Answers.{EstimateSaid, estimate_said, without_tempo, found_of, too_little, unwritten, tempo_of, curve_of, search_refusal, estimate_of, EstimatePromise}
 use Rattle.tempo.specs.Inner.{TempoIn}
 use Rattle.lag_candidates.proofs.Winners.{winner-below}
 use Rattle.tempo.proofs.Refusals.{Ranged}
@@ -40,7 +44,7 @@ module _ (env : List Float) (onsets rate min_lag max_lag : ℕ) where
 
   -- ---- an envelope that is not searched
 
-  pub told_unsearched : (clarity weight : List Float) (r : TempoEstimate) → too_little (length env) onsets max_lag ≡ true → r ≡ without_tempo 0
+  pub told_unsearched : (clarity weight : List Float) (r : EstimateSaid) → too_little (length env) onsets max_lag ≡ true → r ≡ without_tempo 0
       → TempoIn env onsets rate min_lag max_lag clarity weight r clarity weight
   unfolding tempo_of curve_of
   told_unsearched clarity weight r e is =
@@ -85,7 +89,7 @@ module _ (env : List Float) (onsets rate min_lag max_lag : ℕ) where
         (λ (a : winner_above weights ≡ false). pick-false (winner_above weights) _ _ a) (which (winner_above weights)))
         (which (flat env))
 
-    pub told_none : (r : TempoEstimate) → 1 ≤ min_lag → lag ≡ 0 → r ≡ without_tempo 0 → TempoIn env onsets rate min_lag max_lag clarity weight r clarity' weight'
+    pub told_none : (r : EstimateSaid) → 1 ≤ min_lag → lag ≡ 0 → r ≡ without_tempo 0 → TempoIn env onsets rate min_lag max_lag clarity weight r clarity' weight'
     told_none r h z is = record { answered = is ∙ sym (none_is h z); clarities = clarities_are; weights = weights_are }
 
     -- a lag
@@ -148,7 +152,7 @@ module _ (env : List Float) (onsets rate min_lag max_lag : ℕ) where
               (one, omega (arith, weight-length)),
             )
 
-        pub told-found : (r : TempoEstimate) → r ≡ found_of rate min_lag clarity_part weight_part
+        pub told-found : (r : EstimateSaid) → r ≡ found_of rate min_lag clarity_part weight_part
             → TempoIn env onsets rate min_lag max_lag clarity weight r clarity' weight'
         told-found r is =
             record {
@@ -164,24 +168,26 @@ module _ (env : List Float) (onsets rate : ℕ) (o : TempoOpts) (clarity weight 
   abbrev number : ℕ
   number = search_refusal env rate o (length clarity) (length weight) (length work)
 
-  pub estimated_refused : (n : ℕ) (r : TempoEstimate) → n ≡ number → (n ≡ 0 → ⊥) → r ≡ without_tempo n
-      → EstimatePromise env onsets rate o clarity weight work r clarity weight work
+  -- a refusal that `?` hands on: e is what refused
+  pub estimated_refused : (r : Result TempoEstimate Refusal) (e : Refusal) → IsErrAnd r (λ (x : Refusal). x ≡ e) → Refusals.number e ≡ number
+      → EstimatePromise env onsets rate o clarity weight work (estimate_said r) clarity weight work
   unfolding estimate_of
-  estimated_refused n r e some is =
-      let no : number ≡ 0 → ⊥ = λ z. some (e ∙ z) in
+  estimated_refused (Ok found) e h is = absurd h
+  estimated_refused (Err x) e h is =
+      let same : Refusals.number x ≡ number = ap Refusals.number h ∙ is in
+      let no : number ≡ 0 → ⊥ = λ z. number-not_0 x (same ∙ z) in
       record {
-        answered = is ∙ ap without_tempo e ∙ sym (refused_keeps number _ _ no);
+        answered = ap without_tempo same ∙ sym (refused_keeps number _ _ no);
         clarities = sym (refused_keeps number _ _ no);
         weights = sym (refused_keeps number _ _ no);
         unsorted = refl;
       }
 
-  pub estimated_told : (n : ℕ) (range : LagRange) (r : TempoEstimate) (clarity' weight' : List Float) → n ≡ number → n ≡ 0 → Ranged rate o range
+  pub estimated_told : (range : LagRange) (r : EstimateSaid) (clarity' weight' : List Float) → number ≡ 0 → Ranged rate o range
       → TempoIn env onsets rate range.min_lag range.max_lag clarity weight r clarity' weight'
       → EstimatePromise env onsets rate o clarity weight work r clarity' weight' work
   unfolding estimate_of
-  estimated_told n range r clarity' weight' e z a told =
-      let none : number ≡ 0 = sym e ∙ z in
+  estimated_told range r clarity' weight' none a told =
       let t : TempoIn env onsets rate (min_lag rate o) (max_lag rate o) clarity weight r clarity' weight' = rw (a.least, a.greatest) at told in
       record {
         answered = t.answered ∙ sym (passed_does number _ _ none);

@@ -2,15 +2,17 @@
 --
 -- Read first `search_refusal`, when it refuses; then `tempo_of`, the tempo and the candidates of an envelope, by the lag curves of crate lag_search;
 -- then `unwritten` and `curve_of`, what stands in a lent lag curve. `EstimatePromise`, the last, is the whole.
-use Rattle.std.specs.Prelude.{ℕ, ◌+◌, Bool, true, ◌&&◌, ◌||◌, List, [], ◌∷◌, map, ◌≡◌, ltb, leb, length, get_or, Float}
+use Rattle.std.specs.Prelude.{ℕ, ◌+◌, Bool, true, ◌&&◌, ◌||◌, List, [], ◌∷◌, map, ◌≡◌, ltb, leb, length, get_or, Float, Result, Ok, Err}
 use Rattle.std.specs.Float.{nan}
 use Rattle.numbers.specs.Rounded.{nought, pick}
 use Rattle.numbers.specs.Limits.{most_rows, value_fine}
-use Rattle.numbers.specs.Refusals.{lowest, unless_refused}
+use Rattle.numbers.specs.Refusals.{number, lowest, unless_refused}
+use Rattle.numbers.specs.declared.Refusal.{Refusal}
 use Rattle.numbers.specs.Lists.{every, filled, listed}
 use Rattle.options.specs.declared.TempoOpts.{TempoOpts}
 use Rattle.lags.specs.Lags.{min_lag, max_lag, lag_room, bounds_fine, bpm_at}
 use Rattle.tempo.specs.declared.Candidate.{Candidate}
+use Rattle.tempo.specs.declared.Tempo.{Tempo}
 use Rattle.tempo.specs.declared.Tempo.TheVariants.{None, Found}
 use Rattle.tempo.specs.declared.TempoEstimate.{TempoEstimate}
 use Rattle.lag_candidates.specs.Candidates.{winner_of, candidates_of}
@@ -50,12 +52,24 @@ unfoldable pub pairs_of : (min_lag : ℕ) → List Float → List ℕ → List C
 unfolding listed
 pairs_of min_lag clarity slots = listed (map (candidate_at min_lag clarity) slots) (unused ∷ unused ∷ unused ∷ [])
 
+-- what `estimate` says: its number, the tempo, and `count` candidates, the winner first
+pub record EstimateSaid : Type 0 where
+  pub number : ℕ
+  pub tempo : Tempo
+  pub candidates : List Candidate
+  pub count : ℕ
+
 -- no tempo, with the number of a refusal or 0
-abbrev pub without_tempo : ℕ → TempoEstimate
+abbrev pub without_tempo : ℕ → EstimateSaid
 without_tempo n = record { number = n; tempo = None; candidates = unused ∷ unused ∷ unused ∷ []; count = 0 }
 
+-- by its answer: `Ok` is number 0 and its parts, `Err e` the number of e in the table, and no tempo
+abbrev pub estimate_said : Result TempoEstimate Refusal → EstimateSaid
+estimate_said (Ok e) = record { number = 0; tempo = e.tempo; candidates = e.candidates; count = e.count }
+estimate_said (Err e) = without_tempo (number e)
+
 -- "a tempo carrying its BPM and clarity", and the candidates, of a clarity and a weight curve
-unfoldable pub found_of : (rate min_lag : ℕ) → (clarity weight : List Float) → TempoEstimate
+unfoldable pub found_of : (rate min_lag : ℕ) → (clarity weight : List Float) → EstimateSaid
 unfolding bpm_at winner_of candidates_of pairs_of
 found_of rate min_lag clarity weight =
     let winner = winner_of weight in
@@ -78,7 +92,7 @@ unfolding too_little flat
 unwritten env onsets max_lag = too_little (length env) onsets max_lag || flat env
 
 -- the answer where nothing is refused
-unfoldable pub tempo_of : List Float → (onsets rate min_lag max_lag : ℕ) → TempoEstimate
+unfoldable pub tempo_of : List Float → (onsets rate min_lag max_lag : ℕ) → EstimateSaid
 unfolding unwritten winner_above found_of
 tempo_of env onsets rate min_lag max_lag =
     let clarity = clarity_curve env min_lag max_lag in
@@ -92,17 +106,17 @@ unfolding filled
 curve_of rule was untouched room = pick untouched was (filled rule was 0 room)
 
 -- the answer
-unfoldable pub estimate_of : List Float → (onsets rate : ℕ) → TempoOpts → (clarity weight work : ℕ) → TempoEstimate
+unfoldable pub estimate_of : List Float → (onsets rate : ℕ) → TempoOpts → (clarity weight work : ℕ) → EstimateSaid
 unfolding search_refusal tempo_of min_lag max_lag
 estimate_of env onsets rate o clarity weight work =
-    let number = search_refusal env rate o clarity weight work in
-    unless_refused number (tempo_of env onsets rate (min_lag rate o) (max_lag rate o)) (without_tempo number)
+    let k = search_refusal env rate o clarity weight work in
+    unless_refused k (tempo_of env onsets rate (min_lag rate o) (max_lag rate o)) (without_tempo k)
 
 -- The promise of `estimate`: its answer, both lag curves and the work slice afterwards, for every input. The winner and the candidates are
 -- found without a sort, so the work slice is as it was.
 pub record EstimatePromise
     (env : List Float) (onsets rate : ℕ) (o : TempoOpts) (clarity weight work : List Float)
-    (answer : TempoEstimate) (clarity' weight' work' : List Float) : Type 0 where
+    (answer : EstimateSaid) (clarity' weight' work' : List Float) : Type 0 where
   pub answered : answer ≡ estimate_of env onsets rate o (length clarity) (length weight) (length work)
   pub clarities :
       clarity' ≡

@@ -3,7 +3,8 @@
 // Document 01, Tempo and candidates. The Rust: tempo.rs `pick_tempo_peaks`.
 #![tactic(auto)]
 
-ghost use Rattle.std.specs.Prelude.{◌≡◌, true, ℕ, ◌+◌, ◌≤◌, ◌<◌, length};
+ghost use Rattle.std.specs.Prelude.{◌≡◌, true, ℕ, ◌+◌, ◌≤◌, ◌<◌, length, Ok};
+ghost use Rattle.numbers.specs.Refusals.{number_of};
 ghost use Rattle.numbers.specs.Limits.{most_period};
 ghost use Rattle.lags.specs.Lags.{lag_room, bounds_fine};
 ghost use Rattle.lag_candidates.specs.Candidates.{winner_of};
@@ -12,6 +13,7 @@ ghost use Rattle.tempo.specs.Answers.{
   search_refusal,
   too_little,
   without_tempo,
+  estimate_said,
   candidate_at,
   found_of,
   EstimatePromise,
@@ -20,8 +22,8 @@ ghost use Rattle.tempo.specs.Inner.{TempoIn};
 
 use lag_candidates::first_apart;
 use lag_search::winning_lag;
-use lags::{bounds_fine, bpm_at, lag_range, lag_slots};
-use numbers::{MOST_ROWS, OUT_OF_BOUNDS, TOO_LITTLE_ROOM, WRONG_VALUE, values_fine};
+use lags::{bounds_fine, bpm_at, lag_slots, lags_in};
+use numbers::{MOST_ROWS, Refusal, values_fine};
 use options::TempoOpts;
 
 // A tempo that the envelope may be heard at: its lag in frames, and its clarity, 0 to 1.
@@ -31,17 +33,16 @@ pub struct Candidate {
     pub salience: f64,
 }
 
-// No tempo, or a tempo in beats a minute with its clarity, 0 to 1.
+// No tempo, or a tempo in beats a minute with its clarity, 0 to 1. Kept as an enum of its own, and no Option: docs/RULES.md, X6.
 #[derive(Clone, Copy)]
 pub enum Tempo {
     None,
     Found { bpm: f64, clarity: f64 },
 }
 
-// The answer of `estimate`: its number, the tempo, and `count` candidates, the winner first; unused ones hold zeros.
+// The answer of `estimate`: the tempo, and `count` candidates, the winner first; unused ones hold zeros.
 #[derive(Clone, Copy)]
 pub struct TempoEstimate {
-    pub number: u32,
     pub tempo: Tempo,
     pub candidates: [Candidate; 3],
     pub count: usize,
@@ -52,12 +53,12 @@ fn has_room(rate: u32, opts: TempoOpts, clarity: usize, weight: usize, work: usi
     requires { bounds_fine rate opts ≡ true }
     ensures { result ≡ search_room rate opts clarity weight work }
 {
-    let range = lag_range(rate, opts);
+    let range = lags_in(rate, opts);
     let room = lag_slots(range.min_lag, range.max_lag);
     room <= clarity && (room <= weight && room <= work)
 }
 
-// Inner: the number of a call that searches an envelope, lent so many slots for the lag curves and for sorting.
+// Inner: what a call that searches an envelope refuses, lent so many slots for the lag curves and for sorting.
 pub fn search_refusal(
     envelope: &[f64],
     rate: u32,
@@ -65,34 +66,33 @@ pub fn search_refusal(
     clarity: usize,
     weight: usize,
     work: usize,
-) -> u32
-    ensures { result ≡ search_refusal envelope.now rate opts clarity weight work }
+) -> Result<(), Refusal>
+    ensures { number_of result ≡ search_refusal envelope.now rate opts clarity weight work }
 {
     if envelope.len() > MOST_ROWS {
-        return OUT_OF_BOUNDS;
+        return Err(Refusal::OutOfBounds);
     }
     if !bounds_fine(rate, opts) {
-        return OUT_OF_BOUNDS;
+        return Err(Refusal::OutOfBounds);
     }
     if !has_room(rate, opts, clarity, weight, work) {
-        return TOO_LITTLE_ROOM;
+        return Err(Refusal::TooLittleRoom);
     }
     if !values_fine(envelope) {
-        return WRONG_VALUE;
+        return Err(Refusal::WrongValue);
     }
-    0
+    Ok(())
 }
 
-// no tempo, with the number of a refusal or 0
-fn without_tempo(number: u32) -> TempoEstimate
-    ensures { result ≡ without_tempo number }
+// no tempo
+fn without_tempo() -> TempoEstimate
+    ensures { estimate_said (Ok result) ≡ without_tempo 0 }
 {
     let unused = Candidate {
         lag: 0,
         salience: 0.0,
     };
     TempoEstimate {
-        number,
         tempo: Tempo::None,
         candidates: [unused; 3],
         count: 0,
@@ -115,7 +115,7 @@ fn candidate_at(clarity: &[f64], min_lag: usize, i: usize) -> Candidate
 fn found(clarity: &[f64], weight: &[f64], rate: u32, min_lag: usize, winner: usize) -> TempoEstimate
     requires winner_value { (winner ≡ winner_of weight.now) × (winner < length weight.now) × (length clarity.now ≡ length weight.now) }
     requires le_min_lag { (1 ≤ min_lag) × (min_lag + length weight.now ≤ most_period + 1) }
-    ensures { result ≡ found_of rate min_lag clarity.now weight.now }
+    ensures { estimate_said (Ok result) ≡ found_of rate min_lag clarity.now weight.now }
 {
     let none = Candidate {
         lag: 0,
@@ -129,7 +129,6 @@ fn found(clarity: &[f64], weight: &[f64], rate: u32, min_lag: usize, winner: usi
     let b = first_apart(weight, min_lag, winner, winner);
     if b == weight.len() {
         return TempoEstimate {
-            number: 0,
             tempo,
             candidates: [first, none, none],
             count: 1,
@@ -139,7 +138,6 @@ fn found(clarity: &[f64], weight: &[f64], rate: u32, min_lag: usize, winner: usi
     let c = first_apart(weight, min_lag, winner, b);
     if c == weight.len() {
         return TempoEstimate {
-            number: 0,
             tempo,
             candidates: [first, second, none],
             count: 2,
@@ -147,7 +145,6 @@ fn found(clarity: &[f64], weight: &[f64], rate: u32, min_lag: usize, winner: usi
     }
     let third = candidate_at(clarity, min_lag, c);
     TempoEstimate {
-        number: 0,
         tempo,
         candidates: [first, second, third],
         count: 3,
@@ -177,15 +174,15 @@ fn tempo_in(
     ensures { TempoIn
         envelope.now onsets rate min_lag max_lag
         clarity.old weight.old
-        result
+        (estimate_said (Ok result))
         clarity.new weight.new }
 {
     if too_little(envelope.len(), onsets, max_lag) {
-        return without_tempo(0);
+        return without_tempo();
     }
     let lag = winning_lag(envelope, rate, min_lag, max_lag, clarity, weight);
     if lag == 0 {
-        return without_tempo(0);
+        return without_tempo();
     }
     let room = lag_slots(min_lag, max_lag);
     found(
@@ -209,26 +206,23 @@ pub fn estimate(
     clarity: &mut [f64],
     weight: &mut [f64],
     work: &mut [f64],
-) -> TempoEstimate
+) -> Result<TempoEstimate, Refusal>
     ensures { EstimatePromise
         envelope.now onsets rate opts
         clarity.old weight.old work.old
-        result
+        (estimate_said result)
         clarity.new weight.new work.new }
 {
-    let number = search_refusal(
+    search_refusal(
         envelope,
         rate,
         opts,
         clarity.len(),
         weight.len(),
         work.len(),
-    );
-    if number != 0 {
-        return without_tempo(number);
-    }
-    let range = lag_range(rate, opts);
-    tempo_in(
+    )?;
+    let range = lags_in(rate, opts);
+    Ok(tempo_in(
         envelope,
         onsets,
         rate,
@@ -236,5 +230,5 @@ pub fn estimate(
         range.max_lag,
         clarity,
         weight,
-    )
+    ))
 }

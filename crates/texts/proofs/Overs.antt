@@ -14,6 +14,12 @@ module _ {A : Type 0} where
   unfolding over
   over-parts d at p = ap (λ (r : List A). (take at d ++ r) ++ drop (at + length p) d) (take-length p)
 
+  -- as a copy over k slots leaves the list
+  pub over-copied : (d : List A) (at k : ℕ) (p : List A) → k ≡ length p → take at d ++ (p ++ drop k (drop at d)) ≡ over d at p
+  over-copied d at k p e =
+      ap (λ (r : List A). take at d ++ (p ++ r)) (drop-drop k at d ∙ ap (λ (j : ℕ). drop (at + j) d) e)
+      ∙ sym (over-parts d at p ∙ append_assoc (take at d) p (drop (at + length p) d))
+
   pub over-one : (d : List A) (at : ℕ) (x : A) → at < length d → set d at x ≡ over d at (x ∷ [])
   over-one d at x h =
       set_split d at x h

@@ -2,10 +2,8 @@
 use mathlib.Core.Path.{◌≡◌, refl, sym, ap, ◌∙◌}
 use mathlib.Core.List.{List, [], ◌∷◌, ◌++◌}
 use Prim.Native.Nat.{ℕ, ◌+◌, ◌/◌, ◌%◌, ◌≤◌, ◌<◌}
-use native.Mathlib.Numerals.{add-one}
 use native.Mathlib.Omega.{arith}
-use lib.ListN.{length, get_or, take, set, length-append}
-use lib.Seq.{take-suc}
+use lib.ListN.{length, set, length-append}
 use Rattle.numbers.specs.Lists.{over}
 use Rattle.numbers.proofs.Overs.{over_none, length_over}
 use Rattle.texts.specs.Texts.{Put}
@@ -51,14 +49,3 @@ put_digit {a} {b} {at} {end} {n} h f = rw (decimal-one n h) f
 pub put_last : {a b c : List ℕ} {at mid end n : ℕ} → 10 ≤ n → Put a at (decimal (n / 10)) mid b → Put b mid (digit_of (n % 10) ∷ []) end c
     → Put a at (decimal n) end c
 put_last {a} {b} {c} {at} {mid} {end} {n} h f g = rw (decimal-last n h) (put_then f g)
-
--- ---- bytes as they are
-
--- one byte more of some words
-pub put_word : (a b ws : List ℕ) (at i : ℕ) → i < length ws → at + i < length b → Put a at (take i ws) (at + i) b
-    → Put a at (take (i + 1) ws) (at + (i + 1)) (set b (at + i) (get_or ws i 0))
-put_word a b ws at i h k f =
-    let more : take i ws ++ (get_or ws i 0 ∷ []) ≡ take (i + 1) ws = sym (ap (λ (j : ℕ). take j ws) (add-one i) ∙ take-suc ws i 0 h) in
-    let g = put_then f (put_one b (at + i) (get_or ws i 0) k) in
-    let e : at + i + 1 ≡ at + (i + 1) = omega arith in
-    rw more at (rw e at g)

@@ -7,10 +7,14 @@ use Prim.Native.Nat.{ℕ, suc, ◌+◌, ◌-◌, ◌*◌, ◌≤◌, ◌<◌, mi
 use native.Mathlib.Nat.{not-suc-le-zero}
 use native.Mathlib.Numerals.{add-one}
 use native.Mathlib.Omega.{arith}
-use lib.Dec.{eqb, leb}
-use lib.ListN.{length, get_or, drop, drop_of_length-le}
+use lib.Dec.{eqb}
+use lib.ListN.{length, get_or, take, drop, drop_of_length-le}
+use lib.Pointwise.{pointwise}
 use lib.Seq.{drop-cons, drop-length}
-use borrow.Author.Tests.{not-true, not-false, le-leb, lt-leb, lt-ltb, eqb-true, eq-eqb, ne_eqb}
+use borrow.Author.Tests.{not-true, not-false, le-leb, eqb-true, eq-eqb}
+use Rattle.std.specs.List.{prefix_len}
+use Rattle.std.proofs.lemmas.List.Sums.{take_while-cons}
+use Rattle.std.proofs.lemmas.Bool.Decides.{nat_tests}
 use Rattle.numbers.proofs.Tests.{and_left, and_right, and_both, and_assoc, true_not_false}
 use Rattle.numbers.specs.Rounded.{pick}
 use Rattle.texts.specs.Texts.{starts, exactly}
@@ -18,22 +22,15 @@ use Rattle.texts.specs.Decimals.{is_digit, leading, plain, number_from}
 
 -- ---- the bytes that a text starts with
 
-pub starts_none : (bytes text : List ℕ) (i : ℕ) → length bytes ≤ i → starts (drop i bytes) text ≡ true
+eqb-flip : (a b : ℕ) → eqb a b ≡ eqb b a
+eqb-flip a b = grind (arith, nat_tests)
+
+-- as `starts_with` tests it
+pub starts-tested : (bytes text : List ℕ) → pointwise eqb bytes (take (length bytes) text) ≡ starts bytes text
 unfolding starts
-starts_none bytes text i h = rw drop_of_length-le
-
-pub starts_short : (bytes text : List ℕ) (i place : ℕ) → i < length bytes → length text ≤ place → starts (drop i bytes) (drop place text) ≡ false
-unfolding starts
-starts_short bytes text i place h k = rw (drop-cons bytes i 0 h, drop_of_length-le text k)
-
-module _ (bytes text : List ℕ) (i place : ℕ) (h : i < length bytes) (k : place < length text) where
-  pub starts-same : get_or text place 0 ≡ get_or bytes i 0 → starts (drop i bytes) (drop place text) ≡ starts (drop (i + 1) bytes) (drop (place + 1) text)
-  unfolding starts
-  starts-same e = rw (add-one i, add-one place, drop-cons bytes i 0 h, drop-cons text place 0 k, eq-eqb _ _ e)
-
-  pub starts_differ : (get_or text place 0 ≡ get_or bytes i 0 → ⊥) → starts (drop i bytes) (drop place text) ≡ false
-  unfolding starts
-  starts_differ e = rw (drop-cons bytes i 0 h, drop-cons text place 0 k, ne_eqb _ _ e)
+starts-tested [] text = refl
+starts-tested (w ∷ ws) [] = refl
+starts-tested (w ∷ ws) (x ∷ xs) = rw (eqb-flip w x) (ap (λ (t : Bool). eqb x w && t) (starts-tested ws xs))
 
 -- a text is as long as what it starts with, and is that and then the rest
 pub starts-fits : (bytes text : List ℕ) → starts bytes text ≡ true → length bytes ≤ length text
@@ -81,12 +78,6 @@ exactly_own bytes =
 
 -- ---- digits
 
-pub digit_low : (x : ℕ) → x < 48 → is_digit x ≡ false
-digit_low x h = rw (lt-leb 48 x h)
-
-pub digit_high : (x : ℕ) → 57 < x → is_digit x ≡ false
-digit_high x h = rw (le-leb 48 x (omega arith), lt-leb x 57 h)
-
 pub digit_in : (x : ℕ) → 48 ≤ x → x ≤ 57 → is_digit x ≡ true
 digit_in x h k = rw (le-leb 48 x h, le-leb x 57 k)
 
@@ -102,6 +93,12 @@ module _ (text : List ℕ) (place : ℕ) (h : place < length text) where
   pub leading_other : is_digit (get_or text place 0) ≡ false → leading (drop place text) ≡ []
   unfolding leading
   leading_other e = rw (drop-cons text place 0 h, e)
+
+-- as `take_while` takes them
+pub leading-taken : (text : List ℕ) → take (prefix_len is_digit text) text ≡ leading text
+unfolding leading
+leading-taken [] = refl
+leading-taken (x ∷ xs) = grind (arith, take_while-cons is_digit x xs, leading-taken xs)
 
 -- the digits are no longer than the text, and the first of them is its first byte
 pub leading-fits : (text : List ℕ) → length (leading text) ≤ length text

@@ -10,55 +10,40 @@ ghost use Rattle.texts.specs.Decimals.{decimal, leading, plain, number_from};
 
 // ---- reading
 
+// What stands in the text from `at` on: nothing where it ends before.
+fn rest_of(text: &[u8], at: usize) -> &[u8]
+    ensures { result.now ≡ drop at text.now }
+{
+    &text[at.min(text.len())..]
+}
+
 // Inner: whether the text has these bytes from the place `at` on.
 pub fn stands(text: &[u8], at: usize, bytes: &[u8]) -> bool
     ensures { result ≡ starts bytes.now (drop at text.now) }
 {
-    let mut place = at;
-    let mut i = 0;
-    while i < bytes.len() {
-        if place >= text.len() {
-            return false;
-        }
-        if text[place] != bytes[i] {
-            return false;
-        }
-        place += 1;
-        i += 1;
-    }
-    true
+    rest_of(text, at).starts_with(bytes)
 }
 
 // Inner: the place behind the digits that stand from `at` on.
 pub fn digits_end(text: &[u8], at: usize) -> usize
     ensures { result ≡ at + length (leading (drop at text.now)) }
 {
-    let mut place = at;
-    while place < text.len() {
-        let x = text[place];
-        if x < b'0' {
-            return place;
-        }
-        if x > b'9' {
-            return place;
-        }
-        place += 1;
-    }
-    place
+    let count = rest_of(text, at)
+        .iter()
+        .take_while(|x| x.is_ascii_digit())
+        .count();
+    at + count
 }
 
 // Inner: whether digits stand from `at` on without a needless zero.
 pub fn plain_number(text: &[u8], at: usize) -> bool
     ensures { result ≡ plain (leading (drop at text.now)) }
 {
-    let count = digits_end(text, at) - at;
-    if count == 0 {
-        return false;
+    match digits_end(text, at) - at {
+        0 => false,
+        1 => true,
+        _ => text[at] != b'0',
     }
-    if count == 1 {
-        return true;
-    }
-    text[at] != b'0'
 }
 
 // v followed by one digit more, held to `most`: what no u64 holds is above every bound.
@@ -66,12 +51,8 @@ fn one_more(v: u64, x: u8, most: u64) -> u64
     requires { 48 ≤ x }
     ensures { result ≡ min (v * 10 + (x - 48)) most }
 {
-    let digit = (x - b'0') as u64;
-    if v > (u64::MAX - digit) / 10 {
-        return most;
-    }
-    let w = v * 10 + digit;
-    if w < most { w } else { most }
+    let digit = u64::from(x - b'0');
+    v.saturating_mul(10).saturating_add(digit).min(most)
 }
 
 // Inner: the number whose digits stand from `at` on, however many, held to `most`.
@@ -79,17 +60,11 @@ pub fn number_at(text: &[u8], at: usize, most: u64) -> u64
     ensures { result ≡ min (number_from 0 (leading (drop at text.now))) most }
 {
     let mut v: u64 = 0;
-    let mut place = at;
-    while place < text.len() {
-        let x = text[place];
-        if x < b'0' {
-            return v;
-        }
-        if x > b'9' {
+    for &x in rest_of(text, at) {
+        if !x.is_ascii_digit() {
             return v;
         }
         v = one_more(v, x, most);
-        place += 1;
     }
     v
 }
@@ -110,12 +85,9 @@ pub fn put_words(out: &mut [u8], at: usize, words: &[u8]) -> usize
     requires { at + length words.now ≤ length out.old }
     ensures { Put out.old at words.now result out.new }
 {
-    let mut i: usize = 0;
-    while i < words.len() {
-        out[at + i] = words[i];
-        i += 1;
-    }
-    at + i
+    let end = at + words.len();
+    out[at..end].copy_from_slice(words);
+    end
 }
 
 // Inner: a number in decimal. It calls itself for the digits before the last.

@@ -4,11 +4,14 @@
 #![tactic(auto)]
 
 ghost use Rattle.std.specs.Prelude.{◌≡◌, ◌+◌, ◌-◌, ◌≤◌, ◌<◌, length, drop};
+ghost use Rattle.numbers.specs.Refusals.{number_of};
 ghost use Rattle.numbers.specs.Lists.{filled};
 ghost use Rattle.numbers.specs.Outcomes.{Open};
 ghost use Rattle.windows.specs.Windows.{Window};
 ghost use Rattle.threshold.specs.Sliding.{FinePart, sorted_threshold};
 ghost use Rattle.threshold.specs.Threshold.{threshold_of, threshold_at, sorting_room, threshold_refusal, ThresholdPromise};
+
+use numbers::Refusal;
 
 // the most slots of a window
 pub const MEDIAN_WINDOW: usize = 21;
@@ -22,35 +25,36 @@ const DELTA_MIN: f64 = 0.000001;
 // Writes threshold[0..N], N the length of flux; slots past them stay. Room: N slots, and min(21, N) of work to sort in.
 // Refuses: 1 a flux longer than 1,048,576; 3 threshold or work shorter than their room; 4 a flux value that isn't finite or is
 // of size above 2^150. A refusal writes nothing. Work's slots past min(21, N) stay; a threshold may be of size above 2^150.
-pub fn adaptive_threshold(flux: &[f64], threshold: &mut [f64], work: &mut [f64]) -> u32
+pub fn adaptive_threshold(
+    flux: &[f64],
+    threshold: &mut [f64],
+    work: &mut [f64],
+) -> Result<(), Refusal>
     ensures { ThresholdPromise flux.now
         threshold.old work.old
-        result threshold.new work.new }
+        (number_of result) threshold.new work.new }
 {
-    let number = refusal(flux, threshold.len(), work.len());
-    if number != 0 {
-        return number;
-    }
+    refusal(flux, threshold.len(), work.len())?;
     fill_threshold(flux, threshold, 0, flux.len(), work);
-    0
+    Ok(())
 }
 
-fn refusal(flux: &[f64], room: usize, work: usize) -> u32
-    ensures { result ≡ threshold_refusal flux.now room work }
+fn refusal(flux: &[f64], room: usize, work: usize) -> Result<(), Refusal>
+    ensures { number_of result ≡ threshold_refusal flux.now room work }
 {
     if flux.len() > numbers::MOST_ROWS {
-        return numbers::OUT_OF_BOUNDS;
+        return Err(Refusal::OutOfBounds);
     }
     if room < flux.len() {
-        return numbers::TOO_LITTLE_ROOM;
+        return Err(Refusal::TooLittleRoom);
     }
-    if work < numbers::least(MEDIAN_WINDOW, flux.len()) {
-        return numbers::TOO_LITTLE_ROOM;
+    if work < MEDIAN_WINDOW.min(flux.len()) {
+        return Err(Refusal::TooLittleRoom);
     }
     if numbers::values_fine(flux) {
-        return 0;
+        return Ok(());
     }
-    numbers::WRONG_VALUE
+    Err(Refusal::WrongValue)
 }
 
 // Inner: writes slots from `from` up to, not including, `past` of the threshold curve. Where windows are whole, and the values fine, as they are past the
@@ -66,8 +70,8 @@ pub fn fill_threshold(
     ensures threshold_after { threshold.new ≡ filled (threshold_at flux.now) threshold.old from past }
     ensures work_unchanged { drop (sorting_room flux.now) work.new ≡ drop (sorting_room flux.now) work.old }
 {
-    let first = numbers::greatest(from, REACH + 1);
-    let last = numbers::least(past, numbers::less(flux.len(), REACH));
+    let first = from.max(REACH + 1);
+    let last = past.min(flux.len().saturating_sub(REACH));
     if first < last {
         if numbers::values_fine(&flux[first - REACH - 1..last + REACH]) {
             fill_slots(flux, threshold, from, first, work);
@@ -84,10 +88,8 @@ fn fill_slots(flux: &[f64], threshold: &mut [f64], from: usize, past: usize, wor
     ensures threshold_after { threshold.new ≡ filled (threshold_at flux.now) threshold.old from past }
     ensures work_unchanged { drop (sorting_room flux.now) work.new ≡ drop (sorting_room flux.now) work.old }
 {
-    let mut t = from;
-    while t < past {
+    for t in from..past {
         threshold[t] = threshold_slot(flux, t, work);
-        t += 1;
     }
 }
 
@@ -100,8 +102,7 @@ fn fill_whole(flux: &[f64], threshold: &mut [f64], from: usize, past: usize)
 {
     let mut s = windows::sorted(&flux[from - REACH - 1..from + REACH]);
     let mut value = over_sorted(&s);
-    let mut t = from;
-    while t < past {
+    for t in from..past {
         let leaves = windows::one_zero(flux[t - REACH - 1]);
         let comes = windows::one_zero(flux[t + REACH]);
         if leaves != comes {
@@ -109,7 +110,6 @@ fn fill_whole(flux: &[f64], threshold: &mut [f64], from: usize, past: usize)
             value = over_sorted(&s);
         }
         threshold[t] = value;
-        t += 1;
     }
 }
 
@@ -126,8 +126,8 @@ pub fn threshold_slot(flux: &[f64], t: usize, work: &mut [f64]) -> f64
     ensures value { result ≡ threshold_at flux.now t }
     ensures fact { Open (sorting_room flux.now) work.old work.new }
 {
-    let start = numbers::less(t, REACH);
-    let end = numbers::least(t + REACH + 1, flux.len());
+    let start = t.saturating_sub(REACH);
+    let end = (t + REACH + 1).min(flux.len());
     over_window(&flux[start..end], work)
 }
 

@@ -5,16 +5,19 @@ use Prim.Native.Nat.{ℕ, ◌≤◌, max}
 use native.Mathlib.Omega.{arith}
 use lib.ListN.{length, drop, get_or}
 use lib.Ieee.{Float}
+use Rattle.std.specs.Prelude.{Result, Ok, Err, IsOk, IsErrAnd}
 use Rattle.numbers.specs.Limits.{most_period}
+use Rattle.numbers.specs.Refusals as Refusals
+use Rattle.numbers.specs.declared.Refusal.{Refusal}
 use Rattle.numbers.proofs.Tests.{refused_keeps, passed_does}
-use Rattle.numbers.proofs.Outcomes.{drop-later, open_same}
+use Rattle.numbers.proofs.Outcomes.{number-not_0, drop-later, open_same}
 use Rattle.threshold.specs.Threshold.{sorting_room}
 use Rattle.options.specs.declared.TempoOpts.{TempoOpts}
 use Rattle.lags.specs.Lags.{min_lag, max_lag}
 use Rattle.tempo.specs.declared.Candidate.{Candidate}
 use Rattle.tempo.specs.declared.TempoEstimate.{TempoEstimate}
-use Rattle.tempo.specs.Answers.{unused, search_refusal, tempo_of, unwritten, estimate_of, EstimatePromise}
-use Rattle.tempo.proofs.Promises.{winner-most}
+use Rattle.tempo.specs.Answers.{EstimateSaid, estimate_said, unused, search_refusal, tempo_of, unwritten, estimate_of, EstimatePromise}
+use Rattle.tempo.proofs.Promises.{told-number, winner-most}
 use Rattle.stability.specs.declared.Stability.{Stability}
 use Rattle.numbers.specs.Outcomes.{Open}
 use Rattle.onsets.specs.Steps.{OnsetsListed}
@@ -29,6 +32,7 @@ use Rattle.track_parts.specs.Inner.{Followed}
 use Rattle.track_parts.proofs.Follows.{search_passed}
 use Rattle.track.specs.declared.Analysis.{Analysis}
 use Rattle.track.specs.Analyses.{
+  AnalysisSaid,
   estimate_in,
   winners_lag,
   period_in,
@@ -36,6 +40,7 @@ use Rattle.track.specs.Analyses.{
   downbeats_in,
   analysis_of,
   without_analysis,
+  analysis_said,
   written_in,
   open_lags,
   open_work,
@@ -49,9 +54,14 @@ pub first_lag : (cs : List Candidate) (y z : Candidate) → y.lag ≡ z.lag → 
 first_lag [] y z e = e
 first_lag (x ∷ cs) y z e = refl
 
+-- an answer whose number is 0 is an Ok
+found-ok : (r : Result TempoEstimate Refusal) → (estimate_said r).number ≡ 0 → IsOk r
+found-ok (Ok e) z = refl
+found-ok (Err x) z = absurd (number-not_0 x z)
+
 -- ---- the whole
 
-abbrev analysis_by : (onsets : ℕ) → TempoEstimate → Stability → (beats downbeats : ℕ) → Analysis
+abbrev analysis_by : (onsets : ℕ) → EstimateSaid → Stability → (beats downbeats : ℕ) → AnalysisSaid
 analysis_by onsets e s beats downbeats =
     record { number = 0; onsets = onsets; tempo = e.tempo; candidates = e.candidates; count = e.count; stability = s; beats = beats; downbeats = downbeats }
 
@@ -62,7 +72,7 @@ module _
     (ready : Ready env rate o (results threshold onsets clarity weight score back beats downbeats) (spare window_clarity window_weight work))
     (heard : ℕ) (threshold' : List Float) (onsets' : List ℕ) (work₁ : List Float)
     (list : OnsetsListed env rate threshold onsets work heard threshold' onsets' work₁)
-    (found : TempoEstimate) (clarity' weight' work₂ : List Float)
+    (found : EstimateSaid) (clarity' weight' work₂ : List Float)
     (tempo : EstimatePromise env heard rate o clarity weight work₁ found clarity' weight' work₂) where
   searched : search_refusal env rate o (length clarity) (length weight) (length work₁) ≡ 0
   searched =
@@ -73,6 +83,15 @@ module _
   unfolding estimate_of estimate_in
   found_is =
       tempo.answered ∙ passed_does _ _ _ searched ∙ ap (λ (k : ℕ). tempo_of env k rate (min_lag rate o) (max_lag rate o)) list.count_is
+
+  -- nothing is refused
+  pub estimate-ok : (r : Result TempoEstimate Refusal) → found ≡ estimate_said r → IsOk r
+  unfolding estimate_of
+  estimate-ok r e =
+      found-ok r (
+      ap (λ (x : EstimateSaid). x.number) (sym e ∙ tempo.answered ∙ passed_does _ _ _ searched)
+      ∙ told-number env heard rate (min_lag rate o) (max_lag rate o)
+      )
 
   -- the lag is a period
   pub lag_most : (lag : ℕ) → lag ≡ winners_lag found → lag ≤ most_period
@@ -150,18 +169,22 @@ module _
 
 -- ---- refused or not
 
-module _ (n number : ℕ) (is : n ≡ number) (env : List Float) (rate : ℕ) (o : TempoOpts) (was : Results) (lent : Spare) where
-  pub analysed_refused : (answer : Analysis) → (n ≡ 0 → ⊥) → answer ≡ without_analysis n → Analysed number env rate o was lent answer was lent
-  analysed_refused answer some e =
-      let left : number ≡ 0 → ⊥ = λ z. some (is ∙ z) in
+module _ (number : ℕ) (env : List Float) (rate : ℕ) (o : TempoOpts) (was : Results) (lent : Spare) where
+  -- a refusal that `?` hands on: e is what refused
+  pub analysed_refused : (r : Result Analysis Refusal) (e : Refusal) → IsErrAnd r (λ (x : Refusal). x ≡ e) → Refusals.number e ≡ number
+      → Analysed number env rate o was lent (analysis_said r) was lent
+  analysed_refused (Ok a) e h is = absurd h
+  analysed_refused (Err x) e h is =
+      let same : Refusals.number x ≡ number = ap Refusals.number h ∙ is in
+      let left : number ≡ 0 → ⊥ = λ z. number-not_0 x (same ∙ z) in
       record {
-        answered = e ∙ ap without_analysis is ∙ sym (refused_keeps number (analysis_of env rate o) (without_analysis number) left);
+        answered = ap without_analysis same ∙ sym (refused_keeps number (analysis_of env rate o) (without_analysis number) left);
         written = sym (refused_keeps number (written_in env rate o was) was left);
         window_clarities = open_same _ _;
         window_weights = open_same _ _;
         works = open_same _ _;
       }
 
-  pub analysed_passed : (answer : Analysis) (after : Results) (left : Spare) → n ≡ 0 → Analysed 0 env rate o was lent answer after left
+  pub analysed_passed : (answer : AnalysisSaid) (after : Results) (left : Spare) → number ≡ 0 → Analysed 0 env rate o was lent answer after left
       → Analysed number env rate o was lent answer after left
-  analysed_passed answer after left z a = subst (λ (j : ℕ). Analysed j env rate o was lent answer after left) (sym z ∙ is) a
+  analysed_passed answer after left z a = subst (λ (j : ℕ). Analysed j env rate o was lent answer after left) (sym z) a

@@ -4,32 +4,35 @@
 -- To read in this order: `estimate_in`, `period_in`, `beats_in`, `downbeats_in`, each part from those before it (the first, `onsets_in`, stands in
 -- crate onsets); `analysis_of`, the answer they make; `written_in`, the results in the lent slices; `open_lags` and `open_work`, what is left open;
 -- and `Analysed`, the promise, which is all of these for a number that refuses or does not.
-use Rattle.std.specs.Prelude.{ℕ, max, List, ◌≡◌, length, get_or, Float}
-use Rattle.numbers.specs.Refusals.{unless_refused}
+use Rattle.std.specs.Prelude.{ℕ, max, List, ◌≡◌, length, get_or, Float, Result, Ok, Err}
+use Rattle.numbers.specs.Refusals.{number, unless_refused}
+use Rattle.numbers.specs.declared.Refusal.{Refusal}
 use Rattle.numbers.specs.Lists.{filled, listed}
 use Rattle.threshold.specs.Threshold.{threshold_at, sorting_room}
 use Rattle.options.specs.declared.TempoOpts.{TempoOpts}
 use Rattle.lags.specs.Lags.{min_lag, max_lag}
-use Rattle.tempo.specs.declared.TempoEstimate.{TempoEstimate}
 use Rattle.lag_search.specs.Search.{clarity_rule, weight_rule}
-use Rattle.tempo.specs.Answers.{unused, without_tempo, tempo_of, unwritten, curve_of}
+use Rattle.tempo.specs.declared.Candidate.{Candidate}
+use Rattle.tempo.specs.declared.Tempo.{Tempo}
+use Rattle.stability.specs.declared.Stability.{Stability}
+use Rattle.track.specs.declared.Analysis.{Analysis}
+use Rattle.tempo.specs.Answers.{EstimateSaid, unused, without_tempo, tempo_of, unwritten, curve_of}
 use Rattle.numbers.specs.Outcomes.{Open}
 use Rattle.stability.specs.Answers.{share_of, without_stability, left_open}
 use Rattle.beats.specs.Grids.{scores_of, links_of, grid_of}
 use Rattle.bars.specs.Downbeats.{downbeats_of}
 use Rattle.rooms.specs.Rooms.{Results, Spare, lags_of}
 use Rattle.onsets.specs.Onsets.{onsets_in}
-use Rattle.track.specs.declared.Analysis.{Analysis}
 
 -- ---- the parts in turn
 
 -- the tempo of an envelope and the candidates, by as many onsets as it has
-unfoldable pub estimate_in : List Float → (rate : ℕ) → TempoOpts → TempoEstimate
+unfoldable pub estimate_in : List Float → (rate : ℕ) → TempoOpts → EstimateSaid
 unfolding onsets_in tempo_of min_lag max_lag
 estimate_in env rate o = tempo_of env (length (onsets_in env rate)) rate (min_lag rate o) (max_lag rate o)
 
 -- the lag of an estimate's winner, 0 where there is no tempo
-abbrev pub winners_lag : TempoEstimate → ℕ
+abbrev pub winners_lag : EstimateSaid → ℕ
 winners_lag e = (get_or e.candidates 0 unused).lag
 
 -- the period of the beats, in frames: the winner's lag. "No tempo: no stability, no beats", as period 0 has none of either
@@ -48,7 +51,18 @@ downbeats_in env rate o = downbeats_of env (beats_in env rate o) o.meter
 
 -- ---- the answer
 
-unfoldable pub analysis_of : List Float → (rate : ℕ) → TempoOpts → Analysis
+-- what an analysis says: its number, how many onsets, beats and downbeats are listed, the tempo with `count` candidates, and how steady it is
+pub record AnalysisSaid : Type 0 where
+  pub number : ℕ
+  pub onsets : ℕ
+  pub tempo : Tempo
+  pub candidates : List Candidate
+  pub count : ℕ
+  pub stability : Stability
+  pub beats : ℕ
+  pub downbeats : ℕ
+
+unfoldable pub analysis_of : List Float → (rate : ℕ) → TempoOpts → AnalysisSaid
 unfolding onsets_in estimate_in share_of min_lag max_lag period_in beats_in downbeats_in
 analysis_of env rate o =
     record {
@@ -63,7 +77,7 @@ analysis_of env rate o =
     }
 
 -- a refusal: the number, and else nothing
-abbrev pub without_analysis : ℕ → Analysis
+abbrev pub without_analysis : ℕ → AnalysisSaid
 without_analysis n =
     record {
       number = n;
@@ -75,6 +89,21 @@ without_analysis n =
       beats = 0;
       downbeats = 0;
     }
+
+-- by its answer: `Ok` is number 0 and its parts, `Err e` the number of e in the table, and else nothing
+abbrev pub analysis_said : Result Analysis Refusal → AnalysisSaid
+analysis_said (Ok a) =
+    record {
+      number = 0;
+      onsets = a.onsets;
+      tempo = a.tempo;
+      candidates = a.candidates;
+      count = a.count;
+      stability = a.stability;
+      beats = a.beats;
+      downbeats = a.downbeats;
+    }
+analysis_said (Err e) = without_analysis (number e)
 
 -- ---- the lent slices afterwards
 
@@ -110,7 +139,7 @@ open_work number env rate o =
 -- every slot past those that are left open, which are none where the number refuses, and for stability none where it searches nothing.
 pub record Analysed
     (number : ℕ) (env : List Float) (rate : ℕ) (o : TempoOpts) (was : Results) (lent : Spare)
-    (answer : Analysis) (after : Results) (left : Spare) : Type 0 where
+    (answer : AnalysisSaid) (after : Results) (left : Spare) : Type 0 where
   pub answered : answer ≡ unless_refused number (analysis_of env rate o) (without_analysis number)
   pub written : after ≡ unless_refused number (written_in env rate o was) was
   pub window_clarities : Open (open_lags number env rate o) lent.window_clarity left.window_clarity

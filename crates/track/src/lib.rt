@@ -3,10 +3,11 @@
 // Document 01, Onsets, Tempo and candidates, Beats and bars. Inner: the calls of crate analysis have looked at what is lent.
 #![tactic(auto)]
 
-ghost use Rattle.std.specs.Prelude.{◌≡◌};
+ghost use Rattle.std.specs.Prelude.{◌≡◌, Ok};
 ghost use Rattle.rooms.specs.Rooms.{results, spare};
 ghost use Rattle.rooms.specs.Inner.{Ready};
-ghost use Rattle.track.specs.Analyses.{without_analysis, winners_lag, Analysed};
+ghost use Rattle.tempo.specs.Answers.{estimate_said};
+ghost use Rattle.track.specs.Analyses.{winners_lag, Analysed, analysis_said};
 
 use onsets::list_onsets;
 use options::TempoOpts;
@@ -15,10 +16,9 @@ use tempo::{Candidate, Tempo, TempoEstimate, estimate};
 use track_parts::follow;
 
 // The answer of an analysis: how many onsets, beats and downbeats are listed, the tempo with `count` candidates, the winner first, and how
-// steady it is. On refusal the number, and else nothing.
+// steady it is.
 #[derive(Clone, Copy)]
 pub struct Analysis {
-    pub number: u32,
     pub onsets: usize,
     pub tempo: Tempo,
     pub candidates: [Candidate; 3],
@@ -28,36 +28,16 @@ pub struct Analysis {
     pub downbeats: usize,
 }
 
-// Inner: a refusal, its number and else nothing.
-pub fn without_analysis(number: u32) -> Analysis
-    ensures { result ≡ without_analysis number }
-{
-    let unused = Candidate {
-        lag: 0,
-        salience: 0.0,
-    };
-    Analysis {
-        number,
-        onsets: 0,
-        tempo: Tempo::None,
-        candidates: [unused; 3],
-        count: 0,
-        stability: Stability::None,
-        beats: 0,
-        downbeats: 0,
-    }
-}
-
 // the lag of the first candidate, 0 where there is none
 fn winners_lag(tempo: TempoEstimate) -> usize
-    ensures { result ≡ winners_lag tempo }
+    ensures { result ≡ winners_lag (estimate_said (Ok tempo)) }
 {
     let candidates = tempo.candidates;
     let winner = candidates[0];
     winner.lag
 }
 
-// Inner: the analysis where nothing is refused.
+// Inner: the analysis where nothing is refused. What it requires leaves no part anything to refuse.
 pub fn analyse(
     envelope: &[f64],
     rate: u32,
@@ -82,14 +62,14 @@ pub fn analyse(
         threshold.old onsets.old clarity.old weight.old
         score.old back.old beats.old downbeats.old)
         (spare window_clarity.old window_weight.old work.old)
-        result
+        (analysis_said (Ok result))
         (results
         threshold.new onsets.new clarity.new weight.new
         score.new back.new beats.new downbeats.new)
         (spare window_clarity.new window_weight.new work.new) }
 {
     let heard = list_onsets(envelope, rate, threshold, onsets, work);
-    let found = estimate(envelope, heard, rate, opts, clarity, weight, work);
+    let found = estimate(envelope, heard, rate, opts, clarity, weight, work).unwrap();
     let tempo = found.tempo;
     let candidates = found.candidates;
     let lag = winners_lag(found);
@@ -108,7 +88,6 @@ pub fn analyse(
     );
     let stability = after.stability;
     Analysis {
-        number: 0,
         onsets: heard,
         tempo,
         candidates,

@@ -7,7 +7,9 @@ use borrow.Author.Tests.{le-leb}
 use lib.Dec.{leb, eqb}
 use lib.ListN.{length}
 use lib.Ieee.{Float, le}
+use Rattle.std.specs.Prelude.{Result, Ok, Err, IsOk}
 use Rattle.numbers.specs.Limits.{most_rows, most_period, value_fine}
+use Rattle.numbers.specs.declared.Refusal.{Refusal}
 use Rattle.numbers.specs.Lists.{every, listed}
 use Rattle.numbers.proofs.Tests.{and_both, lowest_0, passed_does, pick_true}
 use Rattle.numbers.proofs.Tabs.{listed-none}
@@ -16,9 +18,9 @@ use Rattle.options.specs.declared.TempoOpts.{TempoOpts}
 use Rattle.lags.specs.Lags.{min_lag, max_lag, bounds_fine}
 use Rattle.tempo.specs.Answers.{search_bounds, search_room, search_refusal}
 use Rattle.stability.specs.declared.Stability.TheVariants.{None}
-use Rattle.stability.specs.declared.Steadiness.{Steadiness}
-use Rattle.numbers.proofs.Outcomes.{open_same, open_told}
-use Rattle.stability.specs.Answers.{stability_refusal, share_of, steadiness_of, StabilityPromise}
+use Rattle.numbers.proofs.Outcomes.{number-not_0, open_same, open_told}
+use Rattle.stability.specs.declared.Stability.{Stability}
+use Rattle.stability.specs.Answers.{Steadiness, steadiness, stability_refusal, share_of, steadiness_of, StabilityPromise}
 use Rattle.beats.specs.Envelopes.{variance_of, beatless}
 use Rattle.beats.specs.Grids.{scores_of, links_of, grid_of}
 use Rattle.bars.specs.Downbeats.{in_phase, downbeats_of}
@@ -113,24 +115,38 @@ module _
         works = open_same _ work;
       })
 
-  -- ---- with a tempo
+-- ---- with a tempo
 
-  pub followed_by : (steady : Steadiness) (laid : Laid) (clarity' weight' score' : List Float) (back' beats' downbeats' : List ℕ) (work' : List Float)
-      → length env ≤ most_rows → bounds_fine rate o ≡ true → every value_fine env ≡ true → lag ≤ most_period
-      → lags_of rate o ≤ length clarity → lags_of rate o ≤ length weight → lags_of rate o ≤ length work
-      → (lag ≡ 0 → ⊥)
+-- an answer whose number is 0 is an Ok
+steady-ok : (r : Result Stability Refusal) → (steadiness r).number ≡ 0 → IsOk r
+steady-ok (Ok s) z = refl
+steady-ok (Err e) z = absurd (number-not_0 e z)
+
+module _
+    (env : List Float) (rate : ℕ) (o : TempoOpts) (lag : ℕ) (clarity weight work : List Float)
+    (few : length env ≤ most_rows) (bounds : bounds_fine rate o ≡ true) (fine : every value_fine env ≡ true) (short : lag ≤ most_period)
+    (c : lags_of rate o ≤ length clarity) (w : lags_of rate o ≤ length weight) (k : lags_of rate o ≤ length work)
+    (clarity' weight' work' : List Float) where
+  none : stability_refusal env rate o lag (length clarity) (length weight) (length work) ≡ 0
+  none = stability_passed env rate o few bounds fine (length clarity) (length weight) (length work) c w k lag short
+
+  pub stability-ok : (r : Result Stability Refusal) → StabilityPromise env rate o lag clarity weight work (steadiness r) clarity' weight' work' → IsOk r
+  unfolding steadiness_of
+  stability-ok r s = steady-ok r (ap (λ (x : Steadiness). x.number) (s.answered ∙ passed_does _ _ _ none))
+
+  pub followed_by : (score : List Float) (back beats downbeats : List ℕ) (steady : Steadiness) (laid : Laid)
+      (score' : List Float) (back' beats' downbeats' : List ℕ)
       → StabilityPromise env rate o lag clarity weight work steady clarity' weight' work'
       → Grid env lag o.meter score back beats downbeats laid score' back' beats' downbeats'
       → Followed env rate o lag clarity weight score back beats downbeats work
       (record { stability = steady.stability; beats = laid.beats; downbeats = laid.downbeats })
       clarity' weight' score' back' beats' downbeats' work'
   unfolding steadiness_of
-  followed_by steady laid clarity' weight' score' back' beats' downbeats' work' few bounds fine h c w k some s g =
-      let z = stability_passed env rate o few bounds fine (length clarity) (length weight) (length work) c w k lag h in
+  followed_by score back beats downbeats steady laid score' back' beats' downbeats' s g =
       record {
-        steady = ap (λ (x : Steadiness). x.stability) (s.answered ∙ passed_does _ _ _ z);
+        steady = ap (λ (x : Steadiness). x.stability) (s.answered ∙ passed_does _ _ _ none);
         laid = g;
-        clarities = open_told _ _ clarity clarity' z s.clarities;
-        weights = open_told _ _ weight weight' z s.weights;
-        works = open_told _ _ work work' z s.works;
+        clarities = open_told _ _ clarity clarity' none s.clarities;
+        weights = open_told _ _ weight weight' none s.weights;
+        works = open_told _ _ work work' none s.works;
       }

@@ -31,6 +31,7 @@ pub struct Following {
 }
 
 // Inner: lays the beats of an envelope at a period, lists the downbeats among them in bars of `meter` beats and says how many there are of both.
+// What it requires leaves neither call anything to refuse.
 pub fn lay_beats(
     envelope: &[f64],
     period: usize,
@@ -50,17 +51,16 @@ pub fn lay_beats(
         score.old back.old frames.old downbeats.old
         result score.new back.new frames.new downbeats.new }
 {
-    let grid = beat_grid(envelope, period, score, back, frames);
-    let count = grid.count;
+    let count = beat_grid(envelope, period, score, back, frames).unwrap();
     let opts = TempoOpts::new().with_meter(meter);
-    let bars = bars::downbeats(envelope, &frames[0..count], opts, downbeats);
+    let barred = bars::downbeats(envelope, &frames[0..count], opts, downbeats).unwrap();
     Laid {
         beats: count,
-        downbeats: bars.count,
+        downbeats: barred,
     }
 }
 
-// Inner: what follows from the lag of a tempo, 0 for none, where nothing is searched or written.
+// Inner: what follows from the lag of a tempo, 0 for none, where nothing is searched or written. What it requires leaves nothing to refuse.
 pub fn follow(
     envelope: &[f64],
     rate: u32,
@@ -96,8 +96,7 @@ pub fn follow(
             downbeats: 0,
         };
     }
-    let steady = stability_of(envelope, rate, opts, lag, clarity, weight, work);
-    let stability = steady.stability;
+    let stability = stability_of(envelope, rate, opts, lag, clarity, weight, work).unwrap();
     let laid = lay_beats(envelope, lag, opts.meter, score, back, frames, downbeats);
     Following {
         stability,

@@ -33,10 +33,8 @@ pub fn sorted(values: &[f64]) -> [f64; 21]
     ensures { result ≡ sort (map one_zero values.now) }
 {
     let mut s = [0.0; SIZE];
-    let mut i = 0;
-    while i < SIZE {
+    for i in 0..SIZE {
         s[i] = one_zero(values[i]);
-        i += 1;
     }
     median::sort_by_bits(&mut s);
     s
@@ -57,10 +55,8 @@ fn without(s: &[f64; 21], o: f64, rest: &mut [f64; 20])
     requires { length rest.old ≡ 20 }
     ensures { rest.new ≡ without s.now o }
 {
-    let mut i = 0;
-    while i < REST {
+    for i in 0..REST {
         rest[i] = kept(s[i], s[i + 1], o);
-        i += 1;
     }
 }
 
@@ -76,10 +72,8 @@ fn among(rest: &[f64; 20], v: f64, s: &mut [f64; 21])
     ensures { s.new ≡ among rest.now v }
 {
     s[0] = lower_of(rest[0], v);
-    let mut i = 1;
-    while i < REST {
+    for i in 1..REST {
         s[i] = higher_of(rest[i - 1], lower_of(rest[i], v));
-        i += 1;
     }
     s[REST] = higher_of(rest[REST - 1], v);
 }
@@ -104,11 +98,9 @@ pub fn middle_distance(s: &[f64; 21]) -> f64
 {
     let mut low = farther_end(s, 0);
     let mut high = farther_end(s, HALF);
-    let mut j = 1;
-    while j < HALF {
+    for j in 1..HALF {
         low = lower_of(farther_end(s, j), low);
         high = lower_of(farther_end(s, j + HALF), high);
-        j += 1;
     }
     lower_of(farther_end(s, MIDDLE), lower_of(high, low))
 }

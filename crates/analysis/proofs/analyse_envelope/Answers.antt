@@ -1,15 +1,15 @@
--- `analysis::analyse_envelope` meets its contract: a number other than 0 returns at once, and number 0 says all that the inner call asks
+-- `analysis::analyse_envelope` meets its contract: a refusal is handed on at once, and where there is none that says all that the inner call asks
 -- (`ready_of`). Assumes nothing.
-use mathlib.Core.Path.{sym, ◌∙◌}
+use mathlib.Core.Path.{sym}
 use Rattle.rooms.proofs.Rooms.{ready_of}
 use Rattle.track.proofs.Whole.{analysed_refused, analysed_passed}
 use Rattle.analysis.proofs.analyse_envelope.Goals as goal
 
-pub returns-then-number-ne0 : goal.returns-then-number-ne0
-returns-then-number-ne0 c = analysed_refused _ _ c.envelope_refusal-number.ensures _ _ _ _ _ _ c.if-number-ne0.true c.without_analysis.ensures
+pub returns-in_err-envelope_refusal : goal.returns-in_err-envelope_refusal
+returns-in_err-envelope_refusal c = analysed_refused _ _ _ _ _ _ _ _ c.from_residual.ensures.1 c.in_err-envelope_refusal.ensures
 
 pub analyse-requires : goal.analyse-requires
-analyse-requires c = ready_of _ _ _ _ _ (sym c.envelope_refusal-number.ensures ∙ c.if-number-ne0.false)
+analyse-requires c = ready_of _ _ _ _ _ (sym c.in_ok-envelope_refusal.ensures)
 
 pub shape_of-threshold : goal.shape_of-threshold
 shape_of-threshold c = c.analyse.auto.threshold
@@ -46,4 +46,4 @@ shape_of-work c = c.analyse.auto.work
 
 pub returns : goal.returns
 returns c =
-    analysed_passed _ _ c.envelope_refusal-number.ensures _ _ _ _ _ _ _ _ c.if-number-ne0.false c.analyse.ensures
+    analysed_passed _ _ _ _ _ _ _ _ _ (sym c.in_ok-envelope_refusal.ensures) c.analyse.ensures

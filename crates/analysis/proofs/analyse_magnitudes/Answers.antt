@@ -1,28 +1,26 @@
--- `analysis::analyse_magnitudes` meets its contract: a number other than 0 returns at once; number 0 says all that the flux asks, and the part of
+-- `analysis::analyse_magnitudes` meets its contract: a refusal is handed on at once; where there is none that says all that the flux asks, and the part of
 -- its slice that is then lent is a flux that the inner call takes (`lent_ready`). Assumes nothing.
-use mathlib.Core.Path.{sym, ◌∙◌}
+use mathlib.Core.Path.{sym}
 use native.Mathlib.Omega.{arith}
 use Rattle.rooms.proofs.Numbers.{flux_asks}
 use Rattle.analysis.proofs.Promises.{magnitudes_refused, lent_ready, magnitudes_passed}
 use Rattle.analysis.proofs.analyse_magnitudes.Goals as goal
 
-pub returns-then-number-ne0 : goal.returns-then-number-ne0
-returns-then-number-ne0 c = magnitudes_refused _ _ _ _ _ _ _ _ _ c.magnitudes_refusal-number.ensures c.if-number-ne0.true c.without_analysis.ensures
+pub returns-in_err-magnitudes_refusal : goal.returns-in_err-magnitudes_refusal
+returns-in_err-magnitudes_refusal c = magnitudes_refused _ _ _ _ _ _ _ _ _ c.from_residual.ensures.1 c.in_err-magnitudes_refusal.ensures
 
 pub fill_flux-requires : goal.fill_flux-requires
 fill_flux-requires c =
-    let t = flux_asks _ _ _ _ _ _ _ _ (sym c.magnitudes_refusal-number.ensures ∙ c.if-number-ne0.false) in
+    let t = flux_asks _ _ _ _ _ _ _ _ (sym c.in_ok-magnitudes_refusal.ensures) in
     record { magnitudes_len = t.whole; magnitudes_value = t.fine; from_le_past = (omega arith, omega arith, t.has_room) }
 
 pub slice_bounds-analyse-end : goal.slice_bounds-analyse-end
 slice_bounds-analyse-end c =
-    let t = flux_asks _ _ _ _ _ _ _ _ (sym c.magnitudes_refusal-number.ensures
-    ∙ c.if-number-ne0.false) in
+    let t = flux_asks _ _ _ _ _ _ _ _ (sym c.in_ok-magnitudes_refusal.ensures) in
     omega (arith, t.has_room)
 
 pub analyse-requires : goal.analyse-requires
-analyse-requires c = lent_ready _ _ _ _ _ _ _ _ c.magnitudes_refusal-number.ensures
-    c.if-number-ne0.false _ c.fill_flux.ensures
+analyse-requires c = lent_ready _ _ _ _ _ _ _ (sym c.in_ok-magnitudes_refusal.ensures) _ c.fill_flux.ensures
 
 pub shape_of-flux : goal.shape_of-flux
 shape_of-flux c = c.fill_flux.auto.out
@@ -62,4 +60,4 @@ shape_of-work c = c.analyse.auto.work
 
 pub returns : goal.returns
 returns c =
-    magnitudes_passed _ _ _ _ _ _ _ _ c.magnitudes_refusal-number.ensures c.if-number-ne0.false _ c.fill_flux.ensures _ _ _ c.analyse.ensures
+    magnitudes_passed _ _ _ _ _ _ _ (sym c.in_ok-magnitudes_refusal.ensures) _ c.fill_flux.ensures _ _ _ c.analyse.ensures

@@ -34,5 +34,5 @@ returns-then-bar-eq0 c = nowhere _ _ _ _ c.last_bar-bar.ensures.1 c.if-bar-eq0.t
 
 pub returns : goal.returns
 returns c =
-    at _ _ _ _ c.last_bar-bar.ensures.1 c.beats_during-heard.result c.greatest.result (omega arith)
-    c.beats_during-heard.ensures c.greatest.ensures
+    at _ _ _ _ c.last_bar-bar.ensures.1 c.beats_during-heard.result c.max.result (omega arith)
+    c.beats_during-heard.ensures (omega arith)

@@ -10,11 +10,11 @@ use lib.ListN.{length}
 use lib.Ieee.{Float}
 use Rattle.numbers.specs.Limits.{most_rows, value_fine, frame_fine}
 use Rattle.numbers.specs.Lists.{listed, every}
-use Rattle.numbers.proofs.Tests.{lowest-zero, and_left, and_right, refused_keeps, passed_does}
+use Rattle.numbers.proofs.Tests.{lowest-zero, and_left, and_right, passed_does}
+use Rattle.numbers.proofs.Outcomes.{lists_on}
 use Rattle.options.specs.Options.{most_meter, options_fine}
 use Rattle.options.specs.declared.TempoOpts.{TempoOpts}
 use Rattle.bars.specs.Downbeats.{downbeat_numbers_fine, downbeat_room_fine, downbeat_refusal, in_phase, downbeat_phase, downbeats_of, DownbeatsPromise}
-use Rattle.bars.proofs.downbeats.Goals.{Else-no-ne0}
 use Rattle.bars.proofs.downbeats.Goals as goal
 
 module _ (envelope : List Float) (beats : List ℕ) (o : TempoOpts) where
@@ -29,12 +29,6 @@ module _ (envelope : List Float) (beats : List ℕ) (o : TempoOpts) where
       )
 
   module _ (before : List ℕ) where
-    refused : (n : ℕ) → n ≡ downbeat_refusal envelope beats o (length before) → (n ≡ 0 → ⊥)
-        → DownbeatsPromise envelope beats o before (record { number = n; count = 0 }) before
-    refused n e h =
-        let z : downbeat_refusal envelope beats o (length before) ≡ 0 → ⊥ = λ q. h (e ∙ q) in
-        record { number_is = e; count_is = sym (refused_keeps _ _ 0 z); frames_are = sym (refused_keeps _ _ before z) }
-
     answered : (phase count : ℕ) (after : List ℕ) → downbeat_refusal envelope beats o (length before) ≡ 0 → phase ≡ downbeat_phase envelope beats o.meter
         → count ≡ length (in_phase o.meter phase 0 beats) → after ≡ listed (in_phase o.meter phase 0 beats) before
         → DownbeatsPromise envelope beats o before (record { number = 0; count = count }) after
@@ -46,19 +40,16 @@ module _ (envelope : List Float) (beats : List ℕ) (o : TempoOpts) where
           frames_are = a ∙ ap (λ (k : ℕ). listed (in_phase o.meter k 0 beats) before) p ∙ sym (passed_does _ _ before z);
         }
 
-ready : (c : Else-no-ne0) → let a = c.args in
-    downbeat_refusal a.envelope.now a.beats.now a.opts (length a.frames.now) ≡ 0
-ready c = sym c.downbeat_refusal-no.ensures ∙ c.if-no-ne0.false
-
-pub returns-then-no-ne0 : goal.returns-then-no-ne0
-returns-then-no-ne0 c = refused _ _ _ _ _ c.downbeat_refusal-no.ensures c.if-no-ne0.true
+pub returns-in_err-downbeat_refusal : goal.returns-in_err-downbeat_refusal
+returns-in_err-downbeat_refusal c = lists_on _ _ _ _ _ c.from_residual.ensures.1 c.in_err-downbeat_refusal.ensures
 
 pub downbeat_phase-phase-requires : goal.downbeat_phase-phase-requires
-downbeat_phase-phase-requires c = (told _ _ _ _ (ready (goal.at.downbeat_phase-phase-requires c).Else-no-ne0)).0
+downbeat_phase-phase-requires c = (told _ _ _ _ (sym c.in_ok-downbeat_refusal.ensures)).0
 
 pub list_phase-count-requires : goal.list_phase-count-requires
-list_phase-count-requires c = let t = told _ _ _ _ (ready (goal.at.list_phase-count-requires c).Else-no-ne0) in (t.0.0, t.1)
+list_phase-count-requires c = let t = told _ _ _ _ (sym c.in_ok-downbeat_refusal.ensures) in (t.0.0, t.1)
 
 pub returns : goal.returns
 returns c =
-    answered _ _ _ _ _ _ _ (ready (goal.at.returns c).Else-no-ne0) c.downbeat_phase-phase.ensures c.list_phase-count.ensures.0 c.list_phase-count.ensures.1
+    answered _ _ _ _ _ _ _ (sym c.in_ok-downbeat_refusal.ensures) c.downbeat_phase-phase.ensures c.list_phase-count.ensures.0
+    c.list_phase-count.ensures.1

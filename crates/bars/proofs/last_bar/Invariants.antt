@@ -1,5 +1,4 @@
--- `bars::last_bar` meets its contract. The invariant: the last of the first k downbeats that the limit reaches is the last of all.
--- The measure is k. Assumes nothing.
+-- `bars::last_bar` meets its contract. The invariant: the last of the first k downbeats that the limit reaches is the last of all. Assumes nothing.
 use mathlib.Core.Path.{◌≡◌}
 use Prim.Native.Nat.{◌≤◌}
 use lib.ListN.{length}
@@ -8,6 +7,3 @@ use Rattle.bars.proofs.last_bar.Given as goal
 
 abbrev pub invariant-loop-k : goal.invariant-loop-k
 invariant-loop-k l = (l.k ≤ length l.downbeats) × (last_bar l.limit l.downbeats l.k ≡ last_bar l.limit l.downbeats (length l.downbeats))
-
-abbrev pub decreases-loop-k : goal.decreases-loop-k
-decreases-loop-k l = l.k

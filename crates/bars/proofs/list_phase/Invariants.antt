@@ -1,9 +1,8 @@
--- `bars::list_phase` meets its contract. The invariant: the phase's beats among the first i stand first in the lent list, `count` of them, and
--- what lies past is as it was. The measure is what is left of the length. There are no more of them than beats, so the room suffices.
--- Assumes nothing.
+-- `bars::list_phase` meets its contract. The invariant: the phase's beats among the first i stand first in the lent list, `count` of them, and what lies
+-- past is as it was. There are no more of them than beats, so the room suffices. Assumes nothing.
 use mathlib.Core.Path.{◌≡◌}
 use mathlib.Core.List.{List}
-use Prim.Native.Nat.{ℕ, ◌≤◌, ◌-◌}
+use Prim.Native.Nat.{ℕ, ◌≤◌}
 use lib.ListN.{length, take}
 use Rattle.numbers.specs.Lists.{listed}
 use Rattle.bars.specs.Downbeats.{in_phase}
@@ -16,6 +15,3 @@ Listed beats meter phase frames₀ frames count i =
 
 abbrev pub invariant-loop-i : goal.invariant-loop-i
 invariant-loop-i l = (l.i ≤ length l.beats) × Listed l.beats l.meter l.phase l.initial.frames l.frames l.count l.i
-
-abbrev pub decreases-loop-i : goal.decreases-loop-i
-decreases-loop-i l = length l.beats - l.i

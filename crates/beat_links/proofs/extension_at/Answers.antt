@@ -32,21 +32,21 @@ pub returns-then-table-period : goal.returns-then-table-period
 returns-then-table-period c =
     let a = c.args in
     c.best_computed.ensures
-    ∙ extension-later a.period a.score.now a.t c.less-lo.result (c.less-end.result + 1) (omega arith) c.less-lo.ensures
-    (ap (λ (k : ℕ). k + 1) c.less-end.ensures)
+    ∙ extension-later a.period a.score.now a.t c.saturating_sub-lo.result (c.saturating_sub-end.result + 1) (omega arith) c.saturating_sub-lo.ensures
+    (ap (λ (k : ℕ). k + 1) c.saturating_sub-end.ensures)
 
 pub returns-then-lo-end : goal.returns-then-lo-end
 returns-then-lo-end c =
     let a = c.args in
-    let end = c.less-end.result + 1 in
+    let end = c.saturating_sub-end.result + 1 in
     c.best_by_eights.ensures
-    ∙ in_table a.period a.score.now a.table.now a.t c.less-lo.result end c.requires.4 (omega arith) (omega arith) (omega arith)
-    ∙ extension-later a.period a.score.now a.t c.less-lo.result end (omega arith) c.less-lo.ensures (ap (λ (k : ℕ). k + 1) c.less-end.ensures)
+    ∙ in_table a.period a.score.now a.table.now a.t c.saturating_sub-lo.result end c.requires.4 (omega arith) (omega arith) (omega arith)
+    ∙ extension-later a.period a.score.now a.t c.saturating_sub-lo.result end (omega arith) c.saturating_sub-lo.ensures (ap (λ (k : ℕ). k + 1) c.saturating_sub-end.ensures)
 
 pub returns : goal.returns
 returns c =
     let a = c.args in
-    let end = c.less-end.result + 1 in
+    let end = c.saturating_sub-end.result + 1 in
     c.best_in_table.ensures
-    ∙ in_table a.period a.score.now a.table.now a.t c.less-lo.result end c.requires.4 (omega arith) (omega arith) (omega arith)
-    ∙ extension-later a.period a.score.now a.t c.less-lo.result end (omega arith) c.less-lo.ensures (ap (λ (k : ℕ). k + 1) c.less-end.ensures)
+    ∙ in_table a.period a.score.now a.table.now a.t c.saturating_sub-lo.result end c.requires.4 (omega arith) (omega arith) (omega arith)
+    ∙ extension-later a.period a.score.now a.t c.saturating_sub-lo.result end (omega arith) c.saturating_sub-lo.ensures (ap (λ (k : ℕ). k + 1) c.saturating_sub-end.ensures)

@@ -9,7 +9,12 @@ use borrow.Author.Tests.{leb-true, eq-eqb, ne_eqb}
 use lib.Dec.{leb}
 use lib.ListN.{length}
 use lib.Ieee.{Float, le}
+use Rattle.std.specs.Prelude.{Result, Ok, Err, IsErrAnd}
 use Rattle.numbers.specs.Rounded.{◌⊘◌, epsilon, one}
+use Rattle.numbers.specs.Refusals.{number}
+use Rattle.numbers.specs.declared.Refusal.{Refusal}
+use Rattle.numbers.specs.Outcomes.{listing}
+use Rattle.numbers.proofs.Outcomes.{number-not_0}
 use Rattle.numbers.specs.Limits.{most_rows, most_period, value_fine}
 use Rattle.numbers.specs.Lists.{listed, every}
 use Rattle.numbers.proofs.Tests.{lowest-zero, and_left, and_right, refused_keeps, passed_does, pick_true, pick-false}
@@ -19,7 +24,6 @@ use Rattle.beats.specs.Envelopes.{variance_of, beatless, scale_of, scaled_by, sc
 use Rattle.beats.specs.Scores.{scores, links}
 use Rattle.beats.specs.Grids.{grid_numbers_fine, grid_room_fine, grid_refusal, grid, scores_of, links_of, grid_of, GridPromise}
 use Rattle.beats.specs.Inner.{GridLaid}
-use Rattle.beats.proofs.beat_grid.Goals.{Else-no-ne0}
 use Rattle.beats.proofs.beat_grid.Goals as goal
 
 -- what number 0 tells
@@ -60,12 +64,14 @@ module _ (envelope : List Float) (period : ℕ) where
     by-variance h v e = rw (ne_eqb (length envelope) 0 some, ne_eqb period 0 h, e)
 
 module _ (envelope : List Float) (period : ℕ) (score₀ : List Float) (back₀ beats₀ : List ℕ) where
-  refused : (n : ℕ) → n ≡ grid_refusal envelope period (length score₀) (length back₀) (length beats₀) → (n ≡ 0 → ⊥)
-      → GridPromise envelope period score₀ back₀ beats₀ (record { number = n; count = 0 }) score₀ back₀ beats₀
-  refused n e h =
-      let no : grid_refusal envelope period (length score₀) (length back₀) (length beats₀) ≡ 0 → ⊥ = λ z. h (e ∙ z) in
+  refused : (r : Result ℕ Refusal) (e : Refusal) → IsErrAnd r (λ (x : Refusal). x ≡ e)
+      → number e ≡ grid_refusal envelope period (length score₀) (length back₀) (length beats₀) → GridPromise envelope period score₀ back₀ beats₀ (listing r) score₀ back₀ beats₀
+  refused (Ok n) e h k = absurd h
+  refused (Err x) e h k =
+      let is : number x ≡ grid_refusal envelope period (length score₀) (length back₀) (length beats₀) = ap number h ∙ k in
+      let no : grid_refusal envelope period (length score₀) (length back₀) (length beats₀) ≡ 0 → ⊥ = λ z. number-not_0 x (is ∙ z) in
       record {
-        number_is = e;
+        number_is = is;
         count_is = sym (refused_keeps _ _ 0 no);
         score_is = sym (refused_keeps _ _ score₀ no);
         back_is = sym (refused_keeps _ _ back₀ no);
@@ -121,29 +127,24 @@ at_least : (n : ℕ) → (n ≡ 0 → ⊥) → 1 ≤ n
 at_least zero h = absurd (h refl)
 at_least (suc n) h = omega arith
 
--- past the refusal
-ready : (c : Else-no-ne0) → let a = c.args in
-    grid_refusal a.envelope.now a.period (length a.score.now) (length a.back.now) (length a.beats.now) ≡ 0
-ready c = sym c.grid_refusal-no.ensures ∙ c.if-no-ne0.false
-
-pub returns-then-no-ne0 : goal.returns-then-no-ne0
-returns-then-no-ne0 c = refused _ _ _ _ _ _ c.grid_refusal-no.ensures c.if-no-ne0.true
+pub returns-in_err-grid_refusal : goal.returns-in_err-grid_refusal
+returns-in_err-grid_refusal c = refused _ _ _ _ _ _ _ c.from_residual.ensures.1 c.in_err-grid_refusal.ensures
 
 pub returns-then-envelope-eq0 : goal.returns-then-envelope-eq0
-returns-then-envelope-eq0 c = silent _ _ _ _ _ (ready (goal.at.returns-then-envelope-eq0 c).Else-no-ne0) (empty _ _ c.if-envelope-eq0.true)
+returns-then-envelope-eq0 c = silent _ _ _ _ _ (sym c.in_ok-grid_refusal.ensures) (empty _ _ c.if-envelope-eq0.true)
 
 pub returns-then-period-eq0 : goal.returns-then-period-eq0
-returns-then-period-eq0 c = silent _ _ _ _ _ (ready (goal.at.returns-then-period-eq0 c).Else-no-ne0) (still _ _ c.if-envelope-eq0.false c.if-period-eq0.true)
+returns-then-period-eq0 c = silent _ _ _ _ _ (sym c.in_ok-grid_refusal.ensures) (still _ _ c.if-envelope-eq0.false c.if-period-eq0.true)
 
 pub returns-then-variance : goal.returns-then-variance
 returns-then-variance c =
-    silent _ _ _ _ _ (ready (goal.at.returns-then-variance c).Else-no-ne0)
+    silent _ _ _ _ _ (sym c.in_ok-grid_refusal.ensures)
     (by-variance _ _ c.if-envelope-eq0.false c.if-period-eq0.false c.variance_of-variance.result
     c.variance_of-variance.ensures ∙ c.if-variance.true)
 
 pub lay_grid-count-requires : goal.lay_grid-count-requires
 lay_grid-count-requires c =
-    let t = told _ _ _ _ _ (ready (goal.at.lay_grid-count-requires c).Else-no-ne0) in
+    let t = told _ _ _ _ _ (sym c.in_ok-grid_refusal.ensures) in
     let a = c.args in
     let some : 1 ≤ length a.envelope.now = omega (
       arith,
@@ -158,7 +159,7 @@ unfolding scale_of
 returns c =
     let v = c.variance_of-variance in
     let r = c.sqrt in
-    laid _ _ _ _ _ (ready (goal.at.returns c).Else-no-ne0) _ _ _ _ _
+    laid _ _ _ _ _ (sym c.in_ok-grid_refusal.ensures) _ _ _ _ _
     (by-variance _ _ c.if-envelope-eq0.false
     c.if-period-eq0.false v.result
     v.ensures ∙ c.if-variance.false)

@@ -34,7 +34,7 @@ pub loop-i-init : goal.loop-i-init
 loop-i-init c =
     let chunk = c.args.chunk.now in
     let n = c.point_count-n.result in
-    (omega arith, all_start (point_fine chunk) n, ap (λ (j : Reading). judged_from chunk j 0 n) (sym c.unread-j.ensures))
+    (all_start (point_fine chunk) n, ap (λ (j : Reading). judged_from chunk j 0 n) (sym c.unread-j.ensures))
 
 pub point_fine-requires : goal.point_fine-requires
 point_fine-requires c = let w = whole (goal.at.point_fine-requires c).After-point_count-n in record { i_bound = omega (arith, w); i_in_bounds = omega (arith, w) }
@@ -45,7 +45,7 @@ returns-then-not-point_fine c =
     let n = c.point_count-n.ensures in
     sym (chunk_points chunk (head-holds (goal.at.returns-then-not-point_fine c).Else-not-head_fine)
     (ap (all_from (point_fine chunk) 0) (sym n)
-    ∙ c.loop-i.invariant.1
+    ∙ c.loop-i.invariant.0
     ∙ all_fail (point_fine chunk) c.loop-i.i c.point_count-n.result (omega arith) (fails _ _ c.point_fine.ensures (ap not c.if-not-point_fine.true))))
 
 pub offset_at-requires : goal.offset_at-requires
@@ -56,10 +56,9 @@ loop-i-preserved c =
     let chunk = c.args.chunk.now in
     let n = c.point_count-n.result in
     let i = c.loop-i.i in (
-      omega arith,
-      c.loop-i.invariant.1 ∙ all_pass (point_fine chunk) i n (omega arith) (holds _ _ c.point_fine.ensures
+      c.loop-i.invariant.0 ∙ all_pass (point_fine chunk) i n (omega arith) (holds _ _ c.point_fine.ensures
           (ap not c.if-not-point_fine.false)),
-      c.loop-i.invariant.2 ∙ judged_step chunk c.loop-i.j i n (omega arith)
+      c.loop-i.invariant.1 ∙ judged_step chunk c.loop-i.j i n (omega arith)
           ∙ ap (λ (j : Reading). judged_from chunk j (i + 1) n) (sym (c.read_offset-j.ensures ∙ ap (offset_read c.loop-i.j) c.offset_at.ensures)),
     )
 
@@ -70,7 +69,7 @@ returns c =
     let same = c.point_count-n.ensures in
     let past = c.loop-i-test.false in
     let points : all_from (point_fine chunk) 0 (count_of chunk) ≡ true
-    = ap (all_from (point_fine chunk) 0) (sym same) ∙ c.loop-i.invariant.1 ∙ all_end (point_fine chunk) c.loop-i.i n past in
+    = ap (all_from (point_fine chunk) 0) (sym same) ∙ c.loop-i.invariant.0 ∙ all_end (point_fine chunk) c.loop-i.i n past in
     c.read_refusal.ensures
     ∙ sym (chunk_judged chunk (head-holds (goal.at.returns c).Else-not-head_fine) points ∙ judged_start chunk unread (count_of chunk) ∙ ap (judged_from chunk unread 0) (sym same)
-    ∙ c.loop-i.invariant.2 ∙ judged_end chunk c.loop-i.j c.loop-i.i n past)
+    ∙ c.loop-i.invariant.1 ∙ judged_end chunk c.loop-i.j c.loop-i.i n past)

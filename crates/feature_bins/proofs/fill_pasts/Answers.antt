@@ -4,8 +4,8 @@ use mathlib.Core.Path.{◌≡◌}
 use Rattle.feature_bins.proofs.Tables.{last-stretch, more-stretch}
 use Rattle.feature_bins.proofs.fill_pasts.Goals as goal
 
-pub bounds-pasts-k : goal.bounds-pasts-k
-bounds-pasts-k c = omega (arith, c.requires.1)
+pub bounds-pasts : goal.bounds-pasts
+bounds-pasts c = omega (arith, c.requires.1)
 
 pub loop-k-init : goal.loop-k-init
 loop-k-init c = (omega arith, last-stretch c.args.codes.now c.args.pasts.now c.requires.1)
@@ -14,8 +14,8 @@ pub past_at-requires : goal.past_at-requires
 past_at-requires c = let e : c.loop-k.k - 1 + 1 ≡ c.loop-k.k = omega arith in
     (omega arith, c.requires.0, rw e c.loop-k.invariant.1)
 
-pub bounds-pasts-k-in-loop-k : goal.bounds-pasts-k-in-loop-k
-bounds-pasts-k-in-loop-k c = omega (arith, c.loop-k.invariant.1.whole)
+pub bounds-pasts-k : goal.bounds-pasts-k
+bounds-pasts-k c = omega (arith, c.loop-k.invariant.1.whole)
 
 pub loop-k-preserved : goal.loop-k-preserved
 loop-k-preserved c = let e : c.loop-k.k - 1 + 1 ≡ c.loop-k.k = omega arith in

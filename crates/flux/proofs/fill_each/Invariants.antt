@@ -1,7 +1,6 @@
--- `flux::fill_each` meets its contract. The invariant: the slots up to t are written by the rule, and the list is as long as it was. The measure is
--- what is left of the range. Assumes nothing.
+-- `flux::fill_each` meets its contract. The invariant: the slots up to t are written by the rule, and the list is as long as it was. Assumes nothing.
 use mathlib.Core.Path.{◌≡◌}
-use Prim.Native.Nat.{◌≤◌, ◌-◌}
+use Prim.Native.Nat.{◌≤◌}
 use lib.ListN.{length}
 use Rattle.numbers.specs.Lists.{filled}
 use Rattle.flux.specs.Flux.{flux_at}
@@ -10,6 +9,3 @@ use Rattle.flux.proofs.fill_each.Given as goal
 abbrev pub invariant-loop-t : goal.invariant-loop-t
 invariant-loop-t l =
     (l.from ≤ l.t) × (l.t ≤ l.past) × (length l.out ≡ length l.initial.out) × (l.out ≡ filled (flux_at l.magnitudes l.slab) l.initial.out l.from l.t)
-
-abbrev pub decreases-loop-t : goal.decreases-loop-t
-decreases-loop-t l = l.past - l.t

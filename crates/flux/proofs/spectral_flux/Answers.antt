@@ -1,19 +1,18 @@
--- `flux::spectral_flux` meets its contract: a number other than 0 returns at once, and number 0 says all that the inner call asks (`flux-told`).
+-- `flux::spectral_flux` meets its contract: a refusal returns at once, and without one all holds that the inner call asks (`flux-told`).
 -- Assumes nothing.
-use mathlib.Core.Path.{sym, ◌∙◌}
+use mathlib.Core.Path.{sym}
 use native.Mathlib.Omega.{arith}
-use Rattle.numbers.proofs.Outcomes.{written_refused, written-done}
+use Rattle.numbers.proofs.Outcomes.{written_on, written-done}
 use Rattle.flux.proofs.Fluxes.{flux-told}
 use Rattle.flux.proofs.spectral_flux.Goals as goal
 
-pub returns-then-number-ne0 : goal.returns-then-number-ne0
-returns-then-number-ne0 c = written_refused _ _ _ _ c.refusal-number.ensures c.if-number-ne0.true
+pub returns-in_err-refusal : goal.returns-in_err-refusal
+returns-in_err-refusal c = written_on _ _ _ _ _ c.from_residual.ensures.1 c.in_err-refusal.ensures
 
 pub fill_flux-requires : goal.fill_flux-requires
 fill_flux-requires c =
-    let told = flux-told _ _ _ (sym c.refusal-number.ensures ∙ c.if-number-ne0.false) in
+    let told = flux-told _ _ _ (sym c.in_ok-refusal.ensures) in
     record { magnitudes_len = told.whole; magnitudes_value = told.fine; from_le_past = (omega arith, omega arith, told.has_room) }
 
 pub returns : goal.returns
-returns c =
-    written-done _ _ _ _ (sym c.refusal-number.ensures ∙ c.if-number-ne0.false) c.fill_flux.ensures
+returns c = written-done _ _ _ _ (sym c.in_ok-refusal.ensures) c.fill_flux.ensures

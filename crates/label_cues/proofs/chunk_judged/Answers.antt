@@ -1,5 +1,6 @@
 use mathlib.Core.Path.{◌≡◌, refl, sym, ap, ◌∙◌}
 use mathlib.Core.Bool.{true}
+use mathlib.Core.List.{[]}
 use Prim.Native.Nat.{ℕ, ◌+◌, ◌≤◌}
 use native.Mathlib.Omega.{arith}
 use lib.ListN.{length}
@@ -8,8 +9,8 @@ use Rattle.numbers.specs.Refusals.{first_of}
 use Rattle.texts.proofs.Texts.{fails, holds}
 use Rattle.times.specs.Micros.{microseconds}
 use Rattle.lists.specs.declared.Reading.{Reading}
-use Rattle.lists.specs.Grids.{unread}
-use Rattle.lists.proofs.Grids.{counted_refused, counted-done}
+use Rattle.lists.specs.Grids.{unread, read_number}
+use Rattle.lists.proofs.Grids.{counted_refused, counted_on, counted-done}
 use Rattle.cue_points.specs.Chunks.{chunk_length, chunk_frames, head_fine, all_from, point_fine, offset_read, count_of}
 use Rattle.cue_points.proofs.Heads.{head_says}
 use Rattle.cues.proofs.Runs.{all_pass, all_fail, all_end, all_start}
@@ -20,7 +21,7 @@ use Rattle.labels.proofs.Written.{labels_none, labels_all, labels_longer, line_m
 use Rattle.label_cues.specs.Calls.{rated_rows}
 use Rattle.label_cues.proofs.Calls.{rated_rate, rated_chunk, frames_count, frames_entry}
 use mathlib.Core.Bool.{not}
-use Rattle.label_cues.proofs.chunk_judged.Goals.{After-line_length-total, After-point_count-n, After-read_refusal-no, Else-not-head_fine, Else-not-rate_fine}
+use Rattle.label_cues.proofs.chunk_judged.Goals.{After-line_length-total, After-point_count-n, After-loop-i, Else-not-head_fine, Else-not-rate_fine}
 use Rattle.label_cues.proofs.chunk_judged.Goals as goal
 
 rate-holds : (c : Else-not-rate_fine) → rate_fine c.args.rate ≡ true
@@ -52,8 +53,7 @@ most c =
     )
 
 -- all are read
-judged : (c : After-read_refusal-no) → c.read_refusal-no.result ≡ first_of (rated_rows c.args.chunk.now
-    c.args.rate)
+judged : (c : After-loop-i) → read_number c.loop-i.j true [] ≡ first_of (rated_rows c.args.chunk.now c.args.rate)
 judged c =
     let rate-holds-here : rate_fine c.args.rate ≡ true = holds _ _ c.rate_fine.ensures (ap not c.if-not-rate_fine.false) in
     let head-holds-here : head_fine c.args.chunk.now ≡ true = holds _ _ c.head_fine.ensures (ap not c.if-not-head_fine.false) in
@@ -62,11 +62,10 @@ judged c =
     let same = c.point_count-n.ensures in
     let past = c.loop-i-test.false in
     let points : all_from (point_fine chunk) 0 (count_of chunk) ≡ true
-    = ap (all_from (point_fine chunk) 0) (sym same) ∙ c.loop-i.invariant.1 ∙ all_end (point_fine chunk) c.loop-i.i n past in
-    c.read_refusal-no.ensures
-    ∙ sym (rated_chunk chunk c.args.rate (rate-holds-here)
+    = ap (all_from (point_fine chunk) 0) (sym same) ∙ c.loop-i.invariant.0 ∙ all_end (point_fine chunk) c.loop-i.i n past in
+    sym (rated_chunk chunk c.args.rate (rate-holds-here)
     ∙ chunk_judged chunk (head-holds-here) points ∙ judged_start chunk unread (count_of chunk) ∙ ap (judged_from chunk unread 0) (sym same)
-    ∙ c.loop-i.invariant.2 ∙ judged_end chunk c.loop-i.j c.loop-i.i n past)
+    ∙ c.loop-i.invariant.1 ∙ judged_end chunk c.loop-i.j c.loop-i.i n past)
 
 pub returns-then-not-rate_fine : goal.returns-then-not-rate_fine
 returns-then-not-rate_fine c =
@@ -88,7 +87,6 @@ pub loop-i-init : goal.loop-i-init
 loop-i-init c =
     let chunk = c.args.chunk.now in
     let n = c.point_count-n.result in (
-      omega arith,
       all_start (point_fine chunk) n,
       ap (λ (j : Reading). judged_from chunk j 0 n) (sym c.unread-j.ensures),
       omega arith,
@@ -106,7 +104,7 @@ returns-then-not-point_fine c =
     (sym (rated_chunk chunk c.args.rate (rate-holds (goal.at.returns-then-not-point_fine c).Else-not-rate_fine)
     ∙ chunk_points chunk (head-holds (goal.at.returns-then-not-point_fine c).Else-not-head_fine)
     (ap (all_from (point_fine chunk) 0) (sym n)
-    ∙ c.loop-i.invariant.1
+    ∙ c.loop-i.invariant.0
     ∙ all_fail (point_fine chunk) c.loop-i.i c.point_count-n.result (omega arith) (fails _ _ c.point_fine.ensures (ap not c.if-not-point_fine.true)))))
     (λ z. omega arith) refl
 
@@ -120,7 +118,7 @@ pub microseconds-u-requires : goal.microseconds-u-requires
 microseconds-u-requires c = rate_some _ (rate-holds (goal.at.microseconds-u-requires c).Else-not-rate_fine)
 
 pub overflow_add-total : goal.overflow_add-total
-overflow_add-total c = omega (arith, most (goal.at.overflow_add-total c).After-line_length-total, c.loop-i.invariant.3)
+overflow_add-total c = omega (arith, most (goal.at.overflow_add-total c).After-line_length-total, c.loop-i.invariant.2)
 
 pub loop-i-preserved : goal.loop-i-preserved
 loop-i-preserved c =
@@ -134,22 +132,21 @@ loop-i-preserved c =
     let t = c.frame_at.ensures.0 ∙ sym entry in
     let this = long (goal.at.loop-i-preserved c).After-line_length-total ∙ ap (λ (k : ℕ). length (label_line (microseconds k rate))) t in
     let longer = labels_longer rate frames i (omega (arith, same, frames_count chunk)) in (
-      omega arith,
-      c.loop-i.invariant.1 ∙ all_pass (point_fine chunk) i n (omega arith) (holds _ _ c.point_fine.ensures
+      c.loop-i.invariant.0 ∙ all_pass (point_fine chunk) i n (omega arith) (holds _ _ c.point_fine.ensures
           (ap not c.if-not-point_fine.false)),
-      c.loop-i.invariant.2 ∙ judged_step chunk c.loop-i.j i n (omega arith)
+      c.loop-i.invariant.1 ∙ judged_step chunk c.loop-i.j i n (omega arith)
           ∙ ap (λ (j : Reading). judged_from chunk j (i + 1) n) (sym (c.read_offset-j.ensures
           ∙ ap (offset_read c.loop-i.j) c.offset_at.ensures)),
-      omega (arith, most (goal.at.loop-i-preserved c).After-line_length-total, c.loop-i.invariant.3),
-      omega (arith, this, longer, c.loop-i.invariant.4),
+      omega (arith, most (goal.at.loop-i-preserved c).After-line_length-total, c.loop-i.invariant.2),
+      omega (arith, this, longer, c.loop-i.invariant.3),
     )
 
-pub returns-then-no-ne0 : goal.returns-then-no-ne0
-returns-then-no-ne0 c = counted_refused _ _ _ (judged (goal.at.returns-then-no-ne0 c).After-read_refusal-no) c.if-no-ne0.true refl
+pub returns-in_err-read_refusal : goal.returns-in_err-read_refusal
+returns-in_err-read_refusal c =
+    counted_on _ _ _ _ c.from_residual.ensures.1 (c.in_err-read_refusal.ensures ∙ judged (goal.at.returns-in_err-read_refusal c).After-loop-i)
 
 pub returns : goal.returns
 returns c =
     let chunk = c.args.chunk.now in
-    let all = labels_all c.args.rate (chunk_frames chunk) c.loop-i.i
-    (omega (arith, c.loop-i.invariant.0, c.loop-i-test.false, c.point_count-n.ensures, frames_count chunk)) in
-    counted-done _ _ _ (sym (judged (goal.at.returns c).After-read_refusal-no) ∙ c.if-no-ne0.false) refl (c.loop-i.invariant.4 ∙ ap length all)
+    let all = labels_all c.args.rate (chunk_frames chunk) c.loop-i.i (omega (arith, c.point_count-n.ensures, frames_count chunk)) in
+    counted-done _ _ _ (sym (c.in_ok-read_refusal.ensures ∙ judged (goal.at.returns c).After-loop-i)) refl (c.loop-i.invariant.3 ∙ ap length all)

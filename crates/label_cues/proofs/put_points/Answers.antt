@@ -1,10 +1,10 @@
 use mathlib.Core.Path.{◌≡◌, refl, sym, ap, ◌∙◌}
-use Prim.Native.Nat.{ℕ, ◌+◌, ◌*◌}
+use Prim.Native.Nat.{ℕ, ◌+◌, ◌*◌, ◌<◌}
 use native.Mathlib.Omega.{arith}
 use lib.ListN.{length, get_or, drop}
 use Rattle.numbers.specs.Lists.{over}
 use Rattle.texts.specs.Texts.{Put}
-use Rattle.texts.proofs.Puts.{put-none, put_then, put-length}
+use Rattle.texts.proofs.Puts.{put-none, put_then}
 use Rattle.times.specs.Micros.{sample_of}
 use Rattle.cue_points.specs.Chunks.{offsets_of, point}
 use Rattle.cues.proofs.Chunks.{points_to, points_none, points_more, points_all, points_length, points_to_length, offsets_length}
@@ -14,6 +14,7 @@ use Rattle.label_tracks.specs.Tracks.{frames_for, text_times, text_frames}
 use Rattle.label_tracks.proofs.Tracks.{times_from, from_end, from_step, from_line, from-holds}
 use Rattle.label_tracks.proofs.Frames.{times_here, times_rest, frames_step, frames_long}
 use Rattle.label_cues.proofs.Calls.{next_entry}
+use Rattle.label_cues.proofs.put_points.Goals.{In-loop-at}
 use Rattle.label_cues.proofs.put_points.Goals as goal
 
 pub loop-at-init : goal.loop-at-init
@@ -24,8 +25,6 @@ loop-at-init c =
       c.requires.text_value,
       c.requires.text_value_2,
       omega (arith, frames_long rate (text_times text)),
-      refl,
-      refl,
       refl,
       rw (points_none (text_frames rate text)) (put-none c.args.out.now 12 (omega (arith, c.requires.text_in_bounds))),
     )
@@ -41,22 +40,28 @@ overflow_mul-t c = omega (arith, c.frame_at-t.ensures.1)
 pub overflow_add-t : goal.overflow_add-t
 overflow_add-t c = omega (arith, c.frame_at-t.ensures.1)
 
-pub put_point-end-requires : goal.put_point-end-requires
-put_point-end-requires c =
+-- a line that is left has a frame
+left : (c : In-loop-at) → c.loop-at.i < length (text_frames c.args.rate c.args.text.now)
+left c =
     let text = c.args.text.now in
     let at = c.loop-at.at in
-    let more = ap length (from_step text at (omega arith) (at + line_length (drop at text)) refl).1 in record { at_in_bounds = omega (arith, more, c.requires.text_in_bounds, c.loop-at.invariant.3, c.loop-at.invariant.5, c.loop-at.invariant.6); i_le_most_frame = omega (arith, more, c.requires.text_len_bound, c.loop-at.invariant.3) }
+    omega (arith, ap length (from_step text at (omega arith) (at + line_length (drop at text)) refl).1, c.loop-at.invariant.3)
+
+pub put_point-end-requires : goal.put_point-end-requires
+put_point-end-requires c =
+    let here = left (goal.at.put_point-end-requires c).In-loop-at in
+    let long = points_to_length (text_frames c.args.rate c.args.text.now) c.loop-at.i (omega (arith, here)) in
+    record {
+      at_in_bounds = omega (arith, here, long, c.requires.text_in_bounds, c.loop-at.invariant.5.end_is);
+      i_le_most_frame = omega (arith, here, c.requires.text_len_bound);
+    }
 
 pub line_end-at-requires : goal.line_end-at-requires
 line_end-at-requires c =
     from_line c.args.text.now c.loop-at.at (omega arith) c.loop-at.invariant.1
 
 pub overflow_add-i : goal.overflow_add-i
-overflow_add-i c =
-    let text = c.args.text.now in
-    let at = c.loop-at.at in
-    let more = ap length (from_step text at (omega arith) (at + line_length (drop at text)) refl).1 in
-    omega (arith, more, c.requires.text_len_bound, c.loop-at.invariant.3)
+overflow_add-i c = omega (arith, left (goal.at.overflow_add-i c).In-loop-at, c.requires.text_len_bound)
 
 pub loop-at-smaller : goal.loop-at-smaller
 loop-at-smaller c = omega (arith, c.line_end-at.ensures.0, c.line_end-at.ensures.1)
@@ -81,20 +86,14 @@ loop-at-preserved c =
     let this : Put c.loop-at.out c.loop-at.end (point i (sample_of (get_or frames i 0))) p.result p.new.out
     = rw t at p.ensures in
     let put : Put out 12 (points_to frames (i + 1)) p.result p.new.out
-    = rw (points_more frames i (omega (arith, more, c.loop-at.invariant.3))) (put_then c.loop-at.invariant.7 this) in
-    let long = points_to_length frames (i + 1) (omega (arith, more, c.loop-at.invariant.3)) in (
+    = rw (points_more frames i (omega (arith, more, c.loop-at.invariant.3))) (put_then c.loop-at.invariant.5 this) in (
       c.line_end-at.ensures.1,
       sym (from-holds text at (omega arith) end e line) ∙ fine,
       times_rest rate text at end (omega arith) e c.loop-at.invariant.2,
       omega (arith, more, c.loop-at.invariant.3),
       next.1,
-      put.end_is ∙ (omega (arith, long)),
-      put-length put,
       put,
     )
-
-pub shape_of-out : goal.shape_of-out
-shape_of-out c = c.loop-at.invariant.6
 
 pub returns : goal.returns
 returns c =
@@ -102,7 +101,7 @@ returns c =
     let frames = text_frames c.args.rate text in
     let none = ap length (from_end text c.loop-at.at c.loop-at-test.false).1 in
     let all : c.loop-at.i ≡ length frames = omega (arith, none, c.loop-at.invariant.3) in
-    let put = c.loop-at.invariant.7 in
+    let put = c.loop-at.invariant.5 in
     record {
       end_is = ap (λ (n : ℕ). 12 + n) (sym (points_length (offsets_of frames) 0 ∙ ap (λ (n : ℕ). 24 * n) (offsets_length frames)));
       fits = c.requires.text_in_bounds;

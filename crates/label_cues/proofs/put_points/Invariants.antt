@@ -2,7 +2,7 @@
 -- left, and the points of the frames so far are written. The measure is what is left of the text. Assumes nothing.
 use mathlib.Core.Path.{◌≡◌}
 use mathlib.Core.Bool.{true}
-use Prim.Native.Nat.{◌+◌, ◌*◌, ◌-◌, ◌≤◌}
+use Prim.Native.Nat.{◌+◌, ◌-◌, ◌≤◌}
 use lib.ListN.{length, drop}
 use Rattle.numbers.specs.Lists.{every}
 use Rattle.texts.specs.Texts.{Put}
@@ -19,8 +19,6 @@ invariant-loop-at l =
     × (every (time_fine l.rate) (times_from l.text l.at) ≡ true)
     × (l.i + length (times_from l.text l.at) ≡ length (text_frames l.rate l.text))
     × (drop l.i (text_frames l.rate l.text) ≡ frames_for l.rate (times_from l.text l.at))
-    × (l.end ≡ 12 + 24 * l.i)
-    × (length l.out ≡ length l.initial.out)
     × Put l.initial.out 12 (points_to (text_frames l.rate l.text) l.i) l.end l.out
 
 abbrev pub decreases-loop-at : goal.decreases-loop-at

@@ -13,24 +13,13 @@ pub overflow_add-dot : goal.overflow_add-dot
 overflow_add-dot c =
     omega (arith, line_ends c.args.text.now c.args.at c.requires, c.digits_end-dot.ensures)
 
-pub returns-then-u-lt-PAST_TIMES : goal.returns-then-u-lt-PAST_TIMES
+pub returns : goal.returns
 unfolding time_of
-returns-then-u-lt-PAST_TIMES c =
+returns c =
     let text = c.args.text.now in
     let at = c.args.at in
     let dot = c.digits_end-dot in
     let ends = line_ends text at c.requires in
     let small = fraction_small (drop at text) c.requires in
     let frac = ap (λ (r : List ℕ). number_from 0 (leading r)) (fraction-at text at dot.result dot.ensures) in
-    omega (arith, c.number_at-seconds.ensures, c.number_at-fraction.ensures, frac, small, c.if-u-lt-PAST_TIMES.true)
-
-pub returns-else-u-lt-PAST_TIMES : goal.returns-else-u-lt-PAST_TIMES
-unfolding time_of
-returns-else-u-lt-PAST_TIMES c =
-    let text = c.args.text.now in
-    let at = c.args.at in
-    let dot = c.digits_end-dot in
-    let ends = line_ends text at c.requires in
-    let small = fraction_small (drop at text) c.requires in
-    let frac = ap (λ (r : List ℕ). number_from 0 (leading r)) (fraction-at text at dot.result dot.ensures) in
-    omega (arith, c.number_at-seconds.ensures, c.number_at-fraction.ensures, frac, small, c.if-u-lt-PAST_TIMES.false)
+    omega (arith, c.number_at-seconds.ensures, c.number_at-fraction.ensures, frac, small, c.min.ensures)

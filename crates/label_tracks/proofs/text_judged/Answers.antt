@@ -1,12 +1,14 @@
 use mathlib.Core.Path.{◌≡◌, refl, sym, ap, ◌∙◌}
 use mathlib.Core.Bool.{true}
+use mathlib.Core.List.{[]}
 use native.Mathlib.Omega.{arith}
 use lib.ListN.{length, drop}
 use Rattle.numbers.specs.Limits.{rate_fine}
 use Rattle.numbers.specs.Refusals.{first_of}
 use Rattle.texts.proofs.Texts.{fails, holds}
 use Rattle.lists.specs.declared.Reading.{Reading}
-use Rattle.lists.proofs.Grids.{counted_refused, counted-done}
+use Rattle.lists.specs.Grids.{read_number}
+use Rattle.lists.proofs.Grids.{counted_refused, counted_on, counted-done}
 use Rattle.label_times.specs.Frames.{time_read}
 use Rattle.label_times.proofs.Frames.{time_read_held}
 use Rattle.label_lines.specs.Lines.{line_fine, time_of}
@@ -14,7 +16,7 @@ use Rattle.label_tracks.specs.Tracks.{text_times, text_rows}
 use Rattle.label_tracks.proofs.Tracks.{times_from, from_end, from_step, from_fails, from-holds}
 use Rattle.label_tracks.proofs.Frames.{text_rate, text_lines, text_judged, judged_from, judged_step, judged_end}
 use mathlib.Core.Bool.{not}
-use Rattle.label_tracks.proofs.text_judged.Goals.{After-read_refusal-no, Else-not-line_fine, Else-not-rate_fine}
+use Rattle.label_tracks.proofs.text_judged.Goals.{After-loop-at, Else-not-line_fine, Else-not-rate_fine}
 use Rattle.label_tracks.proofs.text_judged.Goals as goal
 
 rate-holds : (c : Else-not-rate_fine) → rate_fine c.args.rate ≡ true
@@ -24,15 +26,13 @@ line-holds : (c : Else-not-line_fine) → line_fine (drop c.loop-at.at c.args.te
 line-holds c = holds _ _ c.line_fine.ensures (ap not c.if-not-line_fine.false)
 
 -- all are read
-judged : (c : After-read_refusal-no) → c.read_refusal-no.result ≡ first_of (text_rows
-    c.args.rate c.args.text.now)
+judged : (c : After-loop-at) → read_number c.loop-at.j true [] ≡ first_of (text_rows c.args.rate c.args.text.now)
 judged c =
     let rate-holds-here : rate_fine c.args.rate ≡ true = holds _ _ c.rate_fine.ensures (ap not c.if-not-rate_fine.false) in
     let text = c.args.text.now in
     let rate = c.args.rate in
     let none = from_end text c.loop-at.at c.loop-at-test.false in
-    c.read_refusal-no.ensures
-    ∙ sym (text_judged rate text (rate-holds-here) (c.loop-at.invariant.1 ∙ none.0) ∙ c.loop-at.invariant.4
+    sym (text_judged rate text (rate-holds-here) (c.loop-at.invariant.1 ∙ none.0) ∙ c.loop-at.invariant.4
     ∙ judged_end rate c.loop-at.j (times_from text c.loop-at.at) none.1)
 
 pub returns-then-not-rate_fine : goal.returns-then-not-rate_fine
@@ -88,11 +88,12 @@ loop-at-preserved c =
           ∙ ap (λ (j : Reading). judged_from rate j (times_from text end)) (sym read),
     )
 
-pub returns-then-no-ne0 : goal.returns-then-no-ne0
-returns-then-no-ne0 c = counted_refused _ _ _ (judged (goal.at.returns-then-no-ne0 c).After-read_refusal-no) c.if-no-ne0.true refl
+pub returns-in_err-read_refusal : goal.returns-in_err-read_refusal
+returns-in_err-read_refusal c =
+    counted_on _ _ _ _ c.from_residual.ensures.1 (c.in_err-read_refusal.ensures ∙ judged (goal.at.returns-in_err-read_refusal c).After-loop-at)
 
 pub returns : goal.returns
 returns c =
     let text = c.args.text.now in
     let none = ap length (from_end text c.loop-at.at c.loop-at-test.false).1 in
-    counted-done _ _ _ (sym (judged (goal.at.returns c).After-read_refusal-no) ∙ c.if-no-ne0.false) refl (omega (arith, none, c.loop-at.invariant.3))
+    counted-done _ _ _ (sym (c.in_ok-read_refusal.ensures ∙ judged (goal.at.returns c).After-loop-at)) refl (omega (arith, none, c.loop-at.invariant.3))

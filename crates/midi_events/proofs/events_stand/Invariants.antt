@@ -1,13 +1,10 @@
 -- `midi_events::events_stand` meets its contract. The invariant: whether all events stand and none tells 0 is whether those that are left do
--- (`fine_from`). The measure is how many are left. Assumes nothing.
+-- (`fine_from`). Assumes nothing.
 use mathlib.Core.Path.{◌≡◌}
-use Prim.Native.Nat.{◌≤◌, ◌-◌}
+use Prim.Native.Nat.{◌≤◌}
 use Rattle.midi_events.specs.Shapes.{count_in}
 use Rattle.midi_events.proofs.Shapes.{fine_from}
 use Rattle.midi_events.proofs.events_stand.Given as goal
 
 abbrev pub invariant-loop-i : goal.invariant-loop-i
 invariant-loop-i l = (l.i ≤ count_in l.file) × (fine_from l.file 0 ≡ fine_from l.file l.i)
-
-abbrev pub decreases-loop-i : goal.decreases-loop-i
-decreases-loop-i l = l.count - l.i

@@ -27,7 +27,7 @@ unfolding tempo_track_numbers_fine
 returns c =
     simp (
       c.unless-2.ensures,
-      c.unless-number.ensures,
+      c.unless-rest.ensures,
       c.unless.ensures,
       c.gaps_fit-gaps.ensures,
       c.is_grid-grid.ensures,

@@ -1,5 +1,5 @@
 -- `novelties::add_row_lanes` meets its contract. The invariant: in each lane the steps that are left, taken from the lane's sum, give the whole row of
--- the kernel. The measure is what is left of the sixteen places. Assumes nothing.
+-- the kernel. Assumes nothing.
 use mathlib.Core.Path.{◌≡◌}
 use Prim.Native.Nat.{ℕ, ◌-◌, ◌≤◌, ◌<◌}
 use lib.ListN.{length, get_or}
@@ -13,6 +13,3 @@ invariant-loop-v l =
     (l.v ≤ 16)
     × (length l.lanes ≡ 24)
     × ((j : ℕ) → j < 24 → turns (near_term l.near j l.u) l.v (16 - l.v) (get_or l.lanes j nan) ≡ near_row l.near j l.u (get_or l.initial.lanes j nan))
-
-abbrev pub decreases-loop-v : goal.decreases-loop-v
-decreases-loop-v l = 16 - l.v

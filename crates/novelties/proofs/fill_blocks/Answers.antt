@@ -12,7 +12,7 @@ use Rattle.row_pairs.specs.Pairs.{band_width}
 use Rattle.novelties.specs.Novelty.{novelty_at}
 use Rattle.novelties.specs.Lanes.{span, Gathered, lane_from}
 use Rattle.novelties.proofs.Lanes.{lanes_join, lane-novelty}
-use Rattle.novelties.proofs.fill_blocks.Goals.{After-least-end}
+use Rattle.novelties.proofs.fill_blocks.Goals.{After-min-end}
 use Rattle.novelties.proofs.fill_blocks.Goals as goal
 
 -- the block from row `first` on, of which the slots from i up to `end` are written
@@ -24,12 +24,12 @@ record Block (rows past i first end : ℕ) : Type 0 where
   over : end ≤ first + 24
   most : end ≤ past
 
-block : (c : After-least-end)
+block : (c : After-min-end)
     → let a = c.args in
-    Block a.rows a.past c.loop-i.i c.least-first.result c.least-end.result
+    Block a.rows a.past c.loop-i.i c.min-first.result c.min-end.result
 block c =
-    let e = c.least-first.ensures in
-    let m = c.least-end.ensures in
+    let e = c.min-first.ensures in
+    let m = c.min-end.ensures in
     record { low = omega arith; high = omega arith; begun = omega arith; more = omega arith; over = omega arith; most = omega arith }
 
 rows_in : (rows first slots : ℕ) → middle ≤ first → first + 31 ≤ rows → slots ≡ rows * band_width
@@ -43,14 +43,14 @@ pub loop-i-init : goal.loop-i-init
 loop-i-init c = (omega arith, omega arith, refl, sym (filled_none _ _ _), length-replicate 640 nought)
 
 pub overflow_add-first : goal.overflow_add-first
-overflow_add-first c = let e = c.least-first.ensures in omega arith
+overflow_add-first c = let e = c.min-first.ensures in omega arith
 
 pub overflow_sub-first : goal.overflow_sub-first
-overflow_sub-first c = (block (goal.at.overflow_sub-first c).After-least-end).low
+overflow_sub-first c = (block (goal.at.overflow_sub-first c).After-min-end).low
 
 pub gather-requires : goal.gather-requires
 gather-requires c =
-    let b = block (goal.at.gather-requires c).After-least-end in
+    let b = block (goal.at.gather-requires c).After-min-end in
     (rows_in _ _ _ b.low b.high c.requires.1, c.loop-i.invariant.4)
 
 pub block_slots-values-requires : goal.block_slots-values-requires
@@ -58,22 +58,22 @@ block_slots-values-requires c = c.requires.0
 
 pub put_part-requires : goal.put_part-requires
 put_part-requires c =
-    let b = block (goal.at.put_part-requires c).After-least-end in
+    let b = block (goal.at.put_part-requires c).After-min-end in
     let l = c.loop-i.invariant.2 in
     (b.begun, omega arith, b.over, omega arith)
 
 pub loop-i-smaller : goal.loop-i-smaller
 loop-i-smaller c =
-    let b = block (goal.at.loop-i-smaller c).After-least-end in
+    let b = block (goal.at.loop-i-smaller c).After-min-end in
     falls _ _ _ b.more b.most
 
 pub loop-i-preserved : goal.loop-i-preserved
 loop-i-preserved c =
-    let b = block (goal.at.loop-i-preserved c).After-least-end in
+    let b = block (goal.at.loop-i-preserved c).After-min-end in
     let a = c.args in
     let i = c.loop-i.i in
-    let first : ℕ = c.least-first.result in
-    let end : ℕ = c.least-end.result in
+    let first : ℕ = c.min-first.result in
+    let end : ℕ = c.min-end.result in
     let f : ℕ → Float = novelty_at a.similarity.now a.rows in
     let values : List Float = c.block_slots-values.result in
     let was : List Float = c.loop-i.novelty in

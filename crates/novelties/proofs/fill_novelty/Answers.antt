@@ -9,7 +9,7 @@ use lib.Ieee.{Float, nan}
 use Rattle.numbers.specs.Lists.{filled}
 use Rattle.numbers.proofs.Tabs.{filled_join}
 use Rattle.novelties.specs.Novelty.{novelty_at}
-use Rattle.novelties.proofs.fill_novelty.Goals.{After-greatest-stop}
+use Rattle.novelties.proofs.fill_novelty.Goals.{After-max-stop}
 use Rattle.novelties.proofs.fill_novelty.Goals as goal
 
 -- where the three runs begin and end
@@ -25,29 +25,29 @@ runs : (rows from past g start l stop : ℕ) → from ≤ past → g ≡ max fro
 runs rows from past g start l stop h e m n o =
     record { before = omega arith; inner = omega arith; after = omega arith; low = omega arith; high = omega arith }
 
-runs_of : (c : After-greatest-stop)
+runs_of : (c : After-max-stop)
     → let a = c.args in
-    Runs a.rows a.from a.past c.least-start.result c.greatest-stop.result
+    Runs a.rows a.from a.past c.min-start.result c.max-stop.result
 runs_of c =
-    runs _ _ _ _ _ _ _ c.requires.1 c.greatest.ensures c.least-start.ensures c.least.ensures c.greatest-stop.ensures
+    runs _ _ _ _ _ _ _ c.requires.1 c.max.ensures c.min-start.ensures c.min.ensures c.max-stop.ensures
 
 pub fill_blocks-requires : goal.fill_blocks-requires
 fill_blocks-requires c =
-    let r = runs_of (goal.at.fill_blocks-requires c).After-greatest-stop in
+    let r = runs_of (goal.at.fill_blocks-requires c).After-max-stop in
     (c.kernel-table.ensures, c.requires.0, c.if-rows-lt-SPAN.false, r.low, r.inner, r.high, omega arith)
 
 pub fill_plain-requires-3 : goal.fill_plain-requires-3
 fill_plain-requires-3 c =
-    let r = runs_of (goal.at.fill_plain-requires-3 c).After-greatest-stop in
+    let r = runs_of (goal.at.fill_plain-requires-3 c).After-max-stop in
     (c.kernel-table.ensures, c.requires.0, r.after, c.requires.2, le_trans c.requires.3 (le_of_eq (sym (c.novelty-3-1.given ∙ c.novelty-2-1.given))))
 
 pub returns : goal.returns
 returns c =
-    let r = runs_of (goal.at.returns c).After-greatest-stop in
+    let r = runs_of (goal.at.returns c).After-max-stop in
     let a = c.args in
     let f : ℕ → Float = novelty_at a.similarity.now a.rows in
-    let start : ℕ = c.least-start.result in
-    let stop : ℕ = c.greatest-stop.result in
+    let start : ℕ = c.min-start.result in
+    let stop : ℕ = c.max-stop.result in
     c.fill_plain-3.ensures
     ∙ ap (λ (d : List Float). filled f d stop a.past)
     (c.fill_blocks.ensures

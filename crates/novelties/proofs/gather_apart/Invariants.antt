@@ -1,5 +1,5 @@
--- `novelties::gather_apart` meets its contract. The invariant: the first r slots of the distance are written, the others are as they were. The measure
--- is what is left of the thirty-nine rows. Assumes nothing.
+-- `novelties::gather_apart` meets its contract. The invariant: the first r slots of the distance are written, the others are as they were. Assumes
+-- nothing.
 use mathlib.Core.Path.{◌≡◌}
 use Prim.Native.Nat.{◌+◌, ◌-◌, ◌*◌, ◌≤◌}
 use lib.ListN.{length}
@@ -10,6 +10,3 @@ use Rattle.novelties.proofs.gather_apart.Given as goal
 abbrev pub invariant-loop-r : goal.invariant-loop-r
 invariant-loop-r l =
     (l.r ≤ 39) × (length l.near ≡ 640) × (l.near ≡ filled (laid_apart l.similarity l.first l.d) l.initial.near (l.d * 40) (l.d * 40 + l.r))
-
-abbrev pub decreases-loop-r : goal.decreases-loop-r
-decreases-loop-r l = 39 - l.r

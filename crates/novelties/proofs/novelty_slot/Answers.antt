@@ -13,9 +13,9 @@ unfolding novelty_at
 loop-u-init c =
     let a = c.args in
     let s : List Float = a.similarity.now in
-    let low : ℕ = c.less-low.result in
-    let m = c.less-low.ensures in
-    let n = c.least-past.ensures in (
+    let low : ℕ = c.saturating_sub-low.result in
+    let m = c.saturating_sub-low.ensures in
+    let n = c.min-past.ensures in (
       omega arith,
       omega arith,
       sym (turns_skip (add_row s a.rows a.i) 0 low 16 nought (omega arith) (omega arith)
@@ -25,17 +25,17 @@ loop-u-init c =
 pub add_row-total-requires : goal.add_row-total-requires
 add_row-total-requires c =
     let p = c.requires in
-    (p.0, p.1, p.2, c.less-low.ensures, c.least-past.ensures, c.loop-u.invariant.0, c.loop-u-test.true)
+    (p.0, p.1, p.2, c.saturating_sub-low.ensures, c.min-past.ensures, c.loop-u.invariant.0, c.loop-u-test.true)
 
 pub loop-u-preserved : goal.loop-u-preserved
 loop-u-preserved c =
-    let n = c.least-past.ensures in
+    let n = c.min-past.ensures in
     (omega arith, omega arith, rw c.add_row-total.ensures (sym (turns_next _ c.loop-u.u 16 c.loop-u.total (omega arith)) ∙ c.loop-u.invariant.2))
 
 pub returns : goal.returns
 returns c =
     let a = c.args in
-    let n = c.least-past.ensures in
+    let n = c.min-past.ensures in
     let s : List Float = a.similarity.now in
     let f : ℕ → Float → Float = add_row s a.rows a.i in
     sym (turns_skip f c.loop-u.u 16 16 c.loop-u.total (omega arith) (omega arith)

@@ -1,5 +1,4 @@
--- `novelties::put_part` meets its contract. The invariant: the slots before k are written from the lanes, the others are as they were. The measure is
--- what is left up to `past`. Assumes nothing.
+-- `novelties::put_part` meets its contract. The invariant: the slots before k are written from the lanes, the others are as they were. Assumes nothing.
 use mathlib.Core.Path.{◌≡◌}
 use Prim.Native.Nat.{◌-◌, ◌≤◌}
 use lib.ListN.{length}
@@ -10,6 +9,3 @@ use Rattle.novelties.proofs.put_part.Given as goal
 abbrev pub invariant-loop-k : goal.invariant-loop-k
 invariant-loop-k l =
     (l.from ≤ l.k) × (l.k ≤ l.past) × (length l.novelty ≡ length l.initial.novelty) × (l.novelty ≡ filled (lane_from l.values l.first) l.initial.novelty l.from l.k)
-
-abbrev pub decreases-loop-k : goal.decreases-loop-k
-decreases-loop-k l = l.past - l.k

@@ -1,7 +1,7 @@
--- `patch_features::mend_before` meets its contract. The invariant: the slots up to k are mended, and the list is as long as it was. The measure is
--- what is left of the range. A slot is mended from what the loop finds there, which is what was lent (`mended-more`). Assumes nothing.
+-- `patch_features::mend_before` meets its contract. The invariant: the slots up to k are mended, and the list is as long as it was. A slot is mended
+-- from what the loop finds there, which is what was lent (`mended-more`). Assumes nothing.
 use mathlib.Core.Path.{◌≡◌}
-use Prim.Native.Nat.{◌-◌, ◌≤◌}
+use Prim.Native.Nat.{◌≤◌}
 use lib.ListN.{length}
 use Rattle.numbers.specs.Lists.{filled}
 use Rattle.patch_features.specs.Features.{mended_at}
@@ -11,6 +11,3 @@ abbrev pub invariant-loop-k : goal.invariant-loop-k
 invariant-loop-k l =
     (l.from ≤ l.k) × (l.k ≤ l.to) × (length l.similarity ≡ length l.initial.similarity)
     × (l.similarity ≡ filled (mended_at l.features l.rows l.start l.past l.initial.similarity) l.initial.similarity l.from l.k)
-
-abbrev pub decreases-loop-k : goal.decreases-loop-k
-decreases-loop-k l = l.to - l.k

@@ -1,4 +1,4 @@
--- `patch_features::patch_features` meets its contract: a number other than 0 returns at once, number 0 says all that the inner calls ask (`asked`), and what
+-- `patch_features::patch_features` meets its contract: a refusal returns at once, and without one all holds that the inner calls ask (`asked`), and what
 -- they write is the promise (`wrote`). Assumes nothing.
 use mathlib.Core.Path.{◌≡◌, sym, ◌∙◌}
 use Prim.Native.Nat.{◌+◌, ◌-◌, ◌*◌, ◌/◌, ◌≤◌}
@@ -12,14 +12,14 @@ use Rattle.numbers.specs.Limits.{feature_width}
 use Rattle.patches.specs.Patches.{patch_of, edited}
 use Rattle.patch_features.specs.Features.{feature_track, feature_patch_number}
 use Rattle.patch_features.proofs.Asked.{Asked, asked}
-use Rattle.patch_features.proofs.Outcomes.{refused, empty, wrote}
+use Rattle.patch_features.proofs.Outcomes.{refused_on, empty, wrote}
 use Rattle.patch_features.proofs.patch_features.Goals.{Else-new-eq0}
 use Rattle.patch_features.proofs.patch_features.Goals as goal
 
 none : (c : Else-new-eq0)
     → feature_patch_number c.args.rows (feature_track c.args.features.now c.args.similarity.now c.args.novelty.now)
     (patch_of c.args.start c.args.new.now) ≡ 0
-none c = sym c.refusal-number.ensures ∙ c.if-number-ne0.false
+none c = sym c.in_ok-refusal.ensures
 
 ready : (c : Else-new-eq0)
     → Asked c.args.rows (feature_track c.args.features.now c.args.similarity.now c.args.novelty.now)
@@ -32,17 +32,17 @@ fits c =
     patch_fits c.args.features.now c.args.new.now c.args.rows feature_width c.args.start
     (length c.args.new.now / feature_width) nan w.whole w.new-whole w.inside
 
-pub returns-then-number-ne0 : goal.returns-then-number-ne0
-returns-then-number-ne0 c = refused _ _ _ _ c.refusal-number.ensures c.if-number-ne0.true
+pub returns-in_err-refusal : goal.returns-in_err-refusal
+returns-in_err-refusal c = refused_on _ _ _ _ _ c.from_residual.ensures.1 c.in_err-refusal.ensures
 
 pub returns-then-new-eq0 : goal.returns-then-new-eq0
-returns-then-new-eq0 c = empty _ _ _ (sym c.refusal-number.ensures ∙ c.if-number-ne0.false) c.if-new-eq0.true
+returns-then-new-eq0 c = empty _ _ _ (sym c.in_ok-refusal.ensures) c.if-new-eq0.true
 
 pub overflow_mul-start : goal.overflow_mul-start
 overflow_mul-start c = omega (arith, fits (goal.at.overflow_mul-start c).Else-new-eq0)
 
-pub copy_values-requires : goal.copy_values-requires
-copy_values-requires c = fits (goal.at.copy_values-requires c).Else-new-eq0
+pub put_over-requires : goal.put_over-requires
+put_over-requires c = fits (goal.at.put_over-requires c).Else-new-eq0
 
 pub overflow_add-past : goal.overflow_add-past
 overflow_add-past c =
@@ -62,7 +62,7 @@ overflow_mul-similarity_past c =
 pub mend_similarity-requires : goal.mend_similarity-requires
 mend_similarity-requires c =
     let r = ready (goal.at.mend_similarity-requires c).Else-new-eq0 in
-    rw c.copy_values.ensures
+    rw c.put_over.ensures
     (length_over _ _ _ (fits (goal.at.mend_similarity-requires c).Else-new-eq0) ∙ r.lengths.whole, omega arith, omega arith, omega arith, omega arith)
 
 pub overflow_add-past-2 : goal.overflow_add-past-2
@@ -97,7 +97,7 @@ pub returns : goal.returns
 unfolding edited
 returns c =
     let pairs = c.args.rows * 17 in
-    wrote _ _ _ (none (goal.at.returns c).Else-new-eq0) c.if-new-eq0.false _ _ _ c.first_pair-similarity_first.ensures c.less-novelty_first.ensures
-    c.least-novelty_past.ensures _ _ _
-    c.copy_values.ensures c.mend_similarity.ensures
+    wrote _ _ _ (none (goal.at.returns c).Else-new-eq0) c.if-new-eq0.false _ _ _ c.first_pair-similarity_first.ensures c.saturating_sub-novelty_first.ensures
+    c.min-novelty_past.ensures _ _ _
+    c.put_over.ensures c.mend_similarity.ensures
     (rw (sub-zero pairs) at c.fill_novelty.ensures)

@@ -1,13 +1,13 @@
--- `patch_magnitudes::patch_magnitudes` meets its contract: a number other than 0 returns at once, number 0 says all that the inner calls ask
+-- `patch_magnitudes::patch_magnitudes` meets its contract: a refusal returns at once, and without one all holds that the inner calls ask
 -- (`asked`), and what they write is the promise (`wrote`). Assumes nothing.
-use mathlib.Core.Path.{◌≡◌, sym, ◌∙◌}
+use mathlib.Core.Path.{◌≡◌, sym}
 use native.Mathlib.Omega.{arith}
 use lib.ListN.{length}
 use Rattle.numbers.specs.Limits.{slab_of}
 use Rattle.patches.specs.Patches.{patch_of}
 use Rattle.patch_magnitudes.specs.Tracks.{magnitude_track, patch_number}
 use Rattle.patch_magnitudes.proofs.Asked.{Asked, asked}
-use Rattle.patch_magnitudes.proofs.Outcomes.{refused, empty, wrote}
+use Rattle.patch_magnitudes.proofs.Outcomes.{refused_on, empty, wrote}
 use Rattle.patch_magnitudes.proofs.patch_magnitudes.Goals.{Else-new-eq0}
 use Rattle.patch_magnitudes.proofs.patch_magnitudes.Goals as goal
 
@@ -16,18 +16,18 @@ none : (c : Else-new-eq0)
     (magnitude_track c.args.magnitudes.now c.args.flux.now c.args.threshold.now)
     (patch_of c.args.start c.args.new.now) (length c.args.work.now)
     ≡ 0
-none c = sym c.refusal-number.ensures ∙ c.if-number-ne0.false
+none c = sym c.in_ok-refusal.ensures
 
 ready : (c : Else-new-eq0)
     → Asked (slab_of c.args.rows c.args.bins) (magnitude_track c.args.magnitudes.now c.args.flux.now c.args.threshold.now)
     (patch_of c.args.start c.args.new.now) (length c.args.work.now)
 ready c = asked _ _ _ _ (none c)
 
-pub returns-then-number-ne0 : goal.returns-then-number-ne0
-returns-then-number-ne0 c = refused _ _ _ _ _ c.refusal-number.ensures c.if-number-ne0.true
+pub returns-in_err-refusal : goal.returns-in_err-refusal
+returns-in_err-refusal c = refused_on _ _ _ _ _ _ c.from_residual.ensures.1 c.in_err-refusal.ensures
 
 pub returns-then-new-eq0 : goal.returns-then-new-eq0
-returns-then-new-eq0 c = empty _ _ _ _ (sym c.refusal-number.ensures ∙ c.if-number-ne0.false) c.if-new-eq0.true
+returns-then-new-eq0 c = empty _ _ _ _ (sym c.in_ok-refusal.ensures) c.if-new-eq0.true
 
 pub nonzero_div-count : goal.nonzero_div-count
 nonzero_div-count c = let a = ready (goal.at.nonzero_div-count c).Else-new-eq0 in omega arith
@@ -36,7 +36,11 @@ pub mend_flux-flux_past-requires : goal.mend_flux-flux_past-requires
 mend_flux-flux_past-requires c =
     let a = ready (goal.at.mend_flux-flux_past-requires c).Else-new-eq0 in
     let w = a.lengths in
-    record { magnitudes_len = (w.whole, w.new-whole, w.inside); magnitudes_value = (a.fine, a.new-fine); rows_le_most_rows = (a.fits.rows_fit, a.rooms.flux_room) }
+    record {
+      magnitudes_len = (w.whole, w.new-whole, w.inside);
+      magnitudes_value = (a.fine, a.new-fine);
+      rows_le_most_rows = (a.fits.rows_fit, a.rooms.flux_room);
+    }
 
 pub mend_threshold-slots-requires : goal.mend_threshold-slots-requires
 mend_threshold-slots-requires c =

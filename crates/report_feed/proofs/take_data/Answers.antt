@@ -1,13 +1,11 @@
 -- `report_feed::take_data` meets its contract: a byte behind the last row, a byte within a row, or the last of a row, which is then taken.
 -- Assumes nothing.
-use mathlib.Core.Path.{ap, ◌∙◌}
-use mathlib.Core.List.{◌++◌}
-use native.Mathlib.Nat.{sub-zero}
+use mathlib.Core.Path.{refl, sym, ◌∙◌}
 use native.Mathlib.Omega.{arith}
-use Prim.Native.Nat.{ℕ, ◌*◌, ◌<◌}
-use lib.ListN.{drop, length-set}
-use Rattle.report_head.proofs.Heads.{part_is}
-use Rattle.report_feed.proofs.Feeds.{part_length, rows-within, have_fits, row_fits, width_fits, pair_fits, step_behind, step_part, step_row}
+use Prim.Native.Nat.{◌*◌, ◌<◌}
+use lib.ListN.{length-set}
+use lib.Seq.{length-take-le}
+use Rattle.report_feed.proofs.Feeds.{rows-within, have_fits, row_fits, width_fits, pair_fits, step_behind, step_part, step_row}
 use Rattle.report_feed.proofs.take_data.Goals as goal
 
 pub returns-then-t-rows : goal.returns-then-t-rows
@@ -33,18 +31,24 @@ pub slice_bounds-take_row-end : goal.slice_bounds-take_row-end
 slice_bounds-take_row-end c = simp length-set (omega (arith, width_fits c.requires))
 
 pub slice_bounds-take_row-end-2 : goal.slice_bounds-take_row-end-2
-slice_bounds-take_row-end-2 c = omega (arith, pair_fits c.requires)
+slice_bounds-take_row-end-2 c = sym (length-take-le (c.args.bins * 4) _ (simp length-set (width_fits c.requires)))
+
+pub slice_bounds-take_row-end-3 : goal.slice_bounds-take_row-end-3
+slice_bounds-take_row-end-3 c = omega (arith, pair_fits c.requires)
+
+pub slice_bounds-take_row-end-4 : goal.slice_bounds-take_row-end-4
+slice_bounds-take_row-end-4 c = sym (length-take-le (2 * c.args.bins) _ (pair_fits c.requires))
 
 pub take_row-still-requires : goal.take_row-still-requires
 take_row-still-requires c =
     let fewer : c.args.t < c.args.rows = omega (arith, (rows-within c.requires).row_is, c.if-t-rows.false) in
     let bins = c.args.bins in record {
       bytes_len = (
-        part_length (bins * 4) _ (simp length-set (width_fits c.requires)),
-        part_length (2 * bins) _ (pair_fits c.requires),
+        length-take-le (bins * 4) _ (simp length-set (width_fits c.requires)),
+        length-take-le (2 * bins) _ (pair_fits c.requires),
         row_fits c.requires fewer,
       );
-      kept_value = λ f. rw part_is ((rows-within c.requires).kept_fine f);
+      kept_value = (rows-within c.requires).kept_fine;
     }
 
 pub overflow_add-next : goal.overflow_add-next
@@ -64,6 +68,5 @@ returns c =
       arith,
       (rows-within c.requires).have_is,
       c.if-come-width.false,
-    )) (part_is (bins * 4) _) (part_is (2 * bins) _) taken.ensures
-    (ap (λ (k : ℕ). taken.new.kept ++ drop k c.args.kept.now) (sub-zero (2 * bins)))
-    (taken.auto.kept ∙ part_length (2 * bins) _ (pair_fits c.requires)) (omega arith) (omega arith)
+    )) refl refl taken.ensures refl
+    (taken.auto.kept ∙ length-take-le (2 * bins) _ (pair_fits c.requires)) (omega arith) (omega arith)

@@ -7,12 +7,12 @@ use Rattle.report_head.proofs.behind_first.Goals as goal
 
 pub returns-then-size-eq0 : goal.returns-then-size-eq0
 unfolding behind_first
-returns-then-size-eq0 c = rw c.in-Length.is (sym (pick_true _ _ _ (eq-eqb _ _ c.if-size-eq0.true)))
+returns-then-size-eq0 c = rw c.in-Some.is (sym (pick_true _ _ _ (eq-eqb _ _ c.if-size-eq0.true)))
 
-pub returns-in-Malformed : goal.returns-in-Malformed
+pub returns-in-None : goal.returns-in-None
 unfolding behind_first
-returns-in-Malformed c = rw c.in-Malformed.is
+returns-in-None c = rw c.in-None.is
 
 pub returns-else-size-eq0 : goal.returns-else-size-eq0
 unfolding behind_first
-returns-else-size-eq0 c = rw c.in-Length.is (sym (pick-false _ _ _ (ne_eqb _ _ c.if-size-eq0.false)))
+returns-else-size-eq0 c = rw c.in-Some.is (sym (pick-false _ _ _ (ne_eqb _ _ c.if-size-eq0.false)))

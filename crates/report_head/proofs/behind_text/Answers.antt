@@ -9,14 +9,14 @@ use Rattle.report_head.proofs.behind_text.Goals as goal
 
 pub returns-then-not-shape_fine : goal.returns-then-not-shape_fine
 unfolding behind_text
-returns-then-not-shape_fine c = rw c.in-Shape.is
+returns-then-not-shape_fine c = rw c.in-Some.is
     (sym (pick-false _ _ _ (sym c.shape_fine.ensures ∙ not-true c.shape_fine.result (ap not c.if-not-shape_fine.true))))
 
-pub returns-in-Malformed : goal.returns-in-Malformed
+pub returns-in-None : goal.returns-in-None
 unfolding behind_text
-returns-in-Malformed c = rw c.in-Malformed.is
+returns-in-None c = rw c.in-None.is
 
 pub returns-else-not-shape_fine : goal.returns-else-not-shape_fine
 unfolding behind_text
-returns-else-not-shape_fine c = rw c.in-Shape.is
+returns-else-not-shape_fine c = rw c.in-Some.is
     (sym (pick_true _ _ _ (sym c.shape_fine.ensures ∙ not-false c.shape_fine.result (ap not c.if-not-shape_fine.false))))

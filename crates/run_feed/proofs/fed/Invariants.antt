@@ -1,15 +1,6 @@
--- `run_feed::fed` meets its contract. The invariant: the input up to `at` has come, and every slice is as long as it was. The measure is what is left of
--- the input. Assumes nothing.
-use Prim.Native.Nat.{◌≤◌, ◌-◌}
-use mathlib.Core.Path.{◌≡◌}
-use lib.ListN.{length, take}
-use Rattle.report_feed.specs.Feeds.{Fed}
+-- `run_feed::fed` meets its contract. The invariant: what comes before what the iterator has left has come. Assumes nothing.
+use Rattle.run_feed.proofs.Parts.{Part}
 use Rattle.run_feed.proofs.fed.Given as goal
 
-abbrev pub invariant-loop-at : goal.invariant-loop-at
-invariant-loop-at l =
-    (l.at ≤ length l.input) × (length l.held ≡ length l.initial.held) × (length l.kept ≡ length l.initial.kept) × (length l.flux ≡ length l.initial.flux)
-    × Fed (take l.at l.input) l.feed l.held l.kept l.initial.flux l.flux
-
-abbrev pub decreases-loop-at : goal.decreases-loop-at
-decreases-loop-at l = length l.input - l.at
+abbrev pub invariant-loop-part : goal.invariant-loop-part
+invariant-loop-part l = Part l.input l.part-iterator.rest.now l.feed l.held l.kept l.initial.flux l.flux

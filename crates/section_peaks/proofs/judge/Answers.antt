@@ -17,4 +17,4 @@ pub returns : goal.returns
 returns c =
     let a = sym c.precedes.ensures ∙ c.if-precedes.false in
     let b = sym c.precedes-2.ensures ∙ c.if-precedes-2.false in
-    record { taken_is = rw (a, b); spared_is = rw (a, b) c.less.ensures }
+    record { taken_is = rw (a, b); spared_is = rw (a, b) c.saturating_sub.ensures }

@@ -9,7 +9,7 @@ use Rattle.section_peaks.proofs.note_values.Goals as goal
 pub loop-t-init : goal.loop-t-init
 loop-t-init c =
     let n = c.next_peak-t.ensures in
-    (c.less-last.ensures, omega (arith, n.from), refl, n.stands, rw (← kept_next _ _ _ _ _ n.same) (sofar_start _ _))
+    (c.saturating_sub-last.ensures, omega (arith, n.from), refl, n.stands, rw (← kept_next _ _ _ _ _ n.same) (sofar_start _ _))
 
 pub group_of-group-requires : goal.group_of-group-requires
 group_of-group-requires c =

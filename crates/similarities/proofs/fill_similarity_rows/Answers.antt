@@ -15,18 +15,18 @@ loop-i-init c = (omega arith, omega arith, refl, sym (filled_none _ _ _))
 pub fill_block-requires : goal.fill_block-requires
 fill_block-requires c =
     let p = c.requires in
-    let e = c.least-next.ensures in
+    let e = c.min-next.ensures in
     (p.0, omega arith, omega arith, omega arith, omega arith)
 
 pub loop-i-smaller : goal.loop-i-smaller
-loop-i-smaller c = let e = c.least-next.ensures in omega arith
+loop-i-smaller c = let e = c.min-next.ensures in omega arith
 
 pub loop-i-preserved : goal.loop-i-preserved
 loop-i-preserved c =
     let a = c.args in
     let i = c.loop-i.i in
-    let next = c.least-next.result in
-    let next-is = c.least-next.ensures in
+    let next = c.min-next.result in
+    let next-is = c.min-next.ensures in
     let f : ℕ → Float = similarity_at a.features.now a.rows in
     let was : List Float = c.loop-i.similarity in
     let m : length was ≡ length a.similarity.now = c.loop-i.invariant.2 in

@@ -1,7 +1,7 @@
--- `similarities::put_block` meets its contract. The invariant: the slots of the rows before i are written by the rule, the others are as they were. The
--- measure is what is left of the rows. Assumes nothing.
+-- `similarities::put_block` meets its contract. The invariant: the slots of the rows before i are written by the rule, the others are as they were.
+-- Assumes nothing.
 use mathlib.Core.Path.{◌≡◌}
-use Prim.Native.Nat.{◌-◌, ◌*◌, ◌≤◌}
+use Prim.Native.Nat.{◌*◌, ◌≤◌}
 use lib.ListN.{length}
 use Rattle.numbers.specs.Lists.{filled}
 use Rattle.row_pairs.specs.Pairs.{similarity_at}
@@ -13,6 +13,3 @@ invariant-loop-i l =
     × (l.i ≤ l.past)
     × (length l.similarity ≡ length l.initial.similarity)
     × (l.similarity ≡ filled (similarity_at l.features l.rows) l.initial.similarity (l.first * 17) (l.i * 17))
-
-abbrev pub decreases-loop-i : goal.decreases-loop-i
-decreases-loop-i l = l.past - l.i

@@ -1,7 +1,7 @@
 -- `similarities::row_dots` meets its contract. The invariant: in each lane past the first the products that are left, added to the lane's sum, give the
--- dot product of the row with the lane's column. The measure is what is left of the sixteen values. Assumes nothing.
+-- dot product of the row with the lane's column. Assumes nothing.
 use mathlib.Core.Path.{◌≡◌}
-use Prim.Native.Nat.{ℕ, ◌+◌, ◌-◌, ◌≤◌, ◌<◌}
+use Prim.Native.Nat.{ℕ, ◌+◌, ◌≤◌, ◌<◌}
 use lib.ListN.{length, get_or, drop}
 use lib.Ieee.{nan}
 use Rattle.numbers.specs.Rounded.{sum_from}
@@ -15,6 +15,3 @@ invariant-loop-k l =
     × (length l.sums ≡ 17)
     × ((d : ℕ) → 0 < d → d < 17
     → sum_from (get_or l.sums d nan) (products (drop l.k l.row) (drop l.k (turned_column l.turned (l.c + d)))) ≡ dot_of l.row (turned_column l.turned (l.c + d)))
-
-abbrev pub decreases-loop-k : goal.decreases-loop-k
-decreases-loop-k l = 16 - l.k

@@ -1,7 +1,7 @@
--- `similarities::turn` meets its contract. The invariant: the values before value k stand in their places. The measure is what is left of the sixteen
--- values. A further value is written behind those before it. Assumes nothing.
+-- `similarities::turn` meets its contract. The invariant: the values before value k stand in their places. A further value is written behind those
+-- before it. Assumes nothing.
 use mathlib.Core.Path.{◌≡◌}
-use Prim.Native.Nat.{ℕ, ◌+◌, ◌-◌, ◌*◌, ◌≤◌, ◌<◌}
+use Prim.Native.Nat.{ℕ, ◌+◌, ◌*◌, ◌≤◌, ◌<◌}
 use lib.ListN.{length, get_or}
 use lib.Ieee.{nan}
 use Rattle.similarities.proofs.turn.Given as goal
@@ -11,6 +11,3 @@ invariant-loop-k l =
     (l.k ≤ 16)
     × (length l.turned ≡ 2048)
     × ((r k' : ℕ) → r < l.count → k' < l.k → get_or l.turned (k' * 128 + r) nan ≡ get_or l.features ((l.first + r) * 16 + k') nan)
-
-abbrev pub decreases-loop-k : goal.decreases-loop-k
-decreases-loop-k l = 16 - l.k

@@ -1,7 +1,7 @@
--- `similarities::turn_value` meets its contract. The invariant: the first r of the value's places are written, the others are as they were. The measure
--- is what is left of the rows. Assumes nothing.
+-- `similarities::turn_value` meets its contract. The invariant: the first r of the value's places are written, the others are as they were. Assumes
+-- nothing.
 use mathlib.Core.Path.{◌≡◌}
-use Prim.Native.Nat.{◌+◌, ◌-◌, ◌*◌, ◌≤◌}
+use Prim.Native.Nat.{◌+◌, ◌*◌, ◌≤◌}
 use lib.ListN.{length}
 use Rattle.numbers.specs.Lists.{filled}
 use Rattle.similarities.specs.Lanes.{turned_at}
@@ -10,6 +10,3 @@ use Rattle.similarities.proofs.turn_value.Given as goal
 abbrev pub invariant-loop-r : goal.invariant-loop-r
 invariant-loop-r l =
     (l.r ≤ l.count) × (length l.turned ≡ 2048) × (l.turned ≡ filled (turned_at l.features l.first) l.initial.turned (l.k * 128) (l.k * 128 + l.r))
-
-abbrev pub decreases-loop-r : goal.decreases-loop-r
-decreases-loop-r l = l.count - l.r

@@ -1,32 +1,18 @@
-use mathlib.Core.Path.{◌≡◌, ap}
-use mathlib.Core.List.{[], ◌∷◌}
-use Prim.Native.Nat.{◌+◌}
-use native.Mathlib.Omega.{arith}
-use lib.ListN.{length, drop, get_or}
-use Rattle.texts.specs.Decimals.{leading}
-use Rattle.texts.proofs.Texts.{digit_low, digit_high, digit_in, leading_end, leading_digit, leading_other}
+-- `texts::digits_end` meets its contract: what is counted is the digits that the rest of the text starts with. Assumes nothing.
+use Rattle.std.proofs.Common.{ℕ, ◌+◌, ◌∙◌, ap, List, length, rules, tests}
+use Rattle.std.proofs.lemmas.Iterator.{YieldsList-from_slice}
+use Rattle.std.proofs.lemmas.Iterator.Consumers.{count_from_yields_List}
+use Rattle.std.proofs.lemmas.Iterator.Search.{YieldsList-from_take_while}
+use Rattle.texts.specs.Decimals.{is_digit, leading}
+use Rattle.texts.proofs.Texts.{leading-taken}
 use Rattle.texts.proofs.digits_end.Goals as goal
 
-pub returns-then-x-lt48 : goal.returns-then-x-lt48
-returns-then-x-lt48 c = let text = c.args.text.now in
-    let e : leading (drop c.loop-place.place text) ≡ [] = leading_other text c.loop-place.place (omega arith)
-    (digit_low (get_or text c.loop-place.place 0) c.if-x-lt48.true) in
-    omega (arith, ap length e, c.loop-place.invariant)
-
-pub returns-then-x-gt57 : goal.returns-then-x-gt57
-returns-then-x-gt57 c = let text = c.args.text.now in
-    let e : leading (drop c.loop-place.place text) ≡ [] = leading_other text c.loop-place.place (omega arith)
-    (digit_high (get_or text c.loop-place.place 0) c.if-x-gt57.true) in
-    omega (arith, ap length e, c.loop-place.invariant)
-
-pub loop-place-preserved : goal.loop-place-preserved
-loop-place-preserved c = let text = c.args.text.now in
-    let x = get_or text c.loop-place.place 0 in
-    let e : leading (drop c.loop-place.place text) ≡ x ∷ leading (drop (c.loop-place.place + 1) text) =
-    leading_digit text c.loop-place.place (omega arith) (digit_in x (omega arith) (omega arith)) in
-    omega (arith, ap length e, c.loop-place.invariant)
-
 pub returns : goal.returns
-returns c = let text = c.args.text.now in
-    let e : leading (drop c.loop-place.place text) ≡ [] = leading_end text c.loop-place.place (omega arith) in
-    omega (arith, ap length e, c.loop-place.invariant)
+returns c =
+    let rest = c.rest_of.result.now in
+    let counted =
+    count_from_yields_List c.take_while.result _ c.count-count.ensures.ran
+    (YieldsList-from_take_while _ is_digit (YieldsList-from_slice rest (cc)) c.take_while.ensures.closure c.take_while.ensures.done
+    (λ x b q k. search (rules, tests))) in
+    ap (λ (n : ℕ). c.args.at + n)
+    (counted ∙ ap length (leading-taken rest) ∙ ap (λ (r : List ℕ). length (leading r)) c.rest_of.ensures)

@@ -11,20 +11,20 @@ use Rattle.texts.specs.Decimals.{leading}
 use Rattle.texts.proofs.Texts.{leading-fits, leading-first, plain-none, plain-one, plain_several}
 use Rattle.texts.proofs.plain_number.Goals as goal
 
-pub returns-then-count-eq0 : goal.returns-then-count-eq0
-returns-then-count-eq0 c = let ds = leading (drop c.args.at c.args.text.now) in
+pub returns-in-0 : goal.returns-in-0
+returns-in-0 c = let ds = leading (drop c.args.at c.args.text.now) in
     sym (plain-none ds (omega arith))
 
-pub returns-then-count-eq1 : goal.returns-then-count-eq1
-returns-then-count-eq1 c = let ds = leading (drop c.args.at c.args.text.now) in
+pub returns-in-1 : goal.returns-in-1
+returns-in-1 c = let ds = leading (drop c.args.at c.args.text.now) in
     sym (plain-one ds (omega arith))
 
 pub bounds-text-at : goal.bounds-text-at
 bounds-text-at c = let rest = drop c.args.at c.args.text.now in
     omega (arith, leading-fits rest, length-drop c.args.at c.args.text.now)
 
-pub returns : goal.returns
-returns c = let text = c.args.text.now in
+pub returns-in_default : goal.returns-in_default
+returns-in_default c = let text = c.args.text.now in
     let at = c.args.at in
     let rest = drop at text in
     let first : get_or (leading rest) 0 0 ≡ get_or text at 0

@@ -48,32 +48,32 @@ pub fill_slots-requires : goal.fill_slots-requires
 fill_slots-requires c =
     let p = c.requires in
     let flux = c.args.flux.now in
-    let first = c.greatest-first.result in
-    let last = c.least-last.result in
+    let first = c.max-first.result in
+    let last = c.min-last.result in
     let g : Whole c.args.from c.args.past (length flux) first last =
-    whole c.args.from c.args.past (length flux) first c.less.result last c.greatest-first.ensures
-    c.less.ensures c.least-last.ensures c.if-first-last.true in
+    whole c.args.from c.args.past (length flux) first c.saturating_sub.result last c.max-first.ensures
+    c.saturating_sub.ensures c.min-last.ensures c.if-first-last.true in
     (g.begin, le_trans g.inside p.1, le_trans g.inside p.2, p.3)
 
 pub fill_whole-requires : goal.fill_whole-requires
 fill_whole-requires c =
     let p = c.requires in
     let flux = c.args.flux.now in
-    let first = c.greatest-first.result in
-    let last = c.least-last.result in
+    let first = c.max-first.result in
+    let last = c.min-last.result in
     let g : Whole c.args.from c.args.past (length flux) first last =
-    whole c.args.from c.args.past (length flux) first c.less.result last c.greatest-first.ensures
-    c.less.ensures c.least-last.ensures c.if-first-last.true in record { le_from = (g.reach, g.more, g.room, le_trans (le_trans g.end p.2) (le_of_eq (sym c.fill_slots.auto.threshold))); fine_part = fine-part flux first last g.reach g.more g.room (sym c.values_fine.ensures ∙ c.if-values_fine.true) }
+    whole c.args.from c.args.past (length flux) first c.saturating_sub.result last c.max-first.ensures
+    c.saturating_sub.ensures c.min-last.ensures c.if-first-last.true in record { le_from = (g.reach, g.more, g.room, le_trans (le_trans g.end p.2) (le_of_eq (sym c.fill_slots.auto.threshold))); fine_part = fine-part flux first last g.reach g.more g.room (sym c.values_fine.ensures ∙ c.if-values_fine.true) }
 
 pub fill_slots-requires-then-values_fine : goal.fill_slots-requires-then-values_fine
 fill_slots-requires-then-values_fine c =
     let p = c.requires in
     let flux = c.args.flux.now in
-    let first = c.greatest-first.result in
-    let last = c.least-last.result in
+    let first = c.max-first.result in
+    let last = c.min-last.result in
     let g : Whole c.args.from c.args.past (length flux) first last =
-    whole c.args.from c.args.past (length flux) first c.less.result last c.greatest-first.ensures
-    c.less.ensures c.least-last.ensures c.if-first-last.true in (
+    whole c.args.from c.args.past (length flux) first c.saturating_sub.result last c.max-first.ensures
+    c.saturating_sub.ensures c.min-last.ensures c.if-first-last.true in (
       g.end,
       p.1,
       le_trans p.2 (le_of_eq (sym (c.fill_whole.auto.threshold ∙ c.fill_slots.auto.threshold))),
@@ -84,11 +84,11 @@ pub returns-then-values_fine : goal.returns-then-values_fine
 returns-then-values_fine c =
     let p = c.requires in
     let flux = c.args.flux.now in
-    let first = c.greatest-first.result in
-    let last = c.least-last.result in
+    let first = c.max-first.result in
+    let last = c.min-last.result in
     let g : Whole c.args.from c.args.past (length flux) first last =
-    whole c.args.from c.args.past (length flux) first c.less.result last c.greatest-first.ensures
-    c.less.ensures c.least-last.ensures c.if-first-last.true in
+    whole c.args.from c.args.past (length flux) first c.saturating_sub.result last c.max-first.ensures
+    c.saturating_sub.ensures c.min-last.ensures c.if-first-last.true in
     let from = c.args.from in
     let past = c.args.past in
     let th = c.args.threshold.now in

@@ -1,5 +1,5 @@
--- `threshold::fill_whole` meets its contract. The invariant: the slots up to t are written, s holds the window of the slot before t, sorted, and value is
--- that slot's threshold. The measure is what is left of the range. Assumes nothing.
+-- `threshold::fill_whole` meets its contract. The invariant: the slots up to t are written, s holds the window of the slot before t, sorted, and value
+-- is that slot's threshold. Assumes nothing.
 use mathlib.Core.Path.{◌≡◌}
 use mathlib.Core.List.{map}
 use Prim.Native.Nat.{◌-◌, ◌≤◌}
@@ -14,6 +14,3 @@ abbrev pub invariant-loop-t : goal.invariant-loop-t
 invariant-loop-t l =
     (l.from ≤ l.t) × (l.t ≤ l.past) × (length l.threshold ≡ length l.initial.threshold) × (l.threshold ≡ filled (threshold_at l.flux) l.initial.threshold l.from l.t)
     × (l.s ≡ sort (map one_zero (around reach l.flux (l.t - 1)))) × (l.value ≡ threshold_at l.flux (l.t - 1))
-
-abbrev pub decreases-loop-t : goal.decreases-loop-t
-decreases-loop-t l = l.past - l.t

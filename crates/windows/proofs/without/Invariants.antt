@@ -1,6 +1,6 @@
--- `windows::without` meets its contract. The invariant: the first i slots are written. The measure is what is left of the twenty. Assumes nothing.
+-- `windows::without` meets its contract. The invariant: the first i slots are written. Assumes nothing.
 use mathlib.Core.Path.{◌≡◌}
-use Prim.Native.Nat.{◌-◌, ◌≤◌}
+use Prim.Native.Nat.{◌≤◌}
 use lib.ListN.{length}
 use Rattle.numbers.specs.Lists.{filled}
 use Rattle.windows.specs.Windows.{without_at}
@@ -8,6 +8,3 @@ use Rattle.windows.proofs.without.Given as goal
 
 abbrev pub invariant-loop-i : goal.invariant-loop-i
 invariant-loop-i l = (l.i ≤ 20) × (length l.rest ≡ 20) × (l.rest ≡ filled (without_at l.s l.o) l.initial.rest 0 l.i)
-
-abbrev pub decreases-loop-i : goal.decreases-loop-i
-decreases-loop-i l = 20 - l.i

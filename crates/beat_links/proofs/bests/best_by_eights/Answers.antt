@@ -1,5 +1,4 @@
 use mathlib.Core.Path.{◌≡◌, refl, sym, ap, ◌∙◌}
-use mathlib.Core.Logic.{⊎_elim}
 use Prim.Native.Nat.{ℕ, ◌+◌, ◌-◌, ◌≤◌, ◌<◌, min}
 use native.Mathlib.Omega.{arith}
 use lib.Ieee.{Float, lt}
@@ -32,8 +31,8 @@ loop-u-preserved c =
     let a = c.args in
     let f = tabled a.table.now a.score.now a.first a.lo in
     let u = c.loop-u.u in
-    let s = c.least-start.result in
-    let is = c.least-start.ensures in
+    let s = c.min-start.result in
+    let is = c.min-start.ensures in
     let m : min (u + 8) a.end ≡ s + 8 = omega arith in
     let now-lt : lt c.loop-u.value (top_of_eight f s) ≡ lt c.loop-u.value c.top_of_eight-top.result =
     ap (lt c.loop-u.value) (sym c.top_of_eight-top.ensures) in (

@@ -1,6 +1,5 @@
 use mathlib.Core.Path.{◌≡◌, refl, sym, ap, ◌∙◌, subst}
 use mathlib.Core.Bool.{true, false}
-use mathlib.Core.Logic.{⊎_elim}
 use Prim.Native.Nat.{ℕ, ◌+◌, ◌-◌, ◌<◌}
 use native.Mathlib.Omega.{arith}
 use lib.Ieee.{Float, le}
@@ -18,7 +17,7 @@ pub loop-u-init : goal.loop-u-init
 loop-u-init c =
     let a = c.args in
     let f = extended a.period a.score.now a.t in
-    let is = c.up-reached.ensures ∙ ap (larger nought) (c.extended_at.ensures ∙ ap f c.less.ensures) in (
+    let is = c.up-reached.ensures ∙ ap (larger nought) (c.extended_at.ensures ∙ ap f c.saturating_sub.ensures) in (
       omega arith,
       subst (λ (w : Float). le w (greatest f a.lo (a.end - a.lo) unlinked).value ≡ true) (sym is)
           (greatest-reaches f a.lo (a.end - a.lo) (a.t - a.period) (omega arith) (omega arith)),

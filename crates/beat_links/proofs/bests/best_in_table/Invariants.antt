@@ -1,5 +1,5 @@
--- `beat_links::bests::best_in_table` meets its contract. The invariant: what is left to search, searched from the best so far, is the whole
--- answer. The measure is how many frames are left. Assumes nothing.
+-- `beat_links::bests::best_in_table` meets its contract. The invariant: what is left to search, searched from the best so far, is the whole answer.
+-- Assumes nothing.
 use mathlib.Core.Path.{◌≡◌}
 use Prim.Native.Nat.{◌≤◌, ◌-◌}
 use Rattle.lists.specs.Greatest.{greatest}
@@ -11,6 +11,3 @@ use Rattle.beat_links.proofs.bests.best_in_table.Given as goal
 abbrev pub invariant-loop-u : goal.invariant-loop-u
 invariant-loop-u l =
     (l.lo ≤ l.u) × (greatest (tabled l.table l.score l.first l.lo) l.u (l.end - l.u) (best l.value l.at) ≡ greatest (tabled l.table l.score l.first l.lo) l.lo (l.end - l.lo) unlinked)
-
-abbrev pub decreases-loop-u : goal.decreases-loop-u
-decreases-loop-u l = l.end - l.u

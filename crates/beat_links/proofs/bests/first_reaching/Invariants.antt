@@ -1,8 +1,8 @@
--- `beat_links::bests::first_reaching` meets its contract. The invariant: no frame passed reaches the value. The measure is how many frames are left.
--- The first that reaches it is the first greatest, and one does. Assumes nothing.
+-- `beat_links::bests::first_reaching` meets its contract. The invariant: no frame passed reaches the value. The first that reaches it is the first
+-- greatest, and one does. Assumes nothing.
 use mathlib.Core.Path.{◌≡◌}
 use mathlib.Core.Bool.{false}
-use Prim.Native.Nat.{ℕ, ◌-◌, ◌≤◌, ◌<◌}
+use Prim.Native.Nat.{ℕ, ◌≤◌, ◌<◌}
 use lib.Ieee.{le}
 use Rattle.beat_links.specs.Inner.{tabled}
 use Rattle.beat_links.proofs.bests.first_reaching.Given as goal
@@ -10,6 +10,3 @@ use Rattle.beat_links.proofs.bests.first_reaching.Given as goal
 abbrev pub invariant-loop-u : goal.invariant-loop-u
 invariant-loop-u l =
     (l.at ≤ l.u) × (l.lo ≤ l.u) × ((i : ℕ) → l.at ≤ i → i < l.u → le l.value (tabled l.table l.score l.first l.lo i) ≡ false)
-
-abbrev pub decreases-loop-u : goal.decreases-loop-u
-decreases-loop-u l = l.end - l.u

@@ -1,6 +1,11 @@
--- `capi_answers::counts::counted` meets its contract: a refusal returns at once, and an answer stores the count. Assumes nothing.
-use Rattle.capi_answers.proofs.Hands.{handed_refused}
+-- `capi_answers::counts::counted` meets its contract: a refusal is told by its number, and an answer stores the count. Assumes nothing.
+use mathlib.Core.Path.{refl}
+use Rattle.numbers.proofs.Outcomes.{number-not_0}
+use Rattle.capi_answers.proofs.Hands.{handed_refused, handed-done}
 use Rattle.capi_answers.proofs.counts.counted.Goals as goal
 
-pub returns-then-listing-ne0 : goal.returns-then-listing-ne0
-returns-then-listing-ne0 c = handed_refused _ _ _ c.if-listing-ne0.true
+pub returns-in-Ok : goal.returns-in-Ok
+returns-in-Ok c = rw c.in-Ok.is (handed-done _ _ _ _ refl refl)
+
+pub returns-in-Err : goal.returns-in-Err
+returns-in-Err c = rw (c.in-Err.is, c.number.ensures) (handed_refused _ _ _ (number-not_0 _))

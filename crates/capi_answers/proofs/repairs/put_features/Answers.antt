@@ -3,10 +3,10 @@ use mathlib.Core.Path.{refl}
 use Rattle.numbers.specs.Lists.{listed}
 use Rattle.capi_answers.proofs.repairs.put_features.Goals as goal
 
-pub returns-in-Refused : goal.returns-in-Refused
+pub returns-in-Ok : goal.returns-in-Ok
 unfolding listed
-returns-in-Refused c = rw c.in-Refused.is (record { number_is = refl; slots_are = refl })
+returns-in-Ok c = rw c.in-Ok.is (record { number_is = refl; slots_are = refl })
 
-pub returns-in-Wrote : goal.returns-in-Wrote
+pub returns-in-Err : goal.returns-in-Err
 unfolding listed
-returns-in-Wrote c = rw c.in-Wrote.is (record { number_is = refl; slots_are = refl })
+returns-in-Err c = rw c.in-Err.is (record { number_is = c.number.ensures; slots_are = refl })

@@ -1,5 +1,5 @@
 -- `median::choice::select` meets its contract. The invariant: the entry of rank h of the list is that of another rank among the first m entries now.
--- The measure: each leaves.before.before.before.before.before fewer entries, or guesses closer. Assumes nothing.
+-- The measure: each turn leaves fewer entries, or guesses closer. Assumes nothing.
 use Prim.Native.Nat.{◌+◌, ◌*◌, ◌≤◌, ◌<◌}
 use mathlib.Core.Path.{◌≡◌}
 use lib.ListN.{length, get_or, take}

@@ -7,8 +7,6 @@ use native.Mathlib.Omega.{arith}
 use borrow.Author.Tests.{le-leb, lt-leb, not-true, not-false}
 use Rattle.numbers.proofs.Tests.{pick_true, pick-false}
 use Rattle.onsets.proofs.Steps.{stepped_open, stepped_join, stepped_close}
-use mathlib.Core.Path.{ap}
-use mathlib.Core.Bool.{not}
 use Rattle.onsets.proofs.peaks.join.Goals as goal
 
 pub returns-then-not-group : goal.returns-then-not-group

@@ -4,7 +4,7 @@ use Rattle.onsets.proofs.Steps.{picking_start, picking_step, picking_end}
 use Rattle.onsets.proofs.peaks.pick_above.Goals as goal
 
 pub loop-t-init : goal.loop-t-init
-loop-t-init c = (c.less-last.ensures, picking_start _ _ _ _ _ refl refl refl)
+loop-t-init c = (c.saturating_sub-last.ensures, picking_start _ _ _ _ _ refl refl refl)
 
 pub visit-group-requires : goal.visit-group-requires
 visit-group-requires c =

@@ -1,5 +1,4 @@
--- `onsets::peaks::pick_peaks` meets its contract. The invariant is `Picking`, at the rule that reads the lent threshold. The measure is what is left of the
--- curve. Assumes nothing.
+-- `onsets::peaks::pick_peaks` meets its contract. The invariant is `Picking`, at the rule that reads the lent threshold. Assumes nothing.
 use mathlib.Core.Path.{◌≡◌}
 use Prim.Native.Nat.{◌-◌}
 use lib.ListN.{length}
@@ -9,6 +8,3 @@ use Rattle.onsets.proofs.peaks.pick_peaks.Given as goal
 
 abbrev pub invariant-loop-t : goal.invariant-loop-t
 invariant-loop-t l = (l.last ≡ length l.curve - 1) × Picking l.curve (at l.threshold) l.gap l.t l.initial.frames l.group l.frames
-
-abbrev pub decreases-loop-t : goal.decreases-loop-t
-decreases-loop-t l = length l.curve - l.t

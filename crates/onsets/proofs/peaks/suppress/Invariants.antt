@@ -1,9 +1,9 @@
--- `onsets::peaks::suppress` meets its contract. The invariant: the bests that are listed, and what follows of the peaks that are left, are the whole (`Going`);
--- the peaks that are left ascend from the open group's best on; and no more is listed than peaks were passed, so that there is room. The measure is what is
--- left of the list. Assumes nothing.
+-- `onsets::peaks::suppress` meets its contract. The invariant: the bests that are listed, and what follows of the peaks that are left, are the whole
+-- (`Going`); the peaks that are left ascend from the open group's best on; and no more is listed than peaks were passed, so that there is room. Assumes
+-- nothing.
 use mathlib.Core.Bool.{true}
 use mathlib.Core.Path.{◌≡◌}
-use Prim.Native.Nat.{◌+◌, ◌≤◌, ◌<◌, ◌-◌}
+use Prim.Native.Nat.{◌+◌, ◌≤◌, ◌<◌}
 use lib.ListN.{length, drop}
 use Rattle.numbers.specs.Lists.{one_if, ascending}
 use Rattle.onsets.specs.Peaks.{suppressed}
@@ -15,6 +15,3 @@ invariant-loop-i l =
     (l.i ≤ length l.peaks) × (length l.frames ≡ length l.initial.frames) × (l.group.count + one_if l.group.opened ≤ l.i) × (l.group.best < 4294967296)
     × (ascending l.group.best (drop l.i l.peaks) ≡ true)
     × Going l.curve l.gap (suppressed l.curve l.gap l.peaks) (drop l.i l.peaks) l.initial.frames l.group l.frames
-
-abbrev pub decreases-loop-i : goal.decreases-loop-i
-decreases-loop-i l = length l.peaks - l.i

@@ -18,14 +18,18 @@ fits c =
 pub overflow_mul-start : goal.overflow_mul-start
 overflow_mul-start c = omega (arith, fits (goal.at.overflow_mul-start c).Start)
 
-pub copy_magnitudes-requires : goal.copy_magnitudes-requires
-copy_magnitudes-requires c = fits (goal.at.copy_magnitudes-requires c).Start
+pub put_over-requires : goal.put_over-requires
+put_over-requires c = fits (goal.at.put_over-requires c).Start
 
 pub fill_flux-requires : goal.fill_flux-requires
 fill_flux-requires c =
-    rw c.copy_magnitudes.ensures
-    record { magnitudes_len = length_over _ _ _ (fits (goal.at.fill_flux-requires c).Start) ∙ c.requires.magnitudes_len.0; magnitudes_value = every-over _ _ _ _ c.requires.magnitudes_value.0 c.requires.magnitudes_value.1; from_le_past = (omega arith, omega arith, omega arith) }
+    rw c.put_over.ensures
+    record {
+      magnitudes_len = length_over _ _ _ (fits (goal.at.fill_flux-requires c).Start) ∙ c.requires.magnitudes_len.0;
+      magnitudes_value = every-over _ _ _ _ c.requires.magnitudes_value.0 c.requires.magnitudes_value.1;
+      from_le_past = (omega arith, omega arith, omega arith);
+    }
 
 pub returns : goal.returns
 unfolding edited
-returns c = record { value = c.least-flux_past.ensures; magnitudes_after = c.copy_magnitudes.ensures; flux_after = c.fill_flux.ensures }
+returns c = record { value = c.min-flux_past.ensures; magnitudes_after = c.put_over.ensures; flux_after = c.fill_flux.ensures }

@@ -15,8 +15,8 @@ pub returns : goal.returns
 returns c =
     let f = c.fill_threshold in record {
       first_value = (
-        c.less-threshold_first.ensures,
-        c.least-threshold_past.ensures,
+        c.saturating_sub-threshold_first.ensures,
+        c.min-threshold_past.ensures,
       );
       threshold_after = rw (sub-zero c.args.rows) at f.ensures.threshold_after;
       work_unchanged = rw (lent (goal.at.returns c).Start) at f.ensures.work_unchanged;

@@ -5,7 +5,7 @@ use Rattle.patch_magnitudes.proofs.refusal.room_fine.Goals as goal
 
 pub returns-then-rows-threshold : goal.returns-then-rows-threshold
 unfolding patch_room
-returns-then-rows-threshold c = simp (le-leb _ _ c.if-rows-flux.true, le-leb _ _ c.if-rows-threshold.true, c.least.ensures)
+returns-then-rows-threshold c = simp (le-leb _ _ c.if-rows-flux.true, le-leb _ _ c.if-rows-threshold.true, c.min.ensures)
 
 pub returns-else-rows-threshold : goal.returns-else-rows-threshold
 unfolding patch_room

@@ -59,7 +59,7 @@ flux_slot-requires c =
       magnitudes_len = ap length c.keep_row.ensures ∙ length-append (drop bins kept) (values_of bytes) ∙ omega arith;
       magnitudes_value = ap (every magnitude_fine) c.keep_row.ensures
           ∙ every_append magnitude_fine (drop bins kept) (values_of bytes) (every_drop magnitude_fine kept bins (c.requires.kept_value on)) (sym told ∙ passed);
-      t_lt_rows = omega (arith, c.least.ensures);
+      t_lt_rows = omega (arith, c.min.ensures);
     }
 
 pub returns : goal.returns
@@ -73,6 +73,6 @@ returns c =
       fine_is = sym passed ∙ told ∙ and-held c.args.fine _ on;
       kept_is = c.keep_row.ensures;
       flux_is = ap (set c.args.flux.now c.args.t) (c.flux_slot.ensures
-          ∙ ap (flux_at _ (slab_of 2 bins)) c.least.ensures ∙ ap (λ (r : List Float). flux_at r (slab_of 2 bins) (min c.args.t 1))
+          ∙ ap (flux_at _ (slab_of 2 bins)) c.min.ensures ∙ ap (λ (r : List Float). flux_at r (slab_of 2 bins) (min c.args.t 1))
           c.keep_row.ensures);
     }

@@ -34,7 +34,7 @@ found w =
 
 pub windows-init : goal.windows-init
 unfolding agreeing_to
-windows-init c = (search rules, search rules, refl, open_same _ _, open_same _ _)
+windows-init c = (search rules, refl, open_same _ _, open_same _ _)
 
 pub overflow_mul-from : goal.overflow_mul-from
 overflow_mul-from c = let h = ends (goal.at.overflow_mul-from c).In-windows in search rules
@@ -65,53 +65,50 @@ window_lag-lag-requires c =
         part_long a.envelope.now a.windows c.windows.i a.max_lag c.requires.le_windows.0 c.requires.le_windows.1
             c.windows-test.true,
       );
-      max_lag_in_bounds = (omega (arith, p.same_length), omega (arith, l.3.same_length), omega (arith, l.4.same_length));
+      max_lag_in_bounds = (omega (arith, p.same_length), omega (arith, l.2.same_length), omega (arith, l.3.same_length));
     }
 
 pub windows-preserved-then-lag-eq0 : goal.windows-preserved-then-lag-eq0
 windows-preserved-then-lag-eq0 c =
     let l = c.windows in (
       omega arith,
-      omega arith,
-      next_without _ _ _ _ _ _ _ _ _ l.invariant.2 (found (goal.at.windows-preserved-then-lag-eq0 c).After-window_lag-lag) c.if-lag-eq0.true,
-      open_then _ _ _ _ l.invariant.3 c.window_lag-lag.ensures.clarities,
-      open_then _ _ _ _ l.invariant.4 c.window_lag-lag.ensures.weights,
+      next_without _ _ _ _ _ _ _ _ _ l.invariant.1 (found (goal.at.windows-preserved-then-lag-eq0 c).After-window_lag-lag) c.if-lag-eq0.true,
+      open_then _ _ _ _ l.invariant.2 c.window_lag-lag.ensures.clarities,
+      open_then _ _ _ _ l.invariant.3 c.window_lag-lag.ensures.weights,
     )
 
-pub loop-k-init : goal.loop-k-init
+pub loop-fold-init : goal.loop-fold-init
 unfolding agrees
-loop-k-init c = (search rules, refl, refl)
+loop-fold-init c = (refl, refl)
 
 pub windows-preserved : goal.windows-preserved
 windows-preserved c =
-    let f = c.loop-k in
+    let f = c.loop-fold in
     let l = c.windows in
-    let h : 5 ≤ f.k = omega arith in (
-      omega arith,
-      omega (arith, f.invariant.1),
-      next_differs _ _ _ _ _ _ _ _ _ (f.invariant.1 ∙ l.invariant.2) (found (goal.at.windows-preserved c).After-window_lag-lag) c.if-lag-eq0.false (f.invariant.2 ∙ some_end _ folds f.k h),
-      open_then _ _ _ _ l.invariant.3 c.window_lag-lag.ensures.clarities,
-      open_then _ _ _ _ l.invariant.4 c.window_lag-lag.ensures.weights,
+    let h : 5 ≤ f.fold-index = omega arith in (
+      omega (arith, f.invariant.0),
+      next_differs _ _ _ _ _ _ _ _ _ (f.invariant.0 ∙ l.invariant.1) (found (goal.at.windows-preserved c).After-window_lag-lag) c.if-lag-eq0.false (f.invariant.1 ∙ some_end _ folds f.fold-index h),
+      open_then _ _ _ _ l.invariant.2 c.window_lag-lag.ensures.clarities,
+      open_then _ _ _ _ l.invariant.3 c.window_lag-lag.ensures.weights,
     )
 
 pub windows-preserved-then-fold_fits : goal.windows-preserved-then-fold_fits
 windows-preserved-then-fold_fits c =
-    let f = c.loop-k in
+    let f = c.loop-fold in
     let l = c.windows in
-    let h : f.k < 5 = omega arith in
-    let one-fits = f.invariant.2 ∙ some-found _ folds f.k nan h (sym c.fold_fits.ensures ∙ c.if-fold_fits.true) in (
-      omega arith,
-      omega (arith, f.invariant.1),
-      ap (λ (a : ℕ). a + 1) f.invariant.1 ∙ next_agrees _ _ _ _ _ _ _ _ _ l.invariant.2 (found (goal.at.windows-preserved-then-fold_fits c).After-window_lag-lag) c.if-lag-eq0.false one-fits,
-      open_then _ _ _ _ l.invariant.3 c.window_lag-lag.ensures.clarities,
-      open_then _ _ _ _ l.invariant.4 c.window_lag-lag.ensures.weights,
+    let h : f.fold-index < 5 = omega arith in
+    let one-fits = f.invariant.1 ∙ some-found _ folds f.fold-index nan h (sym c.fold_fits.ensures ∙ c.if-fold_fits.true) in (
+      omega (arith, f.invariant.0),
+      ap (λ (a : ℕ). a + 1) f.invariant.0 ∙ next_agrees _ _ _ _ _ _ _ _ _ l.invariant.1 (found (goal.at.windows-preserved-then-fold_fits c).After-window_lag-lag) c.if-lag-eq0.false one-fits,
+      open_then _ _ _ _ l.invariant.2 c.window_lag-lag.ensures.clarities,
+      open_then _ _ _ _ l.invariant.3 c.window_lag-lag.ensures.weights,
     )
 
-pub loop-k-preserved : goal.loop-k-preserved
-loop-k-preserved c =
-    let f = c.loop-k in
-    let h : f.k < 5 = omega arith in
-    (omega arith, f.invariant.1, f.invariant.2 ∙ some_next _ folds f.k nan h (sym c.fold_fits.ensures ∙ c.if-fold_fits.false))
+pub loop-fold-preserved : goal.loop-fold-preserved
+loop-fold-preserved c =
+    let f = c.loop-fold in
+    let h : f.fold-index < 5 = omega arith in
+    (f.invariant.0, f.invariant.1 ∙ some_next _ folds f.fold-index nan h (sym c.fold_fits.ensures ∙ c.if-fold_fits.false))
 
 pub returns : goal.returns
 returns c =
@@ -119,8 +116,8 @@ returns c =
     let a = c.args in
     let e : l.i ≡ a.windows = omega arith in
     record {
-      count = l.invariant.2 ∙ ap (agreeing_to a.envelope.now a.rate a.min_lag a.max_lag a.whole_lag a.windows) e;
-      clarities = l.invariant.3;
-      weights = l.invariant.4;
+      count = l.invariant.1 ∙ ap (agreeing_to a.envelope.now a.rate a.min_lag a.max_lag a.whole_lag a.windows) e;
+      clarities = l.invariant.2;
+      weights = l.invariant.3;
       works = open_filled _ _ _ _ c.requires.max_lag_in_bounds.2 c.fill_priors.ensures;
     }

@@ -1,9 +1,0 @@
--- `run_features::magnitudes_of` is safe and ends: the slot stays within the magnitudes, and the measure is how many are left. Assumes nothing.
-use Prim.Native.Nat.{◌-◌, ◌≤◌}
-use Rattle.run_features.proofs.magnitudes_of.Given as goal
-
-abbrev pub invariant-loop-k : goal.invariant-loop-k
-invariant-loop-k l = l.k ≤ 6148
-
-abbrev pub decreases-loop-k : goal.decreases-loop-k
-decreases-loop-k l = 6148 - l.k
