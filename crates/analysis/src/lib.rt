@@ -19,7 +19,7 @@ use track::{Analysis, analyse};
 // downbeats; lags each for the four lag curves; sorting for work. Afterwards threshold holds its curve and onsets its frames; clarity and
 // weight hold theirs as `estimate` leaves them, score, back and beats as `beat_grid` does at the tempo's lag, downbeats their frames. Where there is
 // no tempo score, back, beats and downbeats are as they were. The first min(21, N) slots of work then hold anything, and where there is a stability
-// so do the first slots of work and of the window curves, lags of each; their others are unchanged. Refuses 1 for N or the rate, 3 for too
+// so do the first slots of work and of the window curves, lags of each; their others are unchanged. Refuses 1 for N, rate or meter, 3 for too
 // little room, 4 for a value that isn't finite or of size above 2^150, and then writes nothing.
 pub fn analyse_envelope(
     envelope: &[f64],

@@ -13,7 +13,7 @@ use Rattle.capi_answers.specs.Handed.{Handed}
 -- ---- magnitudes
 
 -- What `ph_patch_magnitudes` promises, of the number of `patch_magnitudes`: the four lent numbers are the slots named, and the slices are as that
--- call leaves them with an answer of its own.
+-- call leaves them: `own` is the `Result` that it answers, of which C is told no more.
 pub record RowsTold
     (number : ℕ) (slab : Slab) (was : tracks.MagnitudeTrack) (patch : Patch) (work : List Float) (lent₀ : List ℕ)
     (answer : ℕ) (now : tracks.MagnitudeTrack) (work' : List Float) (lent : List ℕ) : Type 0 where

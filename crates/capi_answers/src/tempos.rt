@@ -125,7 +125,7 @@ pub fn put_stability(
     }
 }
 
-// Inner: stores the parts of a steadiness unless the call refused, and answers its number.
+// Inner: stores the parts of a stability unless the call refused, and answers its number.
 pub fn put_steadiness(
     answer: Result<Stability, Refusal>,
     found: &mut u32,

@@ -65,7 +65,7 @@ fn put_points(out: &mut [u8], frames: &[u32])
     }
 }
 
-// Inner: the number of a chunk, whatever is made of it: 9, 10, 11, each of them of the whole chunk. One pass: a point that is not of the form ends it, and an
+// Inner: what refuses a chunk, whatever is made of it: 9, 10, 11, each of them of the whole chunk. One pass: a point that is not of the form ends it, and an
 // offset that is no listed frame's, or not later than the one before, is kept in mind until the last point.
 pub fn chunk_refusal(chunk: &[u8]) -> Result<(), Refusal>
     ensures { number_of result ≡ first_of (chunk_rows chunk.now) }

@@ -75,7 +75,7 @@ fn put_points(out: &mut [u8], text: &[u8], rate: u32)
     }
 }
 
-// The number of a chunk at a rate, 1, 9, 10, 11, and how many bytes the lines of its frames have. One pass, as in `cues::chunk_refusal`.
+// What refuses a chunk at a rate, 1, 9, 10, 11; else how many bytes the lines of its frames have. One pass, as in `cues::chunk_refusal`.
 fn chunk_judged(chunk: &[u8], rate: u32) -> Result<usize, Refusal>
     ensures { Counted
         (first_of (rated_rows chunk.now rate)) (length (label_bytes rate (chunk_frames chunk.now)))

@@ -25,7 +25,7 @@ pub fn frame_at(text: &[u8], at: usize, rate: u32) -> u32
     label_times::frame_for(time_at(text, at), rate) as u32
 }
 
-// Inner: the number of a text at a rate, whatever is made of it, and how many lines it has: 1, 9, 10, 11, each of them of the whole text. One pass: a line
+// Inner: what refuses a text at a rate, whatever is made of it: 1, 9, 10, 11, each of them of the whole text; else how many lines it has. One pass: a line
 // that is not of the form ends it, and a time that is no listed frame's, or not later than the one before, is kept in mind until the last line.
 pub fn text_judged(text: &[u8], rate: u32) -> Result<usize, Refusal>
     ensures { Counted (first_of (text_rows rate text.now)) (length (text_times text.now)) (listing result) }

@@ -114,7 +114,7 @@ pub fn lag_range(rate: u32, opts: TempoOpts) -> Result<LagRange, Refusal>
     Ok(lags_in(rate, opts))
 }
 
-// Inner: the lags that it answers, for callers that have looked at the rate and the options.
+// Inner: the lags that `lag_range` answers, for callers that have looked at the rate and the options.
 pub fn lags_in(rate: u32, opts: TempoOpts) -> LagRange
     requires { bounds_fine rate opts ≡ true }
     ensures { result ≡ record { min_lag = min_lag rate opts; max_lag = max_lag rate opts } }

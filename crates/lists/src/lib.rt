@@ -1,5 +1,5 @@
-// What is asked of a list: whether each entry is at most so much, whether it ascends, its sum and its mean, and which value is the first greatest; the
-// number of frames that are lent as a grid, and of frames that are read one by one.
+// What is asked of a list: whether each entry is at most so much, whether it ascends, its sum and its mean, and which value is the first greatest; what
+// refuses frames that are lent as a grid, and frames that are read one by one.
 //
 // docs/RULES.md, L7 (sums) and L11 (first greatest). Inner calls all: the crates above share them, and no caller of the library needs them.
 #![tactic(auto)]
@@ -58,7 +58,7 @@ pub fn ascends(list: &[u32]) -> bool
     true
 }
 
-// Inner: the number of frames that a call is lent as a grid: 1 for one above the largest listed, then 11 where they don't strictly ascend.
+// Inner: what refuses frames that a call is lent as a grid: 1 for one above the largest listed, then 11 where they don't strictly ascend.
 pub fn grid_refusal(frames: &[u32]) -> Result<(), Refusal>
     ensures { number_of result ≡ first_of (grid_rows frames.now) }
 {
@@ -112,7 +112,7 @@ pub fn read_none(j: Reading) -> Reading
     }
 }
 
-// Inner: the number when all are read: 10 where one was no listed frame's, then 11 where they don't strictly ascend.
+// Inner: what refuses them when all are read: 10 where one was no listed frame's, then 11 where they don't strictly ascend.
 pub fn read_refusal(j: Reading) -> Result<(), Refusal>
     ensures { number_of result ≡ read_number j true [] }
 {

@@ -37,7 +37,7 @@ pub fn mad_of(values: &[f64], median: f64, work: &mut [f64]) -> Result<f64, Refu
     Ok(mad_in(values, median, work))
 }
 
-// The number of both calls; fine says whether what is given beside the values is.
+// What both calls refuse; fine says whether what is given beside the values is.
 fn refusal(values: &[f64], fine: bool, room: usize) -> Result<(), Refusal>
     ensures { number_of result ≡ refusal_of values.now fine room }
 {

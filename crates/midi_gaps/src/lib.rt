@@ -52,7 +52,7 @@ fn is_grid(beats: &[u32]) -> bool
     lists::ascends(beats)
 }
 
-// Inner: the number that a grid is refused with, before a file is looked at: 1, 6, 7, in this order.
+// Inner: what refuses a grid, before a file is looked at: 1, 6, 7, in this order.
 pub fn grid_refusal(beats: &[u32], rate: u32) -> Result<(), Refusal>
     ensures { number_of result ≡
         first_of

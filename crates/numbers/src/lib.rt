@@ -1,6 +1,6 @@
-// The limits of document 01, the numbers of its refusals, and the tests of lent values that every call makes.
+// The limits of document 01, why a call refuses, and the tests of lent values that every call makes.
 //
-// Inner calls: the crates above share them, and no caller of the library needs them. None refuses anything.
+// Inner calls but for `Refusal`, its `number` and `number_of`, which callers of the library read: the crates above share them.
 #![tactic(auto)]
 
 ghost use Rattle.std.specs.Prelude.{◌≡◌, true, ◌&&◌, length};

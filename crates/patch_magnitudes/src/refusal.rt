@@ -9,7 +9,7 @@ ghost use Rattle.patch_magnitudes.specs.Tracks.{magnitude_track, patch_bounds, p
 use numbers::{Refusal, Slab};
 use threshold::MEDIAN_WINDOW;
 
-// The number of a patch, lent `room` slots to sort in.
+// What refuses a patch, lent `room` slots to sort in.
 pub fn refusal(
     magnitudes: &[f32],
     slab: Slab,

@@ -1,4 +1,4 @@
-// The reporting program's work, apart from its reading and writing: rows that come one after the other, and the number of refusal.
+// The reporting program's work, apart from its reading and writing: rows that come one after the other, and what refuses an input.
 //
 // Document 01, The reporting program. Inner calls all: report_head and report_feed call them, and the crates above share the bound.
 #![tactic(auto)]

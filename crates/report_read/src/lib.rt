@@ -60,8 +60,8 @@ fn pass_on(
     report_feed::take_bytes(&bytes[..got], feed, held, kept, flux)
 }
 
-// Reads to the end of the input, or until nothing that comes can change what it is told. A proved loop has to end, and nothing says that the input does:
-// it has more turns than any run uses up.
+// Reads to the end of the input, or until nothing that comes can change what it is told. A proved loop has to end, and nothing says that the input does: so
+// it has a last turn, which no run reaches.
 fn read_all(
     input: &mut impl Read,
     bytes: &mut [u8],

@@ -22,7 +22,7 @@ pub struct Room {
 }
 
 // Says how much room an analysis of N frames needs at a sample rate: N slots, L = max_lag - min_lag + 1, and max(L, min(21, N)) to sort in.
-// Refuses 1 for N above 1,048,576 or a rate outside 1 to 192,000, and then names no room.
+// Refuses 1 for N above 1,048,576, a rate outside 1 to 192,000 or a meter outside 1 to 16, and then names no room.
 pub fn room_of(rows: usize, rate: u32, opts: TempoOpts) -> Result<Room, Refusal>
     ensures { room_said result ≡ room_of rows rate opts }
 {

@@ -58,7 +58,7 @@ abbrev pub steadiness : Result Stability Refusal → Steadiness
 steadiness (Ok s) = record { number = 0; stability = s }
 steadiness (Err e) = without_stability (number e)
 
--- the answer
+-- what it says
 unfoldable pub steadiness_of : List Float → (rate : ℕ) → TempoOpts → (whole clarity weight work : ℕ) → Steadiness
 unfolding stability_refusal share_of min_lag max_lag
 steadiness_of env rate o whole clarity weight work =

@@ -90,7 +90,7 @@ fn share(
 
 // The share of up to four windows of an envelope whose own tempo agrees with the whole lag, that of its winning candidate (0: no tempo),
 // up to two octaves either way. Lend clarity, weight and work L slots each, as for `estimate`; their first L slots then hold anything where two
-// windows or more are searched, and later ones stay. Refuses 1 for N, the rate or a lag above 45,000, 3 for too little room, 4 for a
+// windows or more are searched, and later ones stay. Refuses 1 for N, rate, meter or a lag above 45,000, 3 for too little room, 4 for a
 // value that isn't finite or is larger than 2^150.
 pub fn stability_of(
     envelope: &[f64],

@@ -105,7 +105,7 @@ unfoldable pub curve_of : (ℕ → Float) → List Float → (untouched : Bool) 
 unfolding filled
 curve_of rule was untouched room = pick untouched was (filled rule was 0 room)
 
--- the answer
+-- what it says
 unfoldable pub estimate_of : List Float → (onsets rate : ℕ) → TempoOpts → (clarity weight work : ℕ) → EstimateSaid
 unfolding search_refusal tempo_of min_lag max_lag
 estimate_of env onsets rate o clarity weight work =

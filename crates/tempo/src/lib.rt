@@ -196,7 +196,7 @@ fn tempo_in(
 
 // The tempo of an envelope with this many onsets, and at most three candidates, the winner first. Lend clarity, weight and work L slots
 // each, L = max_lag - min_lag + 1 of `lag_range`; clarity and weight then hold the lag curves, where there are two onsets or more and the
-// envelope is long enough and not flat. Refuses 1 for N or the rate, 3 for too little room, 4 for a value that isn't finite or is
+// envelope is long enough and not flat. Refuses 1 for N, rate or meter, 3 for too little room, 4 for a value that isn't finite or is
 // larger than 2^150.
 pub fn estimate(
     envelope: &[f64],

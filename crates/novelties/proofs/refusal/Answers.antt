@@ -1,4 +1,4 @@
--- `novelty_number` meets its contract: each answer by its row of the table and those before it. Assumes nothing.
+-- `novelties::refusal` meets its contract: each answer by its row of the table and those before it. Assumes nothing.
 use mathlib.Core.Path.{sym, ◌∙◌}
 use borrow.Author.Tests.{le-leb, lt-leb, eq-eqb, ne_eqb, not-true, not-false}
 use Rattle.numbers.proofs.Tests.{lowest_0, lowest_4}
