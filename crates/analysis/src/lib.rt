@@ -10,6 +10,7 @@ ghost use Rattle.track.specs.Analyses.{analysis_said};
 ghost use Rattle.analysis.specs.Analyses.{EnvelopePromise, MagnitudesPromise};
 
 use flux::fill_flux;
+use flux_rows::Magnitudes;
 use numbers::{Refusal, Slab};
 use options::TempoOpts;
 use rooms::{envelope_refusal, magnitudes_refusal};
@@ -141,7 +142,11 @@ pub fn analyse_magnitudes(
         &curves,
         work.len(),
     )?;
-    fill_flux(magnitudes, slab, 0, rows, flux);
+    let m = Magnitudes {
+        values: magnitudes,
+        slab,
+    };
+    fill_flux(m, 0, rows, flux);
     Ok(analyse(
         &flux[0..rows],
         rate,

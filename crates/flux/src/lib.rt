@@ -5,13 +5,13 @@
 // ascending order, so the bits are those of one row after the other.
 #![tactic(auto)]
 
-ghost use Rattle.std.specs.Prelude.{◌≡◌, true, ◌+◌, ◌*◌, ◌≤◌, ◌<◌, length, set};
-ghost use Rattle.numbers.specs.Limits.{magnitude_fine, slab_of, slab_slots};
+ghost use Rattle.std.specs.Prelude.{◌≡◌, ◌+◌, ◌*◌, ◌≤◌, ◌<◌, length, set};
+ghost use Rattle.numbers.specs.Limits.{slab_of};
 ghost use Rattle.numbers.specs.Refusals.{number_of};
-ghost use Rattle.numbers.specs.Lists.{filled, every};
+ghost use Rattle.numbers.specs.Lists.{filled};
 ghost use Rattle.flux.specs.Flux.{flux_at, flux_refusal, FluxPromise};
 
-use flux_rows::{Four, PART, part_room, rise_at, rise_part, rise_rest};
+use flux_rows::{Four, Magnitudes, PART, part_room, rise_at, rise_part, rise_rest};
 use numbers::{Refusal, Slab};
 
 // Writes flux[0..rows], the onset strength of each row of magnitudes; slots past them stay. Room: rows slots.
@@ -27,7 +27,11 @@ pub fn spectral_flux(
 {
     let slab = Slab { rows, bins };
     refusal(magnitudes, slab, flux.len())?;
-    fill_flux(magnitudes, slab, 0, rows, flux);
+    let m = Magnitudes {
+        values: magnitudes,
+        slab,
+    };
+    fill_flux(m, 0, rows, flux);
     Ok(())
 }
 
@@ -49,76 +53,61 @@ fn refusal(magnitudes: &[f32], slab: Slab, room: usize) -> Result<(), Refusal>
     Err(Refusal::WrongValue)
 }
 
-// Inner: writes slots from `from` up to, not including, `past` of the flux curve, for callers that have looked at the slab.
-pub fn fill_flux(magnitudes: &[f32], slab: Slab, from: usize, past: usize, out: &mut [f64])
-    requires magnitudes_len { length magnitudes.now ≡ slab_slots slab }
-    requires magnitudes_value { every magnitude_fine magnitudes.now ≡ true }
-    requires from_le_past { (from ≤ past) × (past ≤ slab.rows) × (past ≤ length out.old) }
-    ensures { out.new ≡ filled (flux_at magnitudes.now slab) out.old from past }
+// Inner: writes slots from `from` up to, not including, `past` of the flux curve, for callers that have looked at the magnitudes.
+pub fn fill_flux(m: Magnitudes<'_>, from: usize, past: usize, out: &mut [f64])
+    requires { (from ≤ past) × (past ≤ m.slab.rows) × (past ≤ length out.old) }
+    ensures { out.new ≡ filled (flux_at m.entry.values.now m.entry.slab) out.old from past }
 {
     if from < 1 {
         if past < 1 {
             return;
         }
-        fill_each(magnitudes, slab, from, 1, out);
-        fill_four(magnitudes, slab, 1, past, out);
+        fill_each(m, from, 1, out);
+        fill_four(m, 1, past, out);
         return;
     }
-    fill_four(magnitudes, slab, from, past, out);
+    fill_four(m, from, past, out);
 }
 
 // Four quarters of the slots side by side, and then what is left.
-fn fill_four(magnitudes: &[f32], slab: Slab, from: usize, past: usize, out: &mut [f64])
-    requires magnitudes_len { length magnitudes.now ≡ slab_slots slab }
-    requires magnitudes_value { every magnitude_fine magnitudes.now ≡ true }
-    requires le_from { (1 ≤ from) × (from ≤ past) × (past ≤ slab.rows) × (past ≤ length out.old) }
-    ensures { out.new ≡ filled (flux_at magnitudes.now slab) out.old from past }
+fn fill_four(m: Magnitudes<'_>, from: usize, past: usize, out: &mut [f64])
+    requires { (1 ≤ from) × (from ≤ past) × (past ≤ m.slab.rows) × (past ≤ length out.old) }
+    ensures { out.new ≡ filled (flux_at m.entry.values.now m.entry.slab) out.old from past }
 {
     let quarter = (past - from) / 4;
     for k in 0..quarter {
-        put_four(
-            out,
-            from + k,
-            quarter,
-            flux_four(magnitudes, slab, from + k, quarter),
-        );
+        put_four(out, from + k, quarter, flux_four(m, from + k, quarter));
     }
-    fill_each(magnitudes, slab, from + 4 * quarter, past, out);
+    fill_each(m, from + 4 * quarter, past, out);
 }
 
-fn fill_each(magnitudes: &[f32], slab: Slab, from: usize, past: usize, out: &mut [f64])
-    requires magnitudes_len { length magnitudes.now ≡ slab_slots slab }
-    requires magnitudes_value { every magnitude_fine magnitudes.now ≡ true }
-    requires from_le_past { (from ≤ past) × (past ≤ slab.rows) × (past ≤ length out.old) }
-    ensures { out.new ≡ filled (flux_at magnitudes.now slab) out.old from past }
+fn fill_each(m: Magnitudes<'_>, from: usize, past: usize, out: &mut [f64])
+    requires { (from ≤ past) × (past ≤ m.slab.rows) × (past ≤ length out.old) }
+    ensures { out.new ≡ filled (flux_at m.entry.values.now m.entry.slab) out.old from past }
 {
     for t in from..past {
-        out[t] = flux_slot(magnitudes, slab, t);
+        out[t] = flux_slot(m, t);
     }
 }
 
 // Inner: slot t of the flux curve.
-pub fn flux_slot(magnitudes: &[f32], slab: Slab, t: usize) -> f64
-    requires magnitudes_len { length magnitudes.now ≡ slab_slots slab }
-    requires magnitudes_value { every magnitude_fine magnitudes.now ≡ true }
-    requires t_lt_rows { t < slab.rows }
-    ensures { result ≡ flux_at magnitudes.now slab t }
+pub fn flux_slot(m: Magnitudes<'_>, t: usize) -> f64
+    requires { t < m.slab.rows }
+    ensures { result ≡ flux_at m.entry.values.now m.entry.slab t }
 {
     if t == 0 {
         return 0.0;
     }
-    rise_at(magnitudes, slab, t, 0, 0.0)
+    rise_at(m, t, 0, 0.0)
 }
 
 // Four slots of the flux curve, so many rows apart.
-fn flux_four(magnitudes: &[f32], slab: Slab, t: usize, apart: usize) -> Four
-    requires magnitudes_len { length magnitudes.now ≡ slab_slots slab }
-    requires magnitudes_value { every magnitude_fine magnitudes.now ≡ true }
-    requires le_t { (1 ≤ t) × (t + 3 * apart < slab.rows) }
-    ensures { (result.a ≡ flux_at magnitudes.now slab t)
-        × (result.b ≡ flux_at magnitudes.now slab (t + apart))
-        × (result.c ≡ flux_at magnitudes.now slab (t + 2 * apart))
-        × (result.d ≡ flux_at magnitudes.now slab (t + 3 * apart)) }
+fn flux_four(m: Magnitudes<'_>, t: usize, apart: usize) -> Four
+    requires { (1 ≤ t) × (t + 3 * apart < m.slab.rows) }
+    ensures { (result.a ≡ flux_at m.entry.values.now m.entry.slab t)
+        × (result.b ≡ flux_at m.entry.values.now m.entry.slab (t + apart))
+        × (result.c ≡ flux_at m.entry.values.now m.entry.slab (t + 2 * apart))
+        × (result.d ≡ flux_at m.entry.values.now m.entry.slab (t + 3 * apart)) }
 {
     let mut a = part_room();
     let mut b = part_room();
@@ -132,13 +121,11 @@ fn flux_four(magnitudes: &[f32], slab: Slab, t: usize, apart: usize) -> Four
     };
     let mut i = 0;
     // Kept as a while: the place behind the last whole part is used below.
-    while PART <= slab.bins - i {
-        f = rise_part(
-            f, magnitudes, slab, t, apart, i, &mut a, &mut b, &mut c, &mut d,
-        );
+    while PART <= m.slab.bins - i {
+        f = rise_part(f, m, t, apart, i, &mut a, &mut b, &mut c, &mut d);
         i += PART;
     }
-    rise_rest(f, magnitudes, slab, t, apart, i)
+    rise_rest(f, m, t, apart, i)
 }
 
 // Four slots, so many slots apart.

@@ -16,6 +16,15 @@ use numbers::Slab;
 // Inner: as many bins of a row as are taken at a time.
 pub const PART: usize = 32;
 
+// Inner: magnitudes that were looked at: whole rows of the slab's shape, each value fine. Whoever makes one has looked; no call below looks again.
+#[derive(Clone, Copy)]
+pub struct Magnitudes<'a> {
+    pub values: &'a [f32],
+    pub slab: Slab,
+    pub ghost whole: { length values.now ≡ slab_slots slab },
+    pub ghost fine: { every magnitude_fine values.now ≡ true },
+}
+
 // Inner: the sums of four rows.
 #[derive(Clone, Copy)]
 pub struct Four {
@@ -35,8 +44,7 @@ pub fn part_room() -> [f64; PART]
 // Inner: adds bins from .. from+31 of rows t, t+apart, t+2·apart, t+3·apart to their four running sums; a to d are scratch.
 pub fn rise_part(
     f: Four,
-    magnitudes: &[f32],
-    slab: Slab,
+    m: Magnitudes<'_>,
     t: usize,
     apart: usize,
     from: usize,
@@ -45,56 +53,43 @@ pub fn rise_part(
     c: &mut [f64],
     d: &mut [f64],
 ) -> Four
-    requires magnitudes_len { length magnitudes.now ≡ slab_slots slab }
-    requires magnitudes_value { every magnitude_fine magnitudes.now ≡ true }
-    requires le_t { (1 ≤ t) × (t + 3 * apart < slab.rows) × (from + part_bins ≤ slab.bins) }
+    requires le_t { (1 ≤ t) × (t + 3 * apart < m.slab.rows) × (from + part_bins ≤ m.slab.bins) }
     requires a_len { (length a.old ≡ part_bins) × (length b.old ≡ part_bins) × (length c.old ≡ part_bins) × (length d.old ≡ part_bins) }
-    ensures { (result.a ≡ sum_from f.a (rise_part magnitudes.now slab t from))
-        × (result.b ≡ sum_from f.b (rise_part magnitudes.now slab (t + apart) from))
-        × (result.c ≡ sum_from f.c (rise_part magnitudes.now slab (t + 2 * apart) from))
-        × (result.d ≡ sum_from f.d (rise_part magnitudes.now slab (t + 3 * apart) from)) }
+    ensures { (result.a ≡ sum_from f.a (rise_part m.entry.values.now m.entry.slab t from))
+        × (result.b ≡ sum_from f.b (rise_part m.entry.values.now m.entry.slab (t + apart) from))
+        × (result.c ≡ sum_from f.c (rise_part m.entry.values.now m.entry.slab (t + 2 * apart) from))
+        × (result.d ≡ sum_from f.d (rise_part m.entry.values.now m.entry.slab (t + 3 * apart) from)) }
 {
-    lift_at(magnitudes, slab, t, from, a);
-    lift_at(magnitudes, slab, t + apart, from, b);
-    lift_at(magnitudes, slab, t + 2 * apart, from, c);
-    lift_at(magnitudes, slab, t + 3 * apart, from, d);
+    lift_at(m, t, from, a);
+    lift_at(m, t + apart, from, b);
+    lift_at(m, t + 2 * apart, from, c);
+    lift_at(m, t + 3 * apart, from, d);
     add_parts(f, a, b, c, d)
 }
 
 // Inner: the sums of four rows, so many rows apart, that run on from bin `from` to the end.
-pub fn rise_rest(
-    f: Four,
-    magnitudes: &[f32],
-    slab: Slab,
-    t: usize,
-    apart: usize,
-    from: usize,
-) -> Four
-    requires magnitudes_len { length magnitudes.now ≡ slab_slots slab }
-    requires magnitudes_value { every magnitude_fine magnitudes.now ≡ true }
-    requires le_t { (1 ≤ t) × (t + 3 * apart < slab.rows) × (from ≤ slab.bins) }
-    ensures { (result.a ≡ sum_from f.a (rise_rest magnitudes.now slab t from))
-        × (result.b ≡ sum_from f.b (rise_rest magnitudes.now slab (t + apart) from))
-        × (result.c ≡ sum_from f.c (rise_rest magnitudes.now slab (t + 2 * apart) from))
-        × (result.d ≡ sum_from f.d (rise_rest magnitudes.now slab (t + 3 * apart) from)) }
+pub fn rise_rest(f: Four, m: Magnitudes<'_>, t: usize, apart: usize, from: usize) -> Four
+    requires { (1 ≤ t) × (t + 3 * apart < m.slab.rows) × (from ≤ m.slab.bins) }
+    ensures { (result.a ≡ sum_from f.a (rise_rest m.entry.values.now m.entry.slab t from))
+        × (result.b ≡ sum_from f.b (rise_rest m.entry.values.now m.entry.slab (t + apart) from))
+        × (result.c ≡ sum_from f.c (rise_rest m.entry.values.now m.entry.slab (t + 2 * apart) from))
+        × (result.d ≡ sum_from f.d (rise_rest m.entry.values.now m.entry.slab (t + 3 * apart) from)) }
 {
     Four {
-        a: rise_at(magnitudes, slab, t, from, f.a),
-        b: rise_at(magnitudes, slab, t + apart, from, f.b),
-        c: rise_at(magnitudes, slab, t + 2 * apart, from, f.c),
-        d: rise_at(magnitudes, slab, t + 3 * apart, from, f.d),
+        a: rise_at(m, t, from, f.a),
+        b: rise_at(m, t + apart, from, f.b),
+        c: rise_at(m, t + 2 * apart, from, f.c),
+        d: rise_at(m, t + 3 * apart, from, f.d),
     }
 }
 
 // Inner: the sum of row t over the row before it, run on from bin `from`.
-pub fn rise_at(magnitudes: &[f32], slab: Slab, t: usize, from: usize, sum: f64) -> f64
-    requires magnitudes_len { length magnitudes.now ≡ slab_slots slab }
-    requires magnitudes_value { every magnitude_fine magnitudes.now ≡ true }
-    requires le_t { (1 ≤ t) × (t < slab.rows) × (from ≤ slab.bins) }
-    ensures { result ≡ sum_from sum (rise_rest magnitudes.now slab t from) }
+pub fn rise_at(m: Magnitudes<'_>, t: usize, from: usize, sum: f64) -> f64
+    requires { (1 ≤ t) × (t < m.slab.rows) × (from ≤ m.slab.bins) }
+    ensures { result ≡ sum_from sum (rise_rest m.entry.values.now m.entry.slab t from) }
 {
-    let prev = row_at(magnitudes, slab, t - 1);
-    let cur = row_at(magnitudes, slab, t);
+    let prev = row_at(m, t - 1);
+    let cur = row_at(m, t);
     rise(prev, cur, from, sum)
 }
 
@@ -113,15 +108,13 @@ fn rise(prev: &[f32], cur: &[f32], from: usize, sum: f64) -> f64
 }
 
 // The positive parts of row t over the row before it, from bin `from` on.
-fn lift_at(magnitudes: &[f32], slab: Slab, t: usize, from: usize, part: &mut [f64])
-    requires magnitudes_len { length magnitudes.now ≡ slab_slots slab }
-    requires magnitudes_value { every magnitude_fine magnitudes.now ≡ true }
-    requires le_t { (1 ≤ t) × (t < slab.rows) × (from + length part.old ≤ slab.bins) }
+fn lift_at(m: Magnitudes<'_>, t: usize, from: usize, part: &mut [f64])
+    requires { (1 ≤ t) × (t < m.slab.rows) × (from + length part.old ≤ m.slab.bins) }
     ensures { part.new ≡
-        tab (rise_at (slab_row magnitudes.now slab (t - 1)) (slab_row magnitudes.now slab t)) from (length part.old) }
+        tab (rise_at (slab_row m.entry.values.now m.entry.slab (t - 1)) (slab_row m.entry.values.now m.entry.slab t)) from (length part.old) }
 {
-    let prev = row_at(magnitudes, slab, t - 1);
-    let cur = row_at(magnitudes, slab, t);
+    let prev = row_at(m, t - 1);
+    let cur = row_at(m, t);
     lift(prev, cur, from, part);
 }
 
@@ -158,12 +151,11 @@ fn add_parts(f: Four, a: &[f64], b: &[f64], c: &[f64], d: &[f64]) -> Four
 }
 
 // Row t, by the frame reader.
-fn row_at(magnitudes: &[f32], slab: Slab, t: usize) -> &[f32]
-    requires magnitudes_len { length magnitudes.now ≡ slab_slots slab }
-    requires t_lt_rows { t < slab.rows }
-    ensures { result.now ≡ slab_row magnitudes.now slab t }
+fn row_at<'a>(m: Magnitudes<'a>, t: usize) -> &'a [f32]
+    requires { t < m.slab.rows }
+    ensures { result.now ≡ slab_row m.entry.values.now m.entry.slab t }
 {
-    frames::row_of(magnitudes, slab.bins, t)
+    frames::row_of(m.values, m.slab.bins, t)
 }
 
 fn positive_part(x: f64) -> f64

@@ -9,11 +9,12 @@ use native.Mathlib.Omega.{arith}
 use lib.Ieee.{Float}
 use lib.ListN.{length, get_or, drop, set, length-append, length-drop}
 use lib.Seq.{append_snoc, drop-cons}
+use Rattle.std.specs.Prelude.{Option, Some, None, is_some, unwrap_or}
 use Rattle.numbers.proofs.Tabs.{listed-none, listed_more}
 use Rattle.numbers.proofs.Tests.{true_not_false}
 use Rattle.numbers.specs.Lists.{tab, listed, one_if}
 use Rattle.onsets.specs.Peaks.{is_peak, those, peaks_of, joins, better, bests, suppressed}
-use Rattle.onsets.specs.Steps.{following, Going, Stepped, Closed}
+use Rattle.onsets.specs.Steps.{IsRule, following, Going, Stepped, Closed}
 use Rattle.onsets.specs.declared.peaks.Group.{Group}
 
 one-most : (b : Bool) → one_if b ≤ 1
@@ -26,58 +27,57 @@ length_listed_any xs d = simp (length-append, length-drop)
 
 module _ (curve : List Float) (gap : ℕ) where
   -- nothing is listed yet
-  pub going_start : (ps was : List ℕ) (g : Group) → g.opened ≡ false → g.count ≡ 0 → Going curve gap (suppressed curve gap ps) ps was g was
+  pub going_start : (ps was : List ℕ) (g : Group) → g.best ≡ None → g.count ≡ 0 → Going curve gap (suppressed curve gap ps) ps was g was
   unfolding following
   going_start ps was g o n = record { kept = []; all = rw o; many = n; slots = sym (listed-none was) }
 
   -- ---- a step
 
-  follow_open : (g : Group) (t : ℕ) (ps : List ℕ) → g.opened ≡ false
-      → following curve gap g.opened g.best (t ∷ ps) ≡ following curve gap true t ps
+  follow_open : (g : Group) (t : ℕ) (ps : List ℕ) → g.best ≡ None
+      → following curve gap g.best (t ∷ ps) ≡ following curve gap (Some t) ps
   unfolding following suppressed
   follow_open g t ps o = rw o
 
-  follow_join : (g : Group) (t : ℕ) (ps : List ℕ) → g.opened ≡ true → joins gap g.best t ≡ true
-      → following curve gap g.opened g.best (t ∷ ps) ≡ following curve gap true (better curve g.best t) ps
+  follow_join : (g : Group) (b t : ℕ) (ps : List ℕ) → g.best ≡ Some b → joins gap b t ≡ true
+      → following curve gap g.best (t ∷ ps) ≡ following curve gap (Some (better curve b t)) ps
   unfolding following bests
-  follow_join g t ps o j = rw (o, j)
+  follow_join g b t ps o j = rw (o, j)
 
-  follow_close : (g : Group) (t : ℕ) (ps : List ℕ) → g.opened ≡ true → joins gap g.best t ≡ false
-      → following curve gap g.opened g.best (t ∷ ps) ≡ g.best ∷ following curve gap true t ps
+  follow_close : (g : Group) (b t : ℕ) (ps : List ℕ) → g.best ≡ Some b → joins gap b t ≡ false
+      → following curve gap g.best (t ∷ ps) ≡ b ∷ following curve gap (Some t) ps
   unfolding following bests
-  follow_close g t ps o j = rw (o, j)
+  follow_close g b t ps o j = rw (o, j)
 
   -- the group that follows a step is open, with this best
-  opened_as : (g : Group) (best : ℕ) (ps : List ℕ) → g.opened ≡ true → g.best ≡ best
-      → following curve gap true best ps ≡ following curve gap g.opened g.best ps
-  opened_as g best ps o e = rw (o, e)
+  opened_as : (g : Group) (b : ℕ) (ps : List ℕ) → g.best ≡ Some b → following curve gap g.best ps ≡ following curve gap (Some b) ps
+  opened_as g b ps = ap (λ (o : Option ℕ). following curve gap o ps)
 
   -- no group is closed: the best is b
   stepped_same : (g g' : Group) (t b : ℕ) (frames : List ℕ)
-      → ((ps : List ℕ) → following curve gap g.opened g.best (t ∷ ps) ≡ following curve gap true b ps)
-      → b ≤ t → g'.opened ≡ true → g'.best ≡ b → g'.count ≡ g.count → Stepped curve gap t true g frames g' frames
-  stepped_same g g' t b frames f h o e n =
+      → ((ps : List ℕ) → following curve gap g.best (t ∷ ps) ≡ following curve gap (Some b) ps)
+      → b ≤ t → g'.best ≡ Some b → g'.count ≡ g.count → Stepped curve gap t true g frames g' frames
+  stepped_same g g' t b frames f h o n =
       record {
-        best_at = omega arith;
-        counted = omega (arith, one-most g'.opened);
+        best_at = let a : unwrap_or g'.best 0 ≡ b = rw o in omega arith;
+        counted = omega (arith, one-most (is_some g'.best));
         goes = λ whole ps was G. record {
           kept = G.kept;
-          all = ap (λ (r : List ℕ). G.kept ++ r) (sym (f ps ∙ opened_as g' b ps o e)) ∙ G.all;
+          all = ap (λ (r : List ℕ). G.kept ++ r) (opened_as g' b ps o ∙ sym (f ps)) ∙ G.all;
           many = n ∙ G.many;
           slots = G.slots;
         };
       }
 
   -- a peak opens the first group
-  pub stepped_open : (g g' : Group) (t : ℕ) (frames : List ℕ) → g.opened ≡ false
-      → g'.opened ≡ true → g'.best ≡ t → g'.count ≡ g.count → Stepped curve gap t true g frames g' frames
+  pub stepped_open : (g g' : Group) (t : ℕ) (frames : List ℕ) → g.best ≡ None
+      → g'.best ≡ Some t → g'.count ≡ g.count → Stepped curve gap t true g frames g' frames
   stepped_open g g' t frames o = stepped_same g g' t t frames (λ ps. follow_open g t ps o) (le_refl t)
 
-  -- a peak joins the open group
-  pub stepped_join : (g g' : Group) (t b : ℕ) (frames : List ℕ) → g.opened ≡ true → joins gap g.best t ≡ true
-      → better curve g.best t ≡ b → b ≤ t → g'.opened ≡ true → g'.best ≡ b → g'.count ≡ g.count → Stepped curve gap t true g frames g' frames
-  stepped_join g g' t b frames o j k =
-      stepped_same g g' t b frames (λ ps. follow_join g t ps o j ∙ ap (λ (x : ℕ). following curve gap true x ps) k)
+  -- a peak joins the open group, whose best was a and is b
+  pub stepped_join : (g g' : Group) (a t b : ℕ) (frames : List ℕ) → g.best ≡ Some a → joins gap a t ≡ true
+      → better curve a t ≡ b → b ≤ t → g'.best ≡ Some b → g'.count ≡ g.count → Stepped curve gap t true g frames g' frames
+  stepped_join g g' a t b frames o j k =
+      stepped_same g g' t b frames (λ ps. follow_join g a t ps o j ∙ ap (λ (x : ℕ). following curve gap (Some x) ps) k)
 
   -- one more entry is listed
   module _ (G-kept was frames : List ℕ) (n best : ℕ) (many : n ≡ length G-kept) (slots : frames ≡ listed G-kept was) (room : n < length frames) where
@@ -91,25 +91,25 @@ module _ (curve : List Float) (gap : ℕ) where
     more-many = simp length-append (omega arith)
 
   -- a peak opens the next group, and the best of the one before it is listed
-  pub stepped_close : (g g' : Group) (t : ℕ) (frames : List ℕ) → g.opened ≡ true → joins gap g.best t ≡ false → g.count < length frames
-      → g'.opened ≡ true → g'.best ≡ t → g'.count ≡ g.count + 1 → Stepped curve gap t true g frames g' (set frames g.count g.best)
-  stepped_close g g' t frames o j room o' e n =
+  pub stepped_close : (g g' : Group) (b t : ℕ) (frames : List ℕ) → g.best ≡ Some b → joins gap b t ≡ false → g.count < length frames
+      → g'.best ≡ Some t → g'.count ≡ g.count + 1 → Stepped curve gap t true g frames g' (set frames g.count b)
+  stepped_close g g' b t frames o j room o' n =
       record {
-        best_at = omega arith;
-        counted = let a : one_if g.opened ≡ 1 = ap one_if o in omega (arith, one-most g'.opened);
+        best_at = let a : unwrap_or g'.best 0 ≡ t = rw o' in omega arith;
+        counted = let a : one_if (is_some g.best) ≡ 1 = rw o in omega (arith, one-most (is_some g'.best));
         goes = λ whole ps was G. record {
-          kept = G.kept ++ (g.best ∷ []);
+          kept = G.kept ++ (b ∷ []);
           all =
-              append_snoc G.kept g.best (following curve gap g'.opened g'.best ps)
+              append_snoc G.kept b (following curve gap g'.best ps)
               ∙ ap (λ (r : List ℕ). G.kept ++ r)
-              (ap (λ (r : List ℕ). g.best ∷ r) (sym (opened_as g' t ps o' e)) ∙ sym (follow_close g t ps o j)) ∙ G.all;
-          many = n ∙ more-many G.kept was frames g.count g.best G.many G.slots room;
-          slots = more-slots G.kept was frames g.count g.best G.many G.slots room;
+              (ap (λ (r : List ℕ). b ∷ r) (opened_as g' t ps o') ∙ sym (follow_close g b t ps o j)) ∙ G.all;
+          many = n ∙ more-many G.kept was frames g.count b G.many G.slots room;
+          slots = more-slots G.kept was frames g.count b G.many G.slots room;
         };
       }
 
   -- a slot that is no peak
-  pub stepped_past : (g : Group) (t : ℕ) (b : Bool) (frames : List ℕ) → b ≡ false → g.best ≤ t → Stepped curve gap t b g frames g frames
+  pub stepped_past : (g : Group) (t : ℕ) (b : Bool) (frames : List ℕ) → b ≡ false → unwrap_or g.best 0 ≤ t → Stepped curve gap t b g frames g frames
   stepped_past g t true frames e h = true_not_false true refl e
   stepped_past g t false frames e h = record { best_at = h; counted = omega arith; goes = λ whole ps was G. G }
 
@@ -122,7 +122,7 @@ module _ (curve : List Float) (gap : ℕ) where
 -- ---- the end
 
 -- no group was opened
-pub closed_none : (g : Group) (frames : List ℕ) → g.opened ≡ false → Closed g frames g.count frames
+pub closed_none : (g : Group) (frames : List ℕ) → g.best ≡ None → Closed g frames g.count frames
 unfolding following suppressed
 closed_none g frames o =
     record {
@@ -132,66 +132,69 @@ closed_none g frames o =
     }
 
 -- the last group's best is listed
-pub closed_last : (g : Group) (frames : List ℕ) → g.opened ≡ true → g.count < length frames → Closed g frames (g.count + 1) (set frames g.count g.best)
+pub closed_last : (g : Group) (b : ℕ) (frames : List ℕ) → g.best ≡ Some b → g.count < length frames
+    → Closed g frames (g.count + 1) (set frames g.count b)
 unfolding following bests
-closed_last g frames o room =
+closed_last g b frames o room =
     record {
       ends = λ curve gap whole was G.
-          let e : G.kept ++ (g.best ∷ []) ≡ whole = rw o at G.all in
+          let e : G.kept ++ (b ∷ []) ≡ whole = rw o at G.all in
           record {
-            count_is = more-many curve gap G.kept was frames g.count g.best G.many G.slots room ∙ ap length e;
+            count_is = more-many curve gap G.kept was frames g.count b G.many G.slots room ∙ ap length e;
             frames_are =
-                more-slots curve gap G.kept was frames g.count g.best G.many G.slots room ∙ ap (λ (r : List ℕ). listed r was) e;
+                more-slots curve gap G.kept was frames g.count b G.many G.slots room ∙ ap (λ (r : List ℕ). listed r was) e;
           };
     }
 
 -- ---- slot by slot
 
--- The loop over the slots of a curve has come to slot t.
-pub record Picking (curve : List Float) (threshold : ℕ → Float) (gap t : ℕ) (was : List ℕ) (group : Group) (frames : List ℕ) : Type 0 where
+-- The loop over the slots of a curve has come to slot t. What is still to be kept is said for each rule by which the slots' levels are answered.
+pub record Picking (curve : List Float) (answers : ℕ → Float → Type 0) (gap t : ℕ) (was : List ℕ) (group : Group) (frames : List ℕ) : Type 0 where
   pub from : 1 ≤ t
   pub past : t ≤ length curve - 2 + 1
-  pub best_at : group.best < t
-  pub counted : group.count + one_if group.opened < t
+  pub best_at : unwrap_or group.best 0 < t
+  pub counted : group.count + one_if (is_some group.best) < t
   pub as_long : length frames ≡ length was
-  pub going : Going curve gap (suppressed curve gap (peaks_of curve threshold))
-      (those (λ t. is_peak curve (threshold t) t) (tab (λ t. t) t (length curve - 1 - t))) was group frames
+  pub going : (rule : ℕ → Float) → IsRule answers rule → Going curve gap (suppressed curve gap (peaks_of curve rule))
+      (those (λ t. is_peak curve (rule t) t) (tab (λ t. t) t (length curve - 1 - t))) was group frames
 
-module _ (curve : List Float) (threshold : ℕ → Float) (gap : ℕ) where
-  pub picking_start : (was : List ℕ) (g : Group) → g.opened ≡ false → g.best ≡ 0 → g.count ≡ 0 → Picking curve threshold gap 1 was g was
+module _ (curve : List Float) (answers : ℕ → Float → Type 0) (gap : ℕ) where
+  pub picking_start : (was : List ℕ) (g : Group) → g.best ≡ None → g.count ≡ 0 → Picking curve answers gap 1 was g was
   unfolding peaks_of
-  picking_start was g o b n =
+  picking_start was g o n =
       let e : length curve - 2 ≡ length curve - 1 - 1 = omega arith in
       record {
         from = le_refl 1;
         past = omega arith;
-        best_at = omega arith;
-        counted = let a : one_if g.opened ≡ 0 = ap one_if o in omega arith;
+        best_at = let a : unwrap_or g.best 0 ≡ 0 = rw o in omega arith;
+        counted = let a : one_if (is_some g.best) ≡ 0 = rw o in omega arith;
         as_long = refl;
-        going = rw (← e) (going_start curve gap (those (λ t. is_peak curve (threshold t) t) (tab (λ t. t) 1 (length curve - 2))) was g o n);
+        going = λ rule r. rw (← e) (going_start curve gap (those (λ t. is_peak curve (rule t) t) (tab (λ t. t) 1 (length curve - 2))) was g o n);
       }
 
-  pub picking_step : {t : ℕ} {was : List ℕ} {g g' : Group} {frames frames' : List ℕ} → t < length curve - 1 → length frames' ≡ length frames
-      → Stepped curve gap t (is_peak curve (threshold t) t) g frames g' frames' → Picking curve threshold gap t was g frames
-      → Picking curve threshold gap (t + 1) was g' frames'
+  -- the step past slot t, whose level was answered
+  pub picking_step : {t : ℕ} {was : List ℕ} {g g' : Group} {frames frames' : List ℕ} (level : Float) → answers t level → t < length curve - 1
+      → length frames' ≡ length frames → Stepped curve gap t (is_peak curve level t) g frames g' frames'
+      → Picking curve answers gap t was g frames → Picking curve answers gap (t + 1) was g' frames'
   unfolding those
-  picking_step {t} {was} {g} {g'} {frames} {frames'} h l s p =
+  picking_step {t} {was} {g} {g'} {frames} {frames'} level a h l s p =
       let e : length curve - 1 - t ≡ suc (length curve - 1 - (t + 1)) = omega arith in
-      let G = rw e at p.going in
       record {
         from = omega arith;
         past = omega (arith, p.past);
         best_at = omega (arith, s.best_at);
         counted = omega (arith, s.counted, p.counted);
         as_long = l ∙ p.as_long;
-        going = s.goes _ _ was (rw (← add-one t) at G);
+        going = λ rule r.
+            let G = rw e at p.going rule r in
+            s.goes _ _ was (rw (r t level a) (rw (← add-one t) at G));
       }
 
   -- past the last slot that can be a peak
-  pub picking_end : {t : ℕ} {was : List ℕ} {g : Group} {frames : List ℕ} → length curve - 1 ≤ t → Picking curve threshold gap t was g frames
-      → Going curve gap (suppressed curve gap (peaks_of curve threshold)) [] was g frames
+  pub picking_end : {t : ℕ} {was : List ℕ} {g : Group} {frames : List ℕ} → length curve - 1 ≤ t → Picking curve answers gap t was g frames
+      → (rule : ℕ → Float) → IsRule answers rule → Going curve gap (suppressed curve gap (peaks_of curve rule)) [] was g frames
   unfolding those
-  picking_end {t} h p = let e : length curve - 1 - t ≡ 0 = omega arith in rw e at p.going
+  picking_end {t} h p rule r = let e : length curve - 1 - t ≡ 0 = omega arith in rw e at p.going rule r
 
 -- ---- peak by peak
 

@@ -2,13 +2,13 @@
 //
 // Document 01, Onsets. The Rust: onsets.rs `suppress_close_peaks`, and the peak loops of onsets.rs and structure.rs. Peaks are
 // suppressed as they are found, in one pass: a list lent for the answer has no slot written that isn't an entry.
-ghost use Rattle.std.specs.Prelude.{◌≡◌, true, ◌&&◌, ◌+◌, ◌≤◌, ◌<◌, length};
+ghost use Rattle.std.specs.Prelude.{◌≡◌, true, ◌&&◌, ◌+◌, ◌≤◌, ◌<◌, length, is_some, unwrap_or};
 ghost use Rattle.numbers.specs.Outcomes.{listing};
 ghost use Rattle.numbers.specs.Refusals.{number_of};
 ghost use Rattle.numbers.specs.Limits.{most_rows};
 ghost use Rattle.numbers.specs.Lists.{one_if, ascending};
 ghost use Rattle.onsets.specs.Peaks.{at, is_peak, peaks_of, suppressed, point_into, suppression_refusal, SuppressionPromise};
-ghost use Rattle.onsets.specs.Steps.{Picked, Stepped, Closed};
+ghost use Rattle.onsets.specs.Steps.{IsRule, Picked, Stepped, Closed};
 
 use numbers::Refusal;
 
@@ -70,8 +70,7 @@ fn suppress(peaks: &[u32], curve: &[f64], gap: usize, frames: &mut [u32]) -> usi
     ensures { Picked (suppressed curve.now gap peaks.now) frames.old result frames.new }
 {
     let mut group = Group {
-        opened: false,
-        best: 0,
+        best: None,
         count: 0,
     };
     for i in 0..peaks.len() {
@@ -87,16 +86,7 @@ pub fn pick_peaks(curve: &[f64], threshold: &[f64], gap: usize, frames: &mut [u3
         frames.old
         result frames.new }
 {
-    let last = curve.len().saturating_sub(1);
-    let mut group = Group {
-        opened: false,
-        best: 0,
-        count: 0,
-    };
-    for t in 1..last {
-        group = visit(group, curve, threshold[t], gap, t, frames);
-    }
-    close(group, frames)
+    pick_by(curve, |t| threshold[t], gap, frames)
 }
 
 // Inner: the same with one threshold for every slot.
@@ -106,23 +96,32 @@ pub fn pick_above(curve: &[f64], level: f64, gap: usize, frames: &mut [u32]) -> 
         frames.old
         result frames.new }
 {
+    pick_by(curve, |_| level, gap, frames)
+}
+
+// The walk of both: the slots in turn, each with the level that is asked for it.
+fn pick_by<F: Fn(usize) -> f64>(curve: &[f64], level: F, gap: usize, frames: &mut [u32]) -> usize
+    requires lengths { (length curve.now ≤ most_rows) × (length curve.now ≤ length frames.old) }
+    requires callable { (t : _) → t < length curve.now → F.pre level t }
+    ensures { (rule : _) → IsRule (F.post level) rule → Picked (suppressed curve.now gap (peaks_of curve.now rule))
+        frames.old
+        result frames.new }
+{
     let last = curve.len().saturating_sub(1);
     let mut group = Group {
-        opened: false,
-        best: 0,
+        best: None,
         count: 0,
     };
     for t in 1..last {
-        group = visit(group, curve, level, gap, t, frames);
+        group = visit(group, curve, level(t), gap, t, frames);
     }
     close(group, frames)
 }
 
-// Whether a group is open and its best peak; and how many bests of closed groups are listed.
+// The best peak of the open group, if one is open; and how many bests of closed groups are listed.
 #[derive(Clone, Copy)]
 struct Group {
-    opened: bool,
-    best: usize,
+    best: Option<usize>,
     count: usize,
 }
 
@@ -131,7 +130,7 @@ fn visit(group: Group, curve: &[f64], level: f64, gap: usize, t: usize, frames: 
     requires { (length curve.now ≤ most_rows)
         × (1 ≤ t)
         × (t + 1 < length curve.now)
-        × (group.best ≤ t)
+        × (unwrap_or group.best 0 ≤ t)
         × (group.count < length frames.old) }
     ensures { Stepped curve.now gap t (is_peak curve.now level t) group frames.old result frames.new }
 {
@@ -152,23 +151,20 @@ pub fn is_peak(curve: &[f64], level: f64, t: usize) -> bool
 
 // A peak joins the open group or opens the next, and then the best of the one before it is listed.
 fn join(group: Group, curve: &[f64], gap: usize, peak: usize, frames: &mut [u32]) -> Group
-    requires { (length curve.now ≤ most_rows) × (peak < length curve.now) × (group.best ≤ peak) × (group.count < length frames.old) }
+    requires { (length curve.now ≤ most_rows) × (peak < length curve.now) × (unwrap_or group.best 0 ≤ peak) × (group.count < length frames.old) }
     ensures { Stepped curve.now gap peak true group frames.old result frames.new }
 {
-    let best = group.best;
     let count = group.count;
-    if !group.opened {
+    let Some(best) = group.best else {
         return Group {
-            opened: true,
-            best: peak,
+            best: Some(peak),
             count,
         };
-    }
+    };
     if peak - best <= gap {
         if curve[peak] > curve[best] {
             return Group {
-                opened: true,
-                best: peak,
+                best: Some(peak),
                 count,
             };
         }
@@ -176,21 +172,20 @@ fn join(group: Group, curve: &[f64], gap: usize, peak: usize, frames: &mut [u32]
     }
     frames[count] = best as u32;
     Group {
-        opened: true,
-        best: peak,
+        best: Some(peak),
         count: count + 1,
     }
 }
 
 // The last group's best is listed.
 fn close(group: Group, frames: &mut [u32]) -> usize
-    requires { (group.best < 4294967296) × (group.count + one_if group.opened ≤ length frames.old) }
+    requires { (unwrap_or group.best 0 < 4294967296) × (group.count + one_if (is_some group.best) ≤ length frames.old) }
     ensures { Closed group frames.old result frames.new }
 {
     let count = group.count;
-    if group.opened {
-        frames[count] = group.best as u32;
-        return count + 1;
-    }
-    count
+    let Some(best) = group.best else {
+        return count;
+    };
+    frames[count] = best as u32;
+    count + 1
 }

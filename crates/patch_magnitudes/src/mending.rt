@@ -8,6 +8,7 @@ ghost use Rattle.flux.specs.Flux.{flux_at};
 ghost use Rattle.threshold.specs.Threshold.{reach, threshold_at, window_room};
 ghost use Rattle.patches.specs.Patches.{patch_of, edited};
 
+use flux_rows::Magnitudes;
 use numbers::Slab;
 use threshold::REACH;
 
@@ -38,7 +39,11 @@ pub fn mend_flux(
     patches::put_over(magnitudes, start * slab.bins, new);
     let past = start + count;
     let flux_past = (past + 1).min(slab.rows);
-    flux::fill_flux(magnitudes, slab, start, flux_past, flux);
+    let mended = Magnitudes {
+        values: magnitudes,
+        slab,
+    };
+    flux::fill_flux(mended, start, flux_past, flux);
     flux_past
 }
 

@@ -7,6 +7,7 @@ ghost use Rattle.numbers.specs.Lists.{every};
 ghost use Rattle.report.specs.Input.{values_of};
 ghost use Rattle.report.specs.Stream.{RowTaken};
 
+use flux_rows::Magnitudes;
 use numbers::Slab;
 
 // Keeps the row before and, behind it, the row of these bytes.
@@ -38,7 +39,10 @@ pub fn take_row(
     if !numbers::magnitudes_fine(&kept[bins..]) {
         return false;
     }
-    let pair = Slab { rows: 2, bins };
-    flux[t] = flux::flux_slot(kept, pair, t.min(1));
+    let pair = Magnitudes {
+        values: kept,
+        slab: Slab { rows: 2, bins },
+    };
+    flux[t] = flux::flux_slot(pair, t.min(1));
     true
 }

@@ -9,10 +9,13 @@ use Rattle.analysis.proofs.analyse_magnitudes.Goals as goal
 pub returns-in_err-magnitudes_refusal : goal.returns-in_err-magnitudes_refusal
 returns-in_err-magnitudes_refusal c = magnitudes_refused _ _ _ _ _ _ _ _ _ c.from_residual.ensures.1 c.in_err-magnitudes_refusal.ensures
 
-pub fill_flux-requires : goal.fill_flux-requires
-fill_flux-requires c =
+pub invariant_of-m : goal.invariant_of-m
+invariant_of-m c =
     let t = flux_asks _ _ _ _ _ _ _ _ (sym c.in_ok-magnitudes_refusal.ensures) in
-    record { magnitudes_len = t.whole; magnitudes_value = t.fine; from_le_past = (omega arith, omega arith, t.has_room) }
+    record { whole = t.whole; fine = t.fine }
+
+pub fill_flux-requires : goal.fill_flux-requires
+fill_flux-requires c = (omega arith, omega arith, (flux_asks _ _ _ _ _ _ _ _ (sym c.in_ok-magnitudes_refusal.ensures)).has_room)
 
 pub slice_bounds-analyse-end : goal.slice_bounds-analyse-end
 slice_bounds-analyse-end c =

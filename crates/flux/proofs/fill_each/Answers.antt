@@ -11,7 +11,7 @@ pub loop-t-init : goal.loop-t-init
 loop-t-init c = (omega arith, omega arith, refl, sym (filled_none _ _ _))
 
 pub flux_slot-requires : goal.flux_slot-requires
-flux_slot-requires c = record { magnitudes_len = c.requires.magnitudes_len; magnitudes_value = c.requires.magnitudes_value; t_lt_rows = omega arith }
+flux_slot-requires c = omega arith
 
 pub loop-t-preserved : goal.loop-t-preserved
 loop-t-preserved c = (
@@ -24,4 +24,4 @@ loop-t-preserved c = (
 pub returns : goal.returns
 returns c =
     let e : c.loop-t.t ≡ c.args.past = omega arith in
-    c.loop-t.invariant.3 ∙ ap (filled (flux_at c.args.magnitudes.now c.args.slab) c.args.out.now c.args.from) e
+    c.loop-t.invariant.3 ∙ ap (filled (flux_at c.args.m.values.now c.args.m.slab) c.args.out.now c.args.from) e

@@ -8,4 +8,4 @@ use Rattle.flux.proofs.fill_each.Given as goal
 
 abbrev pub invariant-loop-t : goal.invariant-loop-t
 invariant-loop-t l =
-    (l.from ≤ l.t) × (l.t ≤ l.past) × (length l.out ≡ length l.initial.out) × (l.out ≡ filled (flux_at l.magnitudes l.slab) l.initial.out l.from l.t)
+    (l.from ≤ l.t) × (l.t ≤ l.past) × (length l.out ≡ length l.initial.out) × (l.out ≡ filled (flux_at l.m.values.now l.m.slab) l.initial.out l.from l.t)

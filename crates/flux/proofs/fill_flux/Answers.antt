@@ -11,19 +11,19 @@ pub returns-then-past-lt1 : goal.returns-then-past-lt1
 returns-then-past-lt1 c =
     let g = c.args in
     let e : g.past ≡ g.from = omega arith in
-    sym (ap (filled (flux_at g.magnitudes.now g.slab) g.out.now g.from) e ∙ filled_none _ _ _)
+    sym (ap (filled (flux_at g.m.values.now g.m.slab) g.out.now g.from) e ∙ filled_none _ _ _)
 
 pub fill_each-requires : goal.fill_each-requires
 fill_each-requires c =
-    record { magnitudes_len = c.requires.magnitudes_len; magnitudes_value = c.requires.magnitudes_value; from_le_past = (omega arith, omega arith, omega arith) }
+    (omega arith, omega arith, omega arith)
 
 pub fill_four-requires : goal.fill_four-requires
 fill_four-requires c =
-    record { magnitudes_len = c.requires.magnitudes_len; magnitudes_value = c.requires.magnitudes_value; le_from = (omega arith, omega arith, omega arith, omega (arith, c.fill_each.auto.out)) }
+    (omega arith, omega arith, omega arith, omega (arith, c.fill_each.auto.out))
 
 pub returns-then-from-lt1 : goal.returns-then-from-lt1
 returns-then-from-lt1 c =
     let g = c.args in
     c.fill_four.ensures
     ∙ rw c.fill_each.ensures
-    (filled_join (flux_at g.magnitudes.now g.slab) g.out.now g.from 1 g.past (omega arith) (omega arith) nan (omega arith))
+    (filled_join (flux_at g.m.values.now g.m.slab) g.out.now g.from 1 g.past (omega arith) (omega arith) nan (omega arith))

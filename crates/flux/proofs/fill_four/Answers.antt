@@ -15,7 +15,7 @@ loop-k-init c = (omega arith, omega arith, refl, sym (quartered_none _ nan _ _ _
 
 pub flux_four-requires : goal.flux_four-requires
 flux_four-requires c =
-    record { magnitudes_len = c.requires.magnitudes_len; magnitudes_value = c.requires.magnitudes_value; le_t = (omega arith, omega arith) }
+    (omega arith, omega arith)
 
 pub loop-k-preserved : goal.loop-k-preserved
 loop-k-preserved c =
@@ -30,13 +30,13 @@ loop-k-preserved c =
 
 pub fill_each-requires : goal.fill_each-requires
 fill_each-requires c =
-    record { magnitudes_len = c.requires.magnitudes_len; magnitudes_value = c.requires.magnitudes_value; from_le_past = (c.loop-k.invariant.1, omega arith, omega arith) }
+    (c.loop-k.invariant.1, omega arith, omega arith)
 
 pub returns : goal.returns
 returns c =
     let g = c.args in
     let v = c.loop-k.invariant in
-    let f : ℕ → Float = flux_at g.magnitudes.now g.slab in
+    let f : ℕ → Float = flux_at g.m.values.now g.m.slab in
     let out = g.out.now in
     let q = (g.past - g.from) / 4 in
     let e : c.loop-k.k ≡ q = omega arith in

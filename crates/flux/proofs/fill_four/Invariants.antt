@@ -10,4 +10,4 @@ use Rattle.flux.proofs.fill_four.Given as goal
 
 abbrev pub invariant-loop-k : goal.invariant-loop-k
 invariant-loop-k l =
-    (l.k ≤ l.quarter) × (l.from + 4 * l.quarter ≤ l.past) × (length l.out ≡ length l.initial.out) × (l.out ≡ quartered (flux_at l.magnitudes l.slab) nan l.initial.out l.from l.quarter l.k)
+    (l.k ≤ l.quarter) × (l.from + 4 * l.quarter ≤ l.past) × (length l.out ≡ length l.initial.out) × (l.out ≡ quartered (flux_at l.m.values.now l.m.slab) nan l.initial.out l.from l.quarter l.k)

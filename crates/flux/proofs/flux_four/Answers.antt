@@ -20,8 +20,8 @@ part_room-d-requires c = tt
 pub loop-i-init : goal.loop-i-init
 loop-i-init c =
     let g = c.args in
-    let s = g.magnitudes.now in
-    let n = g.slab in
+    let s = g.m.values.now in
+    let n = g.m.slab in
     let t = g.t in
     let p = g.apart in (
       omega arith,
@@ -35,8 +35,8 @@ loop-i-init c =
       rest_all s n (t + 3 * p) (omega arith),
     )
 
-pub overflow_sub-slab : goal.overflow_sub-slab
-overflow_sub-slab c = c.loop-i.invariant.0
+pub overflow_sub-m : goal.overflow_sub-m
+overflow_sub-m c = c.loop-i.invariant.0
 
 pub slice_bounds-rise_part-end : goal.slice_bounds-rise_part-end
 slice_bounds-rise_part-end c = sym c.loop-i.invariant.1
@@ -53,16 +53,16 @@ slice_bounds-rise_part-end-in-loop-i-3 c = sym c.loop-i.invariant.4
 pub rise_part-f-requires : goal.rise_part-f-requires
 rise_part-f-requires c =
     let v = c.loop-i.invariant in
-    record { magnitudes_len = c.requires.magnitudes_len; magnitudes_value = c.requires.magnitudes_value; le_t = (omega arith, omega arith, omega arith); a_len = (v.1, v.2, v.3, v.4) }
+    record { le_t = (omega arith, omega arith, omega arith); a_len = (v.1, v.2, v.3, v.4) }
 
 pub loop-i-preserved : goal.loop-i-preserved
 loop-i-preserved c =
     let g = c.args in
-    let s = g.magnitudes.now in
-    let n = g.slab in
+    let s = g.m.values.now in
+    let n = g.m.slab in
     let t = g.t in
     let p = g.apart in
-    let o = c.requires.magnitudes_len in
+    let o = c.args.m.whole in
     let v = c.loop-i.invariant in
     let z = c.rise_part-f.ensures in
     let i = c.loop-i.i in (
@@ -79,7 +79,7 @@ loop-i-preserved c =
 
 pub rise_rest-requires : goal.rise_rest-requires
 rise_rest-requires c =
-    record { magnitudes_len = c.requires.magnitudes_len; magnitudes_value = c.requires.magnitudes_value; le_t = (omega arith, omega arith, c.loop-i.invariant.0) }
+    (omega arith, omega arith, c.loop-i.invariant.0)
 
 pub returns : goal.returns
 returns c =

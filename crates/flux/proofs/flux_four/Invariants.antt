@@ -10,15 +10,15 @@ use Rattle.flux.proofs.flux_four.Given as goal
 
 abbrev pub invariant-loop-i : goal.invariant-loop-i
 invariant-loop-i l =
-    (l.i ≤ l.slab.bins)
+    (l.i ≤ l.m.slab.bins)
     × (length l.a ≡ part_bins)
     × (length l.b ≡ part_bins)
     × (length l.c ≡ part_bins)
     × (length l.d ≡ part_bins)
-    × (sum_from l.f.a (rise_rest l.magnitudes l.slab l.t l.i) ≡ flux_at l.magnitudes l.slab l.t)
-    × (sum_from l.f.b (rise_rest l.magnitudes l.slab (l.t + l.apart) l.i) ≡ flux_at l.magnitudes l.slab (l.t + l.apart))
-    × (sum_from l.f.c (rise_rest l.magnitudes l.slab (l.t + 2 * l.apart) l.i) ≡ flux_at l.magnitudes l.slab (l.t + 2 * l.apart))
-    × (sum_from l.f.d (rise_rest l.magnitudes l.slab (l.t + 3 * l.apart) l.i) ≡ flux_at l.magnitudes l.slab (l.t + 3 * l.apart))
+    × (sum_from l.f.a (rise_rest l.m.values.now l.m.slab l.t l.i) ≡ flux_at l.m.values.now l.m.slab l.t)
+    × (sum_from l.f.b (rise_rest l.m.values.now l.m.slab (l.t + l.apart) l.i) ≡ flux_at l.m.values.now l.m.slab (l.t + l.apart))
+    × (sum_from l.f.c (rise_rest l.m.values.now l.m.slab (l.t + 2 * l.apart) l.i) ≡ flux_at l.m.values.now l.m.slab (l.t + 2 * l.apart))
+    × (sum_from l.f.d (rise_rest l.m.values.now l.m.slab (l.t + 3 * l.apart) l.i) ≡ flux_at l.m.values.now l.m.slab (l.t + 3 * l.apart))
 
 abbrev pub decreases-loop-i : goal.decreases-loop-i
-decreases-loop-i l = l.slab.bins - l.i
+decreases-loop-i l = l.m.slab.bins - l.i

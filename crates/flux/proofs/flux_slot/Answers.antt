@@ -11,7 +11,7 @@ returns-then-t-eq0 c = rw c.if-t-eq0.true
 
 pub rise_at-requires : goal.rise_at-requires
 rise_at-requires c =
-    record { magnitudes_len = c.requires.magnitudes_len; magnitudes_value = c.requires.magnitudes_value; le_t = (omega arith, omega arith, omega arith) }
+    (omega arith, omega arith, omega arith)
 
 pub returns : goal.returns
 returns c = c.rise_at.ensures ∙ sym (flux-from _ _ _ _ (omega arith))

@@ -1,4 +1,4 @@
--- `flux::spectral_flux` meets its contract: a refusal returns at once, and without one all holds that the inner call asks (`flux-told`).
+-- `flux::spectral_flux` meets its contract: a refusal returns at once, and without one the magnitudes are whole and fine, and there is room (`flux-told`).
 -- Assumes nothing.
 use mathlib.Core.Path.{sym}
 use native.Mathlib.Omega.{arith}
@@ -9,10 +9,13 @@ use Rattle.flux.proofs.spectral_flux.Goals as goal
 pub returns-in_err-refusal : goal.returns-in_err-refusal
 returns-in_err-refusal c = written_on _ _ _ _ _ c.from_residual.ensures.1 c.in_err-refusal.ensures
 
-pub fill_flux-requires : goal.fill_flux-requires
-fill_flux-requires c =
+pub invariant_of-m : goal.invariant_of-m
+invariant_of-m c =
     let told = flux-told _ _ _ (sym c.in_ok-refusal.ensures) in
-    record { magnitudes_len = told.whole; magnitudes_value = told.fine; from_le_past = (omega arith, omega arith, told.has_room) }
+    record { whole = told.whole; fine = told.fine }
+
+pub fill_flux-requires : goal.fill_flux-requires
+fill_flux-requires c = (omega arith, omega arith, (flux-told _ _ _ (sym c.in_ok-refusal.ensures)).has_room)
 
 pub returns : goal.returns
 returns c = written-done _ _ _ _ (sym c.in_ok-refusal.ensures) c.fill_flux.ensures

@@ -8,12 +8,12 @@ use Rattle.flux_rows.proofs.lift_at.Goals as goal
 
 pub lift-requires : goal.lift-requires
 lift-requires c =
-    let s = c.args.magnitudes.now in
-    let n = c.args.slab.rows in
-    let b = c.args.slab.bins in
+    let s = c.args.m.values.now in
+    let n = c.args.m.slab.rows in
+    let b = c.args.m.slab.bins in
     let t = c.args.t in
-    let long = length-row s n b (t - 1) c.requires.magnitudes_len (omega arith) in
-    rw (c.row_at-prev.ensures, c.row_at-cur.ensures) record { cur_len = length-row s n b t c.requires.magnitudes_len (omega arith) ∙ sym long; prev_value = (every-row magnitude_fine s b (t - 1) c.requires.magnitudes_value, every-row magnitude_fine s b t c.requires.magnitudes_value); part_in_bounds = omega (arith, long, c.requires.le_t.2) }
+    let long = length-row s n b (t - 1) c.args.m.whole (omega arith) in
+    rw (c.row_at-prev.ensures, c.row_at-cur.ensures) record { cur_len = length-row s n b t c.args.m.whole (omega arith) ∙ sym long; prev_value = (every-row magnitude_fine s b (t - 1) c.args.m.fine, every-row magnitude_fine s b t c.args.m.fine); part_in_bounds = omega (arith, long, c.requires.2) }
 
 pub returns : goal.returns
 returns c = c.lift.ensures ∙ rw (

@@ -22,19 +22,19 @@ over-part f acc next i n e k h = e ∙ ap (sum_from acc) (k ∙ ap (tab f i) h)
 
 pub lift_at-requires : goal.lift_at-requires
 lift_at-requires c =
-    record { magnitudes_len = c.requires.magnitudes_len; magnitudes_value = c.requires.magnitudes_value; le_t = (omega arith, omega arith, omega (arith, c.requires.a_len.0)) }
+    (omega arith, omega arith, omega (arith, c.requires.a_len.0))
 
 pub lift_at-requires-2 : goal.lift_at-requires-2
 lift_at-requires-2 c =
-    record { magnitudes_len = c.requires.magnitudes_len; magnitudes_value = c.requires.magnitudes_value; le_t = (omega arith, omega arith, omega (arith, c.requires.a_len.1)) }
+    (omega arith, omega arith, omega (arith, c.requires.a_len.1))
 
 pub lift_at-requires-3 : goal.lift_at-requires-3
 lift_at-requires-3 c =
-    record { magnitudes_len = c.requires.magnitudes_len; magnitudes_value = c.requires.magnitudes_value; le_t = (omega arith, omega arith, omega (arith, c.requires.a_len.2)) }
+    (omega arith, omega arith, omega (arith, c.requires.a_len.2))
 
 pub lift_at-requires-4 : goal.lift_at-requires-4
 lift_at-requires-4 c =
-    record { magnitudes_len = c.requires.magnitudes_len; magnitudes_value = c.requires.magnitudes_value; le_t = (omega arith, omega arith, omega (arith, c.requires.a_len.3)) }
+    (omega arith, omega arith, omega (arith, c.requires.a_len.3))
 
 pub add_parts-requires : goal.add_parts-requires
 add_parts-requires c =

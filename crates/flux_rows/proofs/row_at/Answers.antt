@@ -4,4 +4,4 @@ use Rattle.frames.proofs.Laws.{row_of_rows}
 use Rattle.flux_rows.proofs.row_at.Goals as goal
 
 pub returns : goal.returns
-returns c = c.row_of.ensures.holds ∙ row_of_rows _ _ _ _ c.requires.magnitudes_len c.requires.t_lt_rows
+returns c = c.row_of.ensures.holds ∙ row_of_rows _ _ _ _ c.args.m.whole c.requires

@@ -5,6 +5,7 @@ use mathlib.Core.Bool.{true}
 use mathlib.Core.Path.{◌≡◌}
 use Prim.Native.Nat.{◌+◌, ◌≤◌, ◌<◌}
 use lib.ListN.{length, drop}
+use Rattle.std.specs.Prelude.{is_some, unwrap_or}
 use Rattle.numbers.specs.Lists.{one_if, ascending}
 use Rattle.onsets.specs.Peaks.{suppressed}
 use Rattle.onsets.specs.Steps.{Going}
@@ -12,6 +13,6 @@ use Rattle.onsets.proofs.peaks.suppress.Given as goal
 
 abbrev pub invariant-loop-i : goal.invariant-loop-i
 invariant-loop-i l =
-    (l.i ≤ length l.peaks) × (length l.frames ≡ length l.initial.frames) × (l.group.count + one_if l.group.opened ≤ l.i) × (l.group.best < 4294967296)
-    × (ascending l.group.best (drop l.i l.peaks) ≡ true)
+    (l.i ≤ length l.peaks) × (length l.frames ≡ length l.initial.frames) × (l.group.count + one_if (is_some l.group.best) ≤ l.i)
+    × (unwrap_or l.group.best 0 < 4294967296) × (ascending (unwrap_or l.group.best 0) (drop l.i l.peaks) ≡ true)
     × Going l.curve l.gap (suppressed l.curve l.gap l.peaks) (drop l.i l.peaks) l.initial.frames l.group l.frames

@@ -21,14 +21,16 @@ overflow_mul-start c = omega (arith, fits (goal.at.overflow_mul-start c).Start)
 pub put_over-requires : goal.put_over-requires
 put_over-requires c = fits (goal.at.put_over-requires c).Start
 
-pub fill_flux-requires : goal.fill_flux-requires
-fill_flux-requires c =
+pub invariant_of-mended : goal.invariant_of-mended
+invariant_of-mended c =
     rw c.put_over.ensures
     record {
-      magnitudes_len = length_over _ _ _ (fits (goal.at.fill_flux-requires c).Start) ∙ c.requires.magnitudes_len.0;
-      magnitudes_value = every-over _ _ _ _ c.requires.magnitudes_value.0 c.requires.magnitudes_value.1;
-      from_le_past = (omega arith, omega arith, omega arith);
+      whole = length_over _ _ _ (fits (goal.at.invariant_of-mended c).Start) ∙ c.requires.magnitudes_len.0;
+      fine = every-over _ _ _ _ c.requires.magnitudes_value.0 c.requires.magnitudes_value.1;
     }
+
+pub fill_flux-requires : goal.fill_flux-requires
+fill_flux-requires c = (omega arith, omega arith, omega arith)
 
 pub returns : goal.returns
 unfolding edited

@@ -46,8 +46,8 @@ returns-then-not-magnitudes_fine c =
     c.keep_row.ensures c.magnitudes_fine.ensures in
     record { fine_is = sym off ∙ told ∙ and-held c.args.fine _ on; kept_is = c.keep_row.ensures; flux_is = refl }
 
-pub flux_slot-requires : goal.flux_slot-requires
-flux_slot-requires c =
+pub invariant_of-pair : goal.invariant_of-pair
+invariant_of-pair c =
     let kept = c.args.kept.now in
     let bytes = c.args.bytes.now in
     let bins = c.args.bins in
@@ -56,11 +56,13 @@ flux_slot-requires c =
     let told = part_fine kept _ bytes bins _ c.requires.bytes_len.1 c.requires.bytes_len.0 c.keep_row.ensures c.magnitudes_fine.ensures in
     let d = before-length kept bins c.requires.bytes_len.1 in
     let v = row-length bytes bins c.requires.bytes_len.0 in record {
-      magnitudes_len = ap length c.keep_row.ensures ∙ length-append (drop bins kept) (values_of bytes) ∙ omega arith;
-      magnitudes_value = ap (every magnitude_fine) c.keep_row.ensures
+      whole = ap length c.keep_row.ensures ∙ length-append (drop bins kept) (values_of bytes) ∙ omega arith;
+      fine = ap (every magnitude_fine) c.keep_row.ensures
           ∙ every_append magnitude_fine (drop bins kept) (values_of bytes) (every_drop magnitude_fine kept bins (c.requires.kept_value on)) (sym told ∙ passed);
-      t_lt_rows = omega (arith, c.min.ensures);
     }
+
+pub flux_slot-requires : goal.flux_slot-requires
+flux_slot-requires c = omega (arith, c.min.ensures)
 
 pub returns : goal.returns
 returns c =
