@@ -118,12 +118,15 @@ pub fn offset_fine(offset: u32) -> bool
     512 <= offset && offset % 256 == 0 && offset <= numbers::MOST_FRAME * 256 + 512
 }
 
-// Inner: the frame of point i.
+// Inner: the frame of point i. A match, and not `saturating_sub(512) / 256`: with that `read_cues` took a third longer (docs/LOOK-BACK.md).
 pub fn frame_at(chunk: &[u8], i: u32) -> u32
     requires { 36 + i * 24 ≤ length chunk.now }
     ensures { (result ≡ point_frame chunk.now i) × (result ≤ 16777213) }
 {
-    offset_at(chunk, i).saturating_sub(512) / 256
+    match offset_at(chunk, i).checked_sub(512) {
+        Some(past) => past / 256,
+        None => 0,
+    }
 }
 
 // Inner: one offset more that is read.

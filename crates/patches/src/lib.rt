@@ -29,10 +29,13 @@ pub fn whole_rows(slots: usize, rows: usize, width: usize, start: usize, added: 
     new_rows(rows, width, start, added)
 }
 
-// Inner: writes new values over the old ones from slot `at` on.
+// Inner: writes new values over the old ones from slot `at` on. Value by value: std's `copy_from_slice` has the archive for C ask for `memmove`, which a
+// program without a C library would have to bring.
 pub fn put_over<T: Copy>(old: &mut [T], at: usize, new: &[T])
     requires { at + length new.now ≤ length old.old }
     ensures { old.new ≡ over old.old at new.now }
 {
-    old[at..at + new.len()].copy_from_slice(new);
+    for j in 0..new.len() {
+        old[at + j] = new[j];
+    }
 }

@@ -5,9 +5,8 @@
 
 ghost use Rattle.std.specs.Prelude.{◌≤◌, length};
 
-use numbers::Refusal;
 use options::TempoOpts;
-use tempo::{Candidate, Tempo, TempoEstimate};
+use tempo::{Candidate, Refusal, Tempo, TempoEstimate};
 
 fn tempo_of(rt: &impl Print, t: Tempo) {
     match t {

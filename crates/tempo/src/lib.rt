@@ -23,7 +23,9 @@ ghost use Rattle.tempo.specs.Inner.{TempoIn};
 use lag_candidates::first_apart;
 use lag_search::winning_lag;
 use lags::{bounds_fine, bpm_at, lag_slots, lags_in};
-use numbers::{MOST_ROWS, Refusal, values_fine};
+// why `estimate` refuses: handed on, so that a caller can name it who lists no more crates than the calls'
+pub use numbers::Refusal;
+use numbers::{MOST_ROWS, values_fine};
 use options::TempoOpts;
 
 // A tempo that the envelope may be heard at: its lag in frames, and its clarity, 0 to 1.

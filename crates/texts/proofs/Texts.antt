@@ -11,7 +11,7 @@ use lib.Dec.{eqb}
 use lib.ListN.{length, get_or, take, drop, drop_of_length-le}
 use lib.Pointwise.{pointwise}
 use lib.Seq.{drop-cons, drop-length}
-use borrow.Author.Tests.{not-true, not-false, le-leb, eqb-true, eq-eqb}
+use borrow.Author.Tests.{not-true, not-false, lt-leb, le-leb, eqb-true, eq-eqb}
 use Rattle.std.specs.List.{prefix_len}
 use Rattle.std.proofs.lemmas.List.Sums.{take_while-cons}
 use Rattle.std.proofs.lemmas.Bool.Decides.{nat_tests}
@@ -77,6 +77,12 @@ exactly_own bytes =
     (ap (starts bytes) (sym (append-nil bytes)) ∙ starts_own bytes [])
 
 -- ---- digits
+
+pub digit_low : (x : ℕ) → x < 48 → is_digit x ≡ false
+digit_low x h = rw (lt-leb 48 x h)
+
+pub digit_high : (x : ℕ) → 57 < x → is_digit x ≡ false
+digit_high x h = rw (le-leb 48 x (omega arith), lt-leb x 57 h)
 
 pub digit_in : (x : ℕ) → 48 ≤ x → x ≤ 57 → is_digit x ≡ true
 digit_in x h k = rw (le-leb 48 x h, le-leb x 57 k)
